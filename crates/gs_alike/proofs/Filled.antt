@@ -1,11 +1,11 @@
 -- Hands that are written one after another.
 use Rattle.std.proofs.Common.{◌≡◌, ◌+◌, ◌*◌, ◌<◌, ◌∙◌, ℕ, List, get_or, length, set, below_more, arith, length-set}
 use Rattle.std.proofs.lemmas.List.{get_or-set_other, get_or-set_same}
-use Rattle.gs_alike.specs.{Boards.{levels_in, signals_in}, declared.board.Board.{Board}, declared.board.Seat.{Seat}}
+use Rattle.gs_alike.specs.{Boards.{levels_in, seat_signals}, declared.board.Board.{Board}, declared.board.Seat.{Seat}}
 
 -- the hand of the signal at a place of a board
 abbrev pub hand_of : Board → List ℕ → ℕ → ℕ
-hand_of board keys i = get_or (levels_in board.seats.items) i 0 * 4294967296 + get_or keys (get_or (signals_in board.seats.items) i 0) 0
+hand_of board keys i = get_or (levels_in board.seats.items) i 0 * 4294967296 + get_or keys (get_or (seat_signals board.seats.items) i 0) 0
 
 -- a number for each of some seats, and the first numbers are those of their places
 pub record AreFilled (f : ℕ → ℕ) (xs : List ℕ) (seats : List Seat) (n : ℕ) : Type 0 where

@@ -4,7 +4,7 @@ use Rattle.std.proofs.{lemmas.Bool.{cases_eq, cases_lt}, lemmas.List.{get_or-rep
 use Rattle.std.proofs.lemmas.List.Sorted.{IsPermutation-refl, IsPermutation-sym, IsPermutation-trans}
 use Rattle.gs_model.specs.Game.{Game}
 use Rattle.gs_tree.specs.Walk.{last_count}
-use Rattle.gs_alike.specs.{Alike.{AreAlike, AreStandIns, seen}, Firsts.{AreFirsts, AreMarks}}
+use Rattle.gs_alike.specs.{Alike.{AreAlike, AreStandIns, seen}, Firsts.{AreFirsts, AreAlikeMarks}}
 
 -- what stands at a place, whatever stands past the end
 pub get_or-in : (xs : List ℕ) (i x : ℕ) → x ≡ get_or xs i x → i < length xs → get_or xs i 0 ≡ x
@@ -115,7 +115,7 @@ alike_both g keys i k m a b = record {
 }
 
 -- the first signals with their marks stand for all
-pub firsts_stand : (g : Game) (keys marks firsts : List ℕ) → AreMarks g keys marks → AreFirsts marks firsts → AreStandIns g keys firsts
+pub firsts_stand : (g : Game) (keys marks firsts : List ℕ) → AreAlikeMarks g keys marks → AreFirsts marks firsts → AreStandIns g keys firsts
 firsts_stand g keys marks firsts m f =
     let in' = λ (i : ℕ) (l : i < last_count g). (let e : i < length marks = omega (arith, l, m.long) in e) in
     record {

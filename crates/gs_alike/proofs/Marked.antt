@@ -7,7 +7,7 @@ use Rattle.std.specs.{Global.{Vec}, HashMap.{HashMap}, List.{All}, List.Sorted.{
 use Rattle.std.specs.declared.hash.FoldHasher.{FoldHasher}
 use Rattle.gs_model.specs.Game.{Game}
 use Rattle.gs_tree.specs.Walk.{last_count}
-use Rattle.gs_alike.specs.{Alike.{AreAlike}, Boards.{IsBoard, signals_in}, Firsts.{AreMarks}, Hands.{AreHands, HasMore, IsKindOf, IsMark, KeepsKinds}}
+use Rattle.gs_alike.specs.{Alike.{AreAlike}, Boards.{IsBoard, seat_signals}, Firsts.{AreAlikeMarks}, Hands.{AreHands, HasMore, IsKindOf, IsMark, KeepsKinds}}
 use Rattle.gs_alike.specs.{declared.board.Board.{Board}, declared.board.Seat.{Seat}, declared.kinds.Kind.{Kind}}
 use Rattle.gs_alike.proofs.{Places.{mark_alike}, Seats.{none}}
 
@@ -40,18 +40,18 @@ may_more signals hands others other_hands old marks one two h l m same in' =
 
 -- one more, of seats
 pub may_seat : (seats others : List Seat) (hands other_hands old marks : List ℕ) (one two : ℕ)
-    → MayMark (signals_in seats) hands (signals_in others) other_hands old marks → one < length seats → two < length others
+    → MayMark (seat_signals seats) hands (seat_signals others) other_hands old marks → one < length seats → two < length others
     → get_or hands one 0 ≡ get_or other_hands two 0 → (get_or seats one none).signal < length marks
-    → MayMark (signals_in seats) hands (signals_in others) other_hands old (set marks (get_or seats one none).signal (get_or others two none).signal)
+    → MayMark (seat_signals seats) hands (seat_signals others) other_hands old (set marks (get_or seats one none).signal (get_or others two none).signal)
 may_seat seats others hands other_hands old marks one two h l m same in' =
     let f : Seat → ℕ = λ s. s.signal in
-    let mine : get_or (signals_in seats) one 0 ≡ (get_or seats one none).signal = get_or-map f seats one none 0 l in
-    let theirs : get_or (signals_in others) two 0 ≡ (get_or others two none).signal = get_or-map f others two none 0 m in
-    let one_in : one < length (signals_in seats) = omega (arith, l, length-map seats f) in
-    let two_in : two < length (signals_in others) = omega (arith, m, length-map others f) in
-    let more = may_more (signals_in seats) hands (signals_in others) other_hands old marks one two h one_in two_in same (omega (arith, mine, in')) in
-    subst (λ (k : ℕ). MayMark (signals_in seats) hands (signals_in others) other_hands old (set marks k (get_or others two none).signal)) mine
-    (subst (λ (k : ℕ). MayMark (signals_in seats) hands (signals_in others) other_hands old (set marks (get_or (signals_in seats) one 0) k)) theirs more)
+    let mine : get_or (seat_signals seats) one 0 ≡ (get_or seats one none).signal = get_or-map f seats one none 0 l in
+    let theirs : get_or (seat_signals others) two 0 ≡ (get_or others two none).signal = get_or-map f others two none 0 m in
+    let one_in : one < length (seat_signals seats) = omega (arith, l, length-map seats f) in
+    let two_in : two < length (seat_signals others) = omega (arith, m, length-map others f) in
+    let more = may_more (seat_signals seats) hands (seat_signals others) other_hands old marks one two h one_in two_in same (omega (arith, mine, in')) in
+    subst (λ (k : ℕ). MayMark (seat_signals seats) hands (seat_signals others) other_hands old (set marks k (get_or others two none).signal)) mine
+    (subst (λ (k : ℕ). MayMark (seat_signals seats) hands (seat_signals others) other_hands old (set marks (get_or (seat_signals seats) one 0) k)) theirs more)
 
 -- the place that a board's hands are kept for, among the boards
 pub record IsKnown (boards : List Board) (keys : List ℕ) (kind : Kind) : Type 0 where
@@ -61,11 +61,11 @@ pub record IsKnown (boards : List Board) (keys : List ℕ) (kind : Kind) : Type 
 -- marks so far: each signal is marked by one that is like it, and the kinds are those of boards
 pub record AreMarked (g : Game) (boards : List Board) (keys marks : List ℕ) (kinds : List Kind)
     (seen : HashMap (Vec ℕ) ℕ (BuildHasherDefault FoldHasher)) : Type 0 where
-  pub marks_are : AreMarks g keys marks
+  pub marks_are : AreAlikeMarks g keys marks
   pub kept : KeepsKinds kinds seen
   pub known : All (IsKnown boards keys) kinds
 
-pub unmarked : (g : Game) (keys marks : List ℕ) (none : ℕ) → marks ≡ replicate (last_count g) none → last_count g ≤ none → AreMarks g keys marks
+pub unmarked : (g : Game) (keys marks : List ℕ) (none : ℕ) → marks ≡ replicate (last_count g) none → last_count g ≤ none → AreAlikeMarks g keys marks
 unmarked g keys marks none e big = record {
   long = ap (λ (k : List ℕ). length k) e ∙ length-replicate (last_count g) none;
   alike = λ i l small. absurd (
@@ -110,7 +110,7 @@ pub marks_after : (g : Game) (by_rank : Bool) (boards : List Board) (keys : List
     → All (IsBoard g by_rank) boards → (place kind : ℕ) (board other : Board) (like : Kind) (kinds : List Kind)
     → (hands marks new : List ℕ) → place < length boards → board ≡ get_or boards place board → AreHands board keys hands → All (IsKnown boards keys) kinds
     → IsKindOf kinds kind hands → like ≡ get_or kinds kind like → other ≡ get_or boards like.board other
-    → AreMarks g keys marks → MayMark (signals_in board.seats.items) hands (signals_in other.seats.items) like.hands.items marks new → AreMarks g keys new
+    → AreAlikeMarks g keys marks → MayMark (seat_signals board.seats.items) hands (seat_signals other.seats.items) like.hands.items marks new → AreAlikeMarks g keys new
 marks_after g by_rank boards keys few each place kind board other like kinds hands marks new l is h known of like_is other_is m may =
     let b : IsBoard g by_rank board = subst (IsBoard g by_rank) (sym is) (each place board l) in
     let k : IsKnown boards keys like = like_known boards keys hands kinds kind like known of like_is in
@@ -127,11 +127,11 @@ marks_after g by_rank boards keys few each place kind board other like kinds han
 
 -- lists that are read through references
 pub may_read : (s o seats others : List Seat) (h k m hands other_hands old marks : List ℕ) → s ≡ seats → h ≡ hands → o ≡ others → k ≡ other_hands → m ≡ old
-    → MayMark (signals_in s) h (signals_in o) k m marks
-    → MayMark (signals_in seats) hands (signals_in others) other_hands old marks
+    → MayMark (seat_signals s) h (seat_signals o) k m marks
+    → MayMark (seat_signals seats) hands (seat_signals others) other_hands old marks
 may_read s o seats others h k m hands other_hands old marks a b d e f may =
-    subst (λ (x : List ℕ). MayMark (signals_in seats) hands (signals_in others) other_hands x marks) f
-    (subst (λ (x : List ℕ). MayMark (signals_in seats) hands (signals_in others) x m marks) e
-    (subst (λ (x : List Seat). MayMark (signals_in seats) hands (signals_in x) k m marks) d
-    (subst (λ (x : List ℕ). MayMark (signals_in seats) x (signals_in o) k m marks) b
-    (subst (λ (x : List Seat). MayMark (signals_in x) h (signals_in o) k m marks) a may))))
+    subst (λ (x : List ℕ). MayMark (seat_signals seats) hands (seat_signals others) other_hands x marks) f
+    (subst (λ (x : List ℕ). MayMark (seat_signals seats) hands (seat_signals others) x m marks) e
+    (subst (λ (x : List Seat). MayMark (seat_signals seats) hands (seat_signals x) k m marks) d
+    (subst (λ (x : List ℕ). MayMark (seat_signals seats) x (seat_signals o) k m marks) b
+    (subst (λ (x : List Seat). MayMark (seat_signals x) h (seat_signals o) k m marks) a may))))

@@ -7,7 +7,7 @@ use Rattle.gs_model.specs.{Deals.{Deal}, Game.{Game, round_count}, Outcome.{outc
 use Rattle.gs_model.proofs.Multisets.{permuted_from_times, times, times-cons}
 use Rattle.gs_tree.specs.{Walk.{deal_at, last_count, shows_same}, Plain.{IsPlain}}
 use Rattle.gs_tree.proofs.{Pairs.{row_deals}, Same.{public_self}, Weighed.{path_is, weight_is}}
-use Rattle.gs_alike.specs.{Alike.{AreAlike, seen, seen_by}, Boards.{IsBoard, level_of, levels_in, signals_in, signals_on}, Hands.{AreHands, IsMark}}
+use Rattle.gs_alike.specs.{Alike.{AreAlike, seen, seen_by}, Boards.{IsBoard, level_of, levels_in, seat_signals, signals_on}, Hands.{AreHands, IsMark}}
 use Rattle.gs_alike.specs.{declared.board.Board.{Board}, declared.board.Seat.{Seat}}
 use Rattle.gs_alike.proofs.{Ranks.{TellOutcomes, tell}, Seats.{none}, Taken.{but, taken_out}}
 
@@ -113,9 +113,9 @@ module _ (g : Game) (keys : List ℕ) (few : (i : ℕ) → i < last_count g → 
 
 -- the hands of a board's signals
 hands_are : (g : Game) (by_rank : Bool) (keys : List ℕ) (board : Board) (hands : List ℕ) → IsBoard g by_rank board → AreHands board keys hands
-    → hands ≡ map (hand_in keys (level_of g by_rank)) (signals_in board.seats.items)
+    → hands ≡ map (hand_in keys (level_of g by_rank)) (seat_signals board.seats.items)
 hands_are g by_rank keys board hands b h =
-    let sigs : List ℕ = signals_in board.seats.items in
+    let sigs : List ℕ = seat_signals board.seats.items in
     let f : ℕ → ℕ = hand_in keys (level_of g by_rank) in
     let long : length sigs ≡ length board.seats.items = length-map board.seats.items (λ (s : Seat). s.signal) in
     ext_get_or 0 hands (map f sigs) (h.long ∙ sym long ∙ sym (length-map sigs f)) (λ i l.
@@ -126,11 +126,11 @@ hands_are g by_rank keys board hands b h =
 
 -- the hands on the board of one of its signals
 hands_there : (g : Game) (by_rank : Bool) (keys : List ℕ) (board : Board) (hands : List ℕ) (one i : ℕ) → IsBoard g by_rank board → AreHands board keys hands
-    → one < length (signals_in board.seats.items) → get_or (signals_in board.seats.items) one 0 ≡ i
+    → one < length (seat_signals board.seats.items) → get_or (seat_signals board.seats.items) one 0 ≡ i
     → IsPermutation (map (hand_in keys (level_of g by_rank)) (signals_on g i)) hands × (i < last_count g)
     × (get_or hands one 0 ≡ hand_in keys (level_of g by_rank) i)
 hands_there g by_rank keys board hands one i b h l is =
-    let sigs : List ℕ = signals_in board.seats.items in
+    let sigs : List ℕ = seat_signals board.seats.items in
     let f : ℕ → ℕ = hand_in keys (level_of g by_rank) in
     let m : one < length board.seats.items = omega (arith, l, length-map board.seats.items (λ (s : Seat). s.signal)) in
     let e : hands ≡ map f sigs = hands_are g by_rank keys board hands b h in
@@ -145,7 +145,7 @@ hands_there g by_rank keys board hands one i b h l is =
 pub mark_alike : (g : Game) (by_rank : Bool) (keys : List ℕ) → ((i : ℕ) → i < last_count g → get_or keys i 0 < 4294967296)
     → (board other : Board) (hands other_hands : List ℕ)
     → IsBoard g by_rank board → IsBoard g by_rank other → AreHands board keys hands → AreHands other keys other_hands → IsPermutation other_hands hands
-    → (i mark : ℕ) → IsMark (signals_in board.seats.items) hands (signals_in other.seats.items) other_hands i mark → AreAlike g keys i mark
+    → (i mark : ℕ) → IsMark (seat_signals board.seats.items) hands (seat_signals other.seats.items) other_hands i mark → AreAlike g keys i mark
 mark_alike g by_rank keys few board other hands other_hands b o h k moved i mark m =
     let f : ℕ → ℕ = hand_in keys (level_of g by_rank) in
     let mine = hands_there g by_rank keys board hands m.one i b h m.one_in m.signal_is in

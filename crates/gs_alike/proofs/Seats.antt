@@ -9,7 +9,7 @@ use Rattle.gs_model.specs.{Game.{Game, round_count}, Signals.{signal_at}}
 use Rattle.gs_model.proofs.Multisets.{times}
 use Rattle.gs_tree.specs.{Plain.{IsPlain}, Walk.{last_count, shows_same}}
 use Rattle.gs_tree.proofs.Same.{public_alike, public_self}
-use Rattle.gs_alike.specs.Boards.{HaveSame, IsBoard, PaysOnce, level_of, levels_in, ranked, ranked_in, seat_of, signals_in, signals_on, smaller, strengths_of}
+use Rattle.gs_alike.specs.Boards.{HaveSame, IsBoard, PaysOnce, level_of, levels_in, ranked, ranked_in, seat_of, seat_signals, signals_on, smaller, strengths_of}
 use Rattle.gs_alike.specs.{declared.board.Board.{Board}, declared.board.Seat.{Seat}}
 
 tests_alike : (p q : ℕ → Bool) → ((k : ℕ) → p k ≡ q k) → (xs : List ℕ) → filter p xs ≡ filter q xs
@@ -32,7 +32,7 @@ abbrev pub none : Seat
 none = record { level = 0; signal = 0 }
 
 -- ranks leave the signals
-signals_kept : (by_rank : Bool) (seats : List Seat) → signals_in (cond by_rank (ranked seats) seats) ≡ signals_in seats
+signals_kept : (by_rank : Bool) (seats : List Seat) → seat_signals (cond by_rank (ranked seats) seats) ≡ seat_signals seats
 signals_kept true seats = map-map (λ (s : Seat). s.signal) (ranked_in seats) seats
 signals_kept false seats = refl
 
@@ -43,7 +43,7 @@ levels_ranked true seats = map-map (λ (s : Seat). s.level) (ranked_in seats) se
 levels_ranked false seats = refl
 
 -- what holds of the signals holds of the seats
-pub seats_within : (P : ℕ → Type 0) (seats : List Seat) → All P (signals_in seats) → All (λ (s : Seat). P s.signal) seats
+pub seats_within : (P : ℕ → Type 0) (seats : List Seat) → All P (seat_signals seats) → All (λ (s : Seat). P s.signal) seats
 seats_within P seats all i d l =
     subst P (get_or-map (λ (s : Seat). s.signal) seats i d 0 l) (all i 0 (omega (arith, l, length-map seats (λ (s : Seat). s.signal))))
 
@@ -65,7 +65,7 @@ module _ (g : Game) where
       let p : ℕ → Bool = shows_same g i in
       omega (arith, length-filter p r, count_by-le-length p r, length-range_with_len 0 (last_count g))
 
-  strengths_are : (seats : List Seat) → All (λ s. s ≡ seat_of g s.signal) seats → levels_in seats ≡ map (slice_index (strengths_of g)) (signals_in seats)
+  strengths_are : (seats : List Seat) → All (λ s. s ≡ seat_of g s.signal) seats → levels_in seats ≡ map (slice_index (strengths_of g)) (seat_signals seats)
   strengths_are [] h = refl
   strengths_are (s ∷ seats) h =
       let P : Seat → Type 0 = λ s. s ≡ seat_of g s.signal in
@@ -79,7 +79,7 @@ module _ (g : Game) where
 
   module _ (first : ℕ) (seats : List Seat) (moved : IsPermutation (map (seat_of g) (signals_on g first)) seats) where
     abbrev sigs : List ℕ
-    sigs = signals_in seats
+    sigs = seat_signals seats
 
     abbrev zs : List ℕ
     zs = levels_in seats
@@ -125,11 +125,11 @@ module _ (g : Game) where
     pub board_is : (by_rank : Bool) (board : Board) → IsPlain g → (by_rank ≡ true → PaysOnce g) → board.seats.items ≡ cond by_rank (ranked seats) seats
         → IsBoard g by_rank board
     board_is by_rank board plain once is =
-        let signals : signals_in board.seats.items ≡ sigs = ap signals_in is ∙ signals_kept by_rank seats in
+        let signals : seat_signals board.seats.items ≡ sigs = ap seat_signals is ∙ signals_kept by_rank seats in
         let levels : levels_in board.seats.items ≡ cond by_rank (map (λ a. smaller a zs) zs) zs = ap levels_in is ∙ levels_ranked by_rank seats in
-        let long : length board.seats.items ≡ length (signals_in board.seats.items) = sym (length-map board.seats.items (λ (s : Seat). s.signal)) in
-        let all : (i : ℕ) → i < length (signals_in board.seats.items) → HaveSame (signals_on g (slice_index (signals_in board.seats.items) i))
-        (signals_in board.seats.items) =
+        let long : length board.seats.items ≡ length (seat_signals board.seats.items) = sym (length-map board.seats.items (λ (s : Seat). s.signal)) in
+        let all : (i : ℕ) → i < length (seat_signals board.seats.items) → HaveSame (signals_on g (slice_index (seat_signals board.seats.items) i))
+        (seat_signals board.seats.items) =
         subst (λ l. (i : ℕ) → i < length l → HaveSame (signals_on g (slice_index l i)) l) (sym signals) board_whole in
         record {
           plain = plain;

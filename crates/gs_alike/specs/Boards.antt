@@ -21,8 +21,8 @@ abbrev pub smaller : ℕ → List ℕ → ℕ
 smaller a xs = count_by (λ x. nat_lt x a) xs
 
 -- the signals of some seats
-abbrev pub signals_in : List Seat → List ℕ
-signals_in seats = map (λ (s : Seat). s.signal) seats
+abbrev pub seat_signals : List Seat → List ℕ
+seat_signals seats = map (λ (s : Seat). s.signal) seats
 
 -- the levels of some seats
 abbrev pub levels_in : List Seat → List ℕ
@@ -58,5 +58,6 @@ pub record IsBoard (g : Game) (by_rank : Bool) (board : Board) : Type 0 where
   pub plain : IsPlain g
   pub once : by_rank ≡ true → PaysOnce g
   pub within : All (λ seat. seat.signal < last_count g) board.seats.items
-  pub signals : (i : ℕ) → i < length board.seats.items → HaveSame (signals_on g (slice_index (signals_in board.seats.items) i)) (signals_in board.seats.items)
-  pub levels : levels_in board.seats.items ≡ map (level_of g by_rank) (signals_in board.seats.items)
+  pub signals : (i : ℕ) → i < length board.seats.items
+      → HaveSame (signals_on g (slice_index (seat_signals board.seats.items) i)) (seat_signals board.seats.items)
+  pub levels : levels_in board.seats.items ≡ map (level_of g by_rank) (seat_signals board.seats.items)

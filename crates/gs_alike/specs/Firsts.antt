@@ -12,6 +12,6 @@ pub record AreFirsts (marks firsts : List ℕ) : Type 0 where
   pub itself : (i : ℕ) → i < length marks → length marks ≤ slice_index marks i → slice_index firsts i ≡ i
 
 -- if the mark of a last-round signal is the place of a last-round signal, the two signals are alike
-pub record AreMarks (g : Game) (keys marks : List ℕ) : Type 0 where
+pub record AreAlikeMarks (g : Game) (keys marks : List ℕ) : Type 0 where
   pub long : length marks ≡ last_count g
   pub alike : (i : ℕ) → i < last_count g → slice_index marks i < last_count g → AreAlike g keys i (slice_index marks i)

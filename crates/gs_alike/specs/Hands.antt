@@ -3,13 +3,13 @@ use Rattle.std.specs.{Prelude.{ℕ, ◌≡◌, ◌<◌, ◌+◌, ◌*◌, ◌++�
 use Rattle.std.specs.{HashMap.{HashMap, get}, List.Sorted.{IsPermutation}, declared.hash.BuildHasherDefault.{BuildHasherDefault}}
 use Rattle.std.specs.declared.hash.FoldHasher.{FoldHasher}
 use lib.Pointwise.{pointwise}
-use Rattle.gs_alike.specs.{Boards.{levels_in, signals_in}, declared.board.Board.{Board}, declared.kinds.Kind.{Kind}}
+use Rattle.gs_alike.specs.{Boards.{levels_in, seat_signals}, declared.board.Board.{Board}, declared.kinds.Kind.{Kind}}
 
 -- for each signal of a board its hand: a number made of its level and its key
 pub record AreHands (board : Board) (keys hands : List ℕ) : Type 0 where
   pub long : length hands ≡ length board.seats.items
   pub each : (i : ℕ) → i < length board.seats.items → slice_index hands i
-      ≡ slice_index (levels_in board.seats.items) i * 4294967296 + slice_index keys (slice_index (signals_in board.seats.items) i)
+      ≡ slice_index (levels_in board.seats.items) i * 4294967296 + slice_index keys (slice_index (seat_signals board.seats.items) i)
 
 -- the kind at the place `kind` has the hands `hands`, in some order
 pub record IsKindOf (kinds : List Kind) (kind : ℕ) (hands : List ℕ) : Type 0 where

@@ -1,7 +1,7 @@
 //! Marks of last-round signals: the mark of a signal is a signal that sees the same deals.
 
 ghost use Rattle.std.specs.{Prelude.{◌≡◌, ◌<◌, ◌⊎◌, ℕ, IfSome, length, slice_index}, List.{All}};
-ghost use Rattle.gs_alike.specs.{Boards.{signals_in}, Hands.{IsMark}};
+ghost use Rattle.gs_alike.specs.{Boards.{seat_signals}, Hands.{IsMark}};
 
 use crate::board::Seat;
 use crate::kinds::KEYS;
@@ -58,7 +58,7 @@ pub(crate) fn mark_board(
     requires within { All (λ seat. seat.signal < length marks.old) seats.now }
     ensures long { length marks.new ≡ length marks.old }
     ensures each { (i : ℕ) → (slice_index marks.new i ≡ slice_index marks.old i)
-        ⊎ IsMark (signals_in seats.now) hands.now (signals_in others.now) other_hands.now i (slice_index marks.new i) }
+        ⊎ IsMark (seat_signals seats.now) hands.now (seat_signals others.now) other_hands.now i (slice_index marks.new i) }
 {
     let mut search = Search {
         level: 0,

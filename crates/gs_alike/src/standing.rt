@@ -2,7 +2,7 @@
 
 ghost use Rattle.std.specs.{Prelude.{◌≡◌, ◌<◌, EachIndex, IfOk, IsTrue, length, slice_index}, List.{All}};
 ghost use Rattle.gs_tree.specs.{Trees.{rules_of}, Walk.{last_count}};
-ghost use Rattle.gs_alike.specs.{Alike.{AreStandIns}, Boards.{IsBoard}, Firsts.{AreMarks}};
+ghost use Rattle.gs_alike.specs.{Alike.{AreStandIns}, Boards.{IsBoard}, Firsts.{AreAlikeMarks}};
 
 use crate::board::{Board, boards_of};
 use crate::firsts::{NONE, first_items};
@@ -50,7 +50,7 @@ impl<'a> Boards<'a> {
     // Returns for each last-round signal a mark: a signal with the same hand on the first board with the same hands, or no mark.
     fn marks(&self, alloc: Global, keys: &[u32]) -> Result<Vec<u32>, AllocError>
         requires { length keys.now ≡ last_count (rules_of self.now.signals.now) }
-        ensures { IfOk result (λ v. AreMarks (rules_of self.now.signals.now) keys.now v.items) }
+        ensures { IfOk result (λ v. AreAlikeMarks (rules_of self.now.signals.now) keys.now v.items) }
     {
         let count = self.signals.count(self.signals.rounds());
         let mut marks = vec![in alloc; NONE; count as usize]?;

@@ -6,7 +6,7 @@ use Rattle.gs_model.specs.{BestAnswers.{IsBestValues, IsFirstBestPlan, Values}, 
 use Rattle.gs_model.specs.{Frame.{Frame, last_step, move_count, player_at, point_count, round_of}, FrameFacts.{InRange, IsWalked}}
 use Rattle.gs_model.specs.{Plans.{Plan, lift, number_before}, Positions.{at_point}}
 use Rattle.gs_model.proofs.{PlanLaws.{first_best_is_plan}, Basics.{not_eq}}
-use Rattle.gs_seq.specs.{Firsts.{Agree, IsClear}, Slots.{IsPlan, plan_of, slot_count, slot_of, slots_before}}
+use Rattle.gs_seq.specs.{Firsts.{AgreeBefore, IsClear}, Slots.{IsPlan, plan_of, slot_count, slot_of, slots_before}}
 use Rattle.gs_seq.proofs.{Firsts.{came_kept, slots_own, slot_under, agree_less}, SlotLaws.{slots_le}}
 use Rattle.gs_best.specs.Puts.{ArePutBefore, IsPutAt}
 
@@ -18,7 +18,7 @@ module _ (f : Frame) (r : InRange f) (lists : ClassLists) (k : IsClasses f.paren
       (first_member lists (round_of f (at_point q)) c)
 
   -- weights that agree up to the next class keep the numbers of a class
-  pub put_kept : (n : ℕ) (xs ys : List ℕ) → slots_before f lists player q + c * move_count f q ≤ n → Agree n xs ys → IsPutAt f lists player move xs q c
+  pub put_kept : (n : ℕ) (xs ys : List ℕ) → slots_before f lists player q + c * move_count f q ≤ n → AgreeBefore n xs ys → IsPutAt f lists player move xs q c
       → IsPutAt f lists player move ys q c
   put_kept n xs ys room agree put m lm =
       let at : slot_of f lists q c m < n = omega (arith, room, slot_under c (move_count f q) m h.0 lm, ap (λ p. slots_before f lists p q) own) in
@@ -31,7 +31,7 @@ module _ (f : Frame) (r : InRange f) (lists : ClassLists) (k : IsClasses f.paren
       → IsPutAt f lists player move (set xs slot came) q c
   put_here xs slot came at in_moves room is clear m lm =
       let whose = ap (λ p. slots_before f lists p q) own in
-      let agree : Agree (slots_before f lists player q) xs (set xs slot came) = λ j lj. get_or-set_other xs slot j came 0 (omega (arith, at, whose)) in
+      let agree : AgreeBefore (slots_before f lists player q) xs (set xs slot came) = λ j lj. get_or-set_other xs slot j came 0 (omega (arith, at, whose)) in
       let same = came_kept f r lists k player w q l own c h xs (set xs slot came) agree in
       ⊎_elim
       (λ (e : m ≡ move q c).
@@ -48,7 +48,7 @@ module _ (f : Frame) (r : InRange f) (lists : ClassLists) (k : IsClasses f.paren
 -- one more point of the player
 pub puts_more : (f : Frame) (r : InRange f) (lists : ClassLists) (k : IsClasses f.parents lists) (player : ℕ) (w : IsWalked f player) (move : ℕ → ℕ
     → ℕ) (q : ℕ) (xs ys : List ℕ)
-    → q < point_count f → ArePutBefore f lists player move xs q → Agree (slots_before f lists player q) xs ys
+    → q < point_count f → ArePutBefore f lists player move xs q → AgreeBefore (slots_before f lists player q) xs ys
     → ((c : ℕ) → IsClass lists (round_of f (at_point q)) c → IsPutAt f lists player move ys q c)
     → ArePutBefore f lists player move ys (q + 1)
 puts_more f r lists k player w move q xs ys l puts agree here p c lp own h = ⊎_elim

@@ -4,7 +4,7 @@ use Rattle.std.proofs.{lemmas.Bool.{cases_eq}, lemmas.Bool.Decides.{Decides-eqb}
 use Rattle.std.specs.{Prelude.{◌==◌, ◌||◌, ℤ, pos, ◌+ℤ◌, ◌≤ℤ◌, ◌<ℤ◌, int_lt, unsigned_abs}, List.{range_with_len}}
 use Rattle.gs_model.specs.{Classes.{ClassLists, IsClass, class_count}, Frame.{Frame, round_of}, Positions.{at_point}, Sums.{sum_z}}
 use Rattle.gs_model.proofs.Sparse.{abs_sum}
-use Rattle.gs_best.specs.Rows.{AreAdded, AreGreatest, AreRaised, AreSums, AreWorths, IsFirstGreatest, Worths, raises}
+use Rattle.gs_best.specs.Rows.{AreWorthsAdded, AreGreatest, AreRaised, AreSums, AreWorths, IsFirstGreatest, Worths, raises}
 use Rattle.gs_seq.proofs.EndTotals.{range_more}
 
 less_is : (a b : ℤ) → int_lt a b ≡ true → a <ℤ b
@@ -111,7 +111,7 @@ module _ (f : Frame) (lists : ClassLists) (worth : Worths) (q n count : ℕ) (al
       )
 
   -- one more move that is added
-  pub sum_step : (old new_sums : List ℤ) → AreAdded count n worths old new_sums → (0 < n → AreSums f lists worth q n old)
+  pub sum_step : (old new_sums : List ℤ) → AreWorthsAdded count n worths old new_sums → (0 < n → AreSums f lists worth q n old)
       → AreSums f lists worth q (n + 1) new_sums
   sum_step old new_sums r h c lc =
       let W : ℕ → ℤ = λ m. worth q m c in

@@ -7,7 +7,8 @@ use borrow.Author.Differences.{product_is}
 use Rattle.gs_model.specs.{Classes.{ClassLists, class_count}, Frame.{Frame, last_round, point_count, round_of}, FrameFacts.{IsWalked}, Positions.{at_point}}
 use Rattle.gs_model.proofs.{RawBound.{All-range, range_once}, Regroup.{regroup_weights, sum_z-pos}, Total.{sum_z-same}}
 use Rattle.gs_model.proofs.Basics.{pos-injective, sum-same, sum-ones, sum_by-map}
-use Rattle.gs_best.specs.Sizes.{AreOfLength, HasRoom, Holds, HoldsAll, IsRoomy, IsWide, IsWideFor, point_room, points_in, sizes_of, value_room}
+use Rattle.gs_best.specs.Sizes.{AreOfLength, HasRoomForClasses, HoldsEntries, HoldsAll, IsRoomy, IsWide, IsWideFor, point_room, points_of_round, sizes_of}
+use Rattle.gs_best.specs.Sizes.{value_room}
 use Rattle.gs_best.specs.{Tables.{start_of}, declared.room.Scratch.{Scratch}, declared.room.Table.{Table}}
 use Rattle.gs_best.proofs.Filled.{written}
 
@@ -16,7 +17,7 @@ pos-product a b = omega (arith, ints, product_is (pos a) (pos b))
 
 module _ (f : Frame) (p : ℕ) (w : IsWalked f p) where
   -- a number for each point of its round, added up round by round
-  by_rounds : (c : ℕ → ℕ) → sum_by (λ j. points_in f j * c j) (range_with_len 1 (last_round f))
+  by_rounds : (c : ℕ → ℕ) → sum_by (λ j. points_of_round f j * c j) (range_with_len 1 (last_round f))
       ≡ sum_by (λ q. c (round_of f (at_point q))) (range_with_len 0 (point_count f))
   by_rounds c =
       let qs = range_with_len 0 (point_count f) in
@@ -25,33 +26,33 @@ module _ (f : Frame) (p : ℕ) (w : IsWalked f p) where
       let left =
       sum_z-same (λ q. pos 1 *ℤ pos (c (at q))) (λ q. pos (c (at q))) (λ q. omega (arith, ints, product_is (pos 1) (pos (c (at q))))) qs
       ∙ sum_z-pos (λ q. c (at q)) qs in
-      let right = sum_z-same (λ j. pos (c j) *ℤ pos (points_in f j)) (λ j. pos (points_in f j * c j)) (λ j. pos-product (c j) (points_in f j)
-      ∙ ap pos (mul_comm (c j) (points_in f j))) js ∙ sum_z-pos (λ j. points_in f j * c j) js in
+      let right = sum_z-same (λ j. pos (c j) *ℤ pos (points_of_round f j)) (λ j. pos (points_of_round f j * c j)) (λ j. pos-product (c j) (points_of_round f j)
+      ∙ ap pos (mul_comm (c j) (points_of_round f j))) js ∙ sum_z-pos (λ j. points_of_round f j * c j) js in
       let both =
       regroup_weights eqb Decides-eqb at (λ q. 1) (λ j. pos (c j)) js qs
       (All-range (λ q. count_by (eqb (at q)) js ≡ 1) (point_count f) (λ q l. range_once (at q) 1 (last_round f) (w.some_round q l) (let t = w.point_in q l in
       omega arith))) in
-      sym (pos-injective (sum_by (λ q. c (at q)) qs) (sum_by (λ j. points_in f j * c j) js) (sym left ∙ both ∙ right))
+      sym (pos-injective (sum_by (λ q. c (at q)) qs) (sum_by (λ j. points_of_round f j * c j) js) (sym left ∙ both ∙ right))
 
   pub value_room_is : (lists : ClassLists) → value_room (sizes_of f lists) ≡ start_of f lists (point_count f)
-  value_room_is lists = sum_by-map (λ (n : ℕ × ℕ). n.0 * n.1) (λ j. (points_in f j, class_count lists j)) (range_with_len 1 (last_round f))
+  value_room_is lists = sum_by-map (λ (n : ℕ × ℕ). n.0 * n.1) (λ j. (points_of_round f j, class_count lists j)) (range_with_len 1 (last_round f))
       ∙ by_rounds (class_count lists)
 
   pub point_room_is : (lists : ClassLists) → point_room (sizes_of f lists) ≡ point_count f
   point_room_is lists =
-      sum_by-map (λ (n : ℕ × ℕ). n.0) (λ j. (points_in f j, class_count lists j)) (range_with_len 1 (last_round f))
-      ∙ sum-same (points_in f) (λ j. points_in f j * 1) (λ j. sym (mul-one (points_in f j))) (range_with_len 1 (last_round f))
+      sum_by-map (λ (n : ℕ × ℕ). n.0) (λ j. (points_of_round f j, class_count lists j)) (range_with_len 1 (last_round f))
+      ∙ sum-same (points_of_round f) (λ j. points_of_round f j * 1) (λ j. sym (mul-one (points_of_round f j))) (range_with_len 1 (last_round f))
       ∙ by_rounds (λ j. 1) ∙ sum-ones (range_with_len 0 (point_count f)) ∙ length-range_with_len 0 (point_count f)
 
 -- the classes of a round by the sizes
 size_at : (f : Frame) (lists : ClassLists) (i : ℕ) (d : ℕ × ℕ) → i < last_round f → (get_or (sizes_of f lists) i d).1 ≡ class_count lists (1 + i)
 size_at f lists i d l =
-    let size : ℕ → ℕ × ℕ = λ j. (points_in f j, class_count lists j) in
+    let size : ℕ → ℕ × ℕ = λ j. (points_of_round f j, class_count lists j) in
     ap (λ (n : ℕ × ℕ). n.1) (get_or-map size (range_with_len 1 (last_round f)) i 0 d (let e = length-range_with_len 1 (last_round f) in omega arith))
     ∙ ap (class_count lists) (get_or-range_with_len 1 (last_round f) i 0 l)
 
 size_count : (f : Frame) (lists : ClassLists) → length (sizes_of f lists) ≡ last_round f
-size_count f lists = length-map (range_with_len 1 (last_round f)) (λ j. (points_in f j, class_count lists j)) ∙ length-range_with_len 1 (last_round f)
+size_count f lists = length-map (range_with_len 1 (last_round f)) (λ j. (points_of_round f j, class_count lists j)) ∙ length-range_with_len 1 (last_round f)
 
 wide_by : (f : Frame) (lists : ClassLists) (wide : ℕ) → IsWideFor (sizes_of f lists) wide → IsWide f lists wide
 wide_by f lists wide h round some top =
@@ -74,19 +75,19 @@ by_wide f lists wide h i d l =
 lengths_by : (s : Scratch) (one other : ℕ → Type 0) → ((wide : ℕ) → one wide → other wide) → AreOfLength one s → AreOfLength other s
 lengths_by s one other h r = record { numbers = h _ r.numbers; ends = h _ r.ends; worths = h _ r.worths; best = h _ r.best; moves = h _ r.moves }
 
-pub roomy : (f : Frame) (lists : ClassLists) → IsWalked f 1 → (t : Table) (s : Scratch) → HoldsAll f lists t → HasRoom f lists s
+pub roomy : (f : Frame) (lists : ClassLists) → IsWalked f 1 → (t : Table) (s : Scratch) → HoldsAll f lists t → HasRoomForClasses f lists s
     → IsRoomy (sizes_of f lists) t s
 roomy f lists w t s h r = record {
-  table = subst (λ n. Holds n (value_room (sizes_of f lists)) t) (sym (point_room_is f 1 w lists))
-      (subst (λ n. Holds (point_count f) n t) (sym (value_room_is f 1 w lists)) h);
+  table = subst (λ n. HoldsEntries n (value_room (sizes_of f lists)) t) (sym (point_room_is f 1 w lists))
+      (subst (λ n. HoldsEntries (point_count f) n t) (sym (value_room_is f 1 w lists)) h);
   rows = lengths_by s (IsWide f lists) (IsWideFor (sizes_of f lists)) (by_wide f lists) r;
 }
 
 pub holds_all : (f : Frame) (lists : ClassLists) → IsWalked f 1 → (t : Table) (s : Scratch) → IsRoomy (sizes_of f lists) t s → HoldsAll f lists t
-holds_all f lists w t s r = subst (λ n. Holds (point_count f) n t) (value_room_is f 1 w lists)
-    (subst (λ n. Holds n (value_room (sizes_of f lists)) t) (point_room_is f 1 w lists) r.table)
+holds_all f lists w t s r = subst (λ n. HoldsEntries (point_count f) n t) (value_room_is f 1 w lists)
+    (subst (λ n. HoldsEntries n (value_room (sizes_of f lists)) t) (point_room_is f 1 w lists) r.table)
 
-pub has_room : (f : Frame) (lists : ClassLists) (t : Table) (s : Scratch) → IsRoomy (sizes_of f lists) t s → HasRoom f lists s
+pub has_room : (f : Frame) (lists : ClassLists) (t : Table) (s : Scratch) → IsRoomy (sizes_of f lists) t s → HasRoomForClasses f lists s
 has_room f lists t s r = lengths_by s (IsWideFor (sizes_of f lists)) (IsWide f lists) (wide_by f lists) r.rows
 
 -- a row as it stands after it was written through a slice

@@ -4,14 +4,14 @@ use Rattle.std.specs.{Prelude.{ℤ, pos, unsigned_abs}, List.{range_with_len}}
 use Rattle.gs_model.specs.{BestAnswers.{Values, class_worth, spread, start_sum}, Classes.{ClassLists, IsClass, IsClasses, class_count}}
 use Rattle.gs_model.specs.Frame.{Frame, end_count, last_round, leads_to, move_count, other_player, point_count, round_of}
 use Rattle.gs_model.specs.{FrameFacts.{IsFrom, IsInside, IsWalked}, Plans.{Plan}, Positions.{Target, at_end, at_point}, Sums.{sum_z}}
-use Rattle.gs_seq.specs.{Abstracts.{frame_of, lists_of}, Plans.{class_plan, lifted}}
-use Rattle.gs_best.specs.{Ends.{IsEndRow}, Rows.{AreModest, Worths}, Tables.{IsBestFrom, classes_at, moves_of, start_of, table_of}}
+use Rattle.gs_seq.specs.{Abstracts.{abstract_frame, lists_of}, Plans.{class_plan, lifted}}
+use Rattle.gs_best.specs.{Ends.{IsEndRow}, Rows.{AreModestClasses, Worths}, Tables.{IsBestFrom, classes_at, moves_of, start_of, table_of}}
 use Rattle.gs_best.specs.declared.deviator.Deviator.{Deviator}
 use Rattle.gs_best.proofs.{Forms.{form_classes, form_in_range, form_lossless, form_modest, form_walked}, Placed.{IsRow}}
 use Rattle.gs_best.proofs.Small.{start_small, value_small, worth_small, worths_small}
 
 abbrev pub frame : Deviator → Frame
-frame d = frame_of d.form.now
+frame d = abstract_frame d.form.now
 
 abbrev pub lists : Deviator → ClassLists
 lists d = lists_of d.form.now
@@ -72,7 +72,7 @@ module _ (d : Deviator) where
 
     -- the values of a point, in a list where they stand from a place on, are modest
     pub point_modest : (p start count : ℕ) (list : List ℤ) → p < point_count (frame d) → from ≤ p
-        → IsRow (classes_at (frame d) (lists d)) (point_count (frame d)) p start count → list ≡ values → AreModest list start count
+        → IsRow (classes_at (frame d) (lists d)) (point_count (frame d)) p start count → list ≡ values → AreModestClasses list start count
     point_modest p start count list inside later row same k l =
         let m = known_value (at_point p) (k + 1) inside later (omega arith, omega (arith, l, row.count_is)) in
         let place : start_of (frame d) (lists d) p + (k + 1 - 1) ≡ start + k = omega (arith, row.start_is) in
@@ -80,7 +80,7 @@ module _ (d : Deviator) where
 
     -- and so is what an end is worth
     pub end_modest : (z count : ℕ) (list row : List ℤ) → z < end_count (frame d) → count ≡ class_count (lists d) (round_of (frame d) (at_end z))
-        → IsEndRow (frame d) (lists d) d.player (against d) z row → list ≡ row → AreModest list 0 count
+        → IsEndRow (frame d) (lists d) d.player (against d) z row → list ≡ row → AreModestClasses list 0 count
     end_modest z count list row inside all worths same k l =
         let class : IsClass (lists d) (round_of (frame d) (at_end z)) (k + 1) = (omega arith, omega (arith, l, all)) in
         let m = known_value (at_end z) (k + 1) inside tt class in

@@ -1,7 +1,7 @@
 -- Where the values of points start, and how many there are.
 use Rattle.std.proofs.{Common.{◌≡◌, ℕ, ◌+◌, ◌-◌, ◌*◌, ◌<◌, ◌≤◌, ◌^◌, ap, arith, cond, ⊎_elim}, Math.Nat.{mul-le-mul_left}, lemmas.Bool.Decides.{Decides-eqb}}
 use Rattle.gs_model.specs.{Classes.{ClassLists, IsClass}, Frame.{Frame, move_count, player_at, point_count, round_of}, Positions.{at_point}}
-use Rattle.gs_seq.specs.{Abstracts.{frame_of, lists_of}, Slots.{slots_at}, declared.form.Abstract.{Abstract}}
+use Rattle.gs_seq.specs.{Abstracts.{abstract_frame, lists_of}, Slots.{slots_at}, declared.form.Abstract.{Abstract}}
 use Rattle.gs_seq.proofs.{Points.{players}, SlotLaws.{sum_range_le, sum_range_more}}
 use Rattle.gs_best.specs.{Forms.{game_in}, Tables.{classes_at, start_of}}
 use Rattle.gs_best.proofs.{Below.{range_add, range_le}, Forms.{form_moves}}
@@ -21,10 +21,10 @@ one_move : (c m : ℕ) → 0 < m → c ≤ c * m
 one_move c m some = let x : c * 1 ≤ c * m = mul-le-mul_left c some in omega arith
 
 -- a point has a slot of its player for each class
-classes_le : (a : Abstract) (q : ℕ) → q < point_count (frame_of a) → classes_at (frame_of a) (lists_of a) q
-    ≤ slots_at (frame_of a) (lists_of a) 1 q + slots_at (frame_of a) (lists_of a) 2 q
+classes_le : (a : Abstract) (q : ℕ) → q < point_count (abstract_frame a) → classes_at (abstract_frame a) (lists_of a) q
+    ≤ slots_at (abstract_frame a) (lists_of a) 1 q + slots_at (abstract_frame a) (lists_of a) 2 q
 classes_le a q l =
-    let f = frame_of a in
+    let f = abstract_frame a in
     let n = classes_at f (lists_of a) q in
     let up = one_move n (move_count f q) (form_moves a q l).some in
     ⊎_elim
@@ -33,9 +33,9 @@ classes_le a q l =
     (players (game_in a) q l)
 
 -- all values of a game are few
-pub starts_few : (a : Abstract) (q : ℕ) → q ≤ point_count (frame_of a) → start_of (frame_of a) (lists_of a) q ≤ 2 ^ 31
+pub starts_few : (a : Abstract) (q : ℕ) → q ≤ point_count (abstract_frame a) → start_of (abstract_frame a) (lists_of a) q ≤ 2 ^ 31
 starts_few a q l =
-    let f = frame_of a in
+    let f = abstract_frame a in
     let lists = lists_of a in
     let n = point_count f in
     let all = range_le (classes_at f lists) (λ p. slots_at f lists 1 p + slots_at f lists 2 p) n (classes_le a) in

@@ -4,12 +4,12 @@ use Rattle.gs_model.specs.{Classes.{ClassLists, class_count}, Frame.{Frame, last
 use Rattle.gs_best.specs.{Tables.{AreStarts, start_of}, declared.room.Scratch.{Scratch}, declared.room.Table.{Table}}
 
 -- how many points a round has
-abbrev pub points_in : Frame → ℕ → ℕ
-points_in f round = count_by (λ q. round_of f (at_point q) == round) (range_with_len 0 (point_count f))
+abbrev pub points_of_round : Frame → ℕ → ℕ
+points_of_round f round = count_by (λ q. round_of f (at_point q) == round) (range_with_len 0 (point_count f))
 
 -- for each round how many points and how many classes it has
 abbrev pub sizes_of : Frame → ClassLists → List (ℕ × ℕ)
-sizes_of f lists = map (λ round. (points_in f round, class_count lists round)) (range_with_len 1 (last_round f))
+sizes_of f lists = map (λ round. (points_of_round f round, class_count lists round)) (range_with_len 1 (last_round f))
 
 -- no round has more than `wide` classes
 abbrev pub IsWide : Frame → ClassLists → ℕ → Type 0
@@ -24,18 +24,18 @@ pub record AreOfLength (is_long : ℕ → Type 0) (s : Scratch) : Type 0 where
   pub moves : is_long (length s.moves.items)
 
 -- each scratch row has an entry for each class of any round
-abbrev pub HasRoom : Frame → ClassLists → Scratch → Type 0
-HasRoom f lists = AreOfLength (IsWide f lists)
+abbrev pub HasRoomForClasses : Frame → ClassLists → Scratch → Type 0
+HasRoomForClasses f lists = AreOfLength (IsWide f lists)
 
 -- the table has room for `points` points and `entries` values
-pub record Holds (points entries : ℕ) (t : Table) : Type 0 where
+pub record HoldsEntries (points entries : ℕ) (t : Table) : Type 0 where
   pub starts : points ≤ length t.starts.items
   pub values : entries ≤ length t.values.items
   pub picks : entries ≤ length t.picks.items
 
 -- the table has room for each point's start, and for a value and a move at each point and class
 abbrev pub HoldsAll : Frame → ClassLists → Table → Type 0
-HoldsAll f lists = Holds (point_count f) (start_of f lists (point_count f))
+HoldsAll f lists = HoldsEntries (point_count f) (start_of f lists (point_count f))
 
 -- the table has room for all values, and it has the place where each point's values start
 pub record IsLaidOut (f : Frame) (lists : ClassLists) (t : Table) : Type 0 where
@@ -58,5 +58,5 @@ IsWideFor sizes wide = (i : ℕ) (d : ℕ × ℕ) → i < length sizes → (get_
 
 -- the table and the scratch rows have room for rounds of these sizes
 pub record IsRoomy (sizes : List (ℕ × ℕ)) (t : Table) (s : Scratch) : Type 0 where
-  pub table : Holds (point_room sizes) (value_room sizes) t
+  pub table : HoldsEntries (point_room sizes) (value_room sizes) t
   pub rows : AreOfLength (IsWideFor sizes) s

@@ -2,7 +2,7 @@
 
 ghost use Rattle.std.specs.Prelude.{◌-◌, ◌<◌, ◌≤◌, IfOk};
 ghost use Rattle.gs_model.specs.{BestAnswers.{IsFirstBestPlan}, Frame.{other_player}};
-ghost use Rattle.gs_seq.specs.{Abstracts.{frame_of, lists_of}, Plans.{IsPlanOf, class_plan, lifted}};
+ghost use Rattle.gs_seq.specs.{Abstracts.{abstract_frame, lists_of}, Plans.{IsPlanOf, class_plan, lifted}};
 ghost use Rattle.gs_best.specs.Answers.{AreChoices, IsPaidMost, NoneGainsMore};
 
 use crate::deviator::Deviator;
@@ -17,13 +17,13 @@ use std::alloc::{AllocError, Global};
 pub fn best(alloc: Global, form: &Abstract, player: u8, other: &Plan) -> Result<Plan, AllocError>
     requires some { 0 < player }
     requires two { player ≤ 2 }
-    requires other { IsPlanOf (frame_of form.now) (lists_of form.now) (other_player player) other.now }
-    ensures plan { IfOk result (λ x. IsPlanOf (frame_of form.now) (lists_of form.now) player x) }
-    ensures best { IfOk result (λ x. let f = frame_of form.now in let lists = lists_of form.now in
+    requires other { IsPlanOf (abstract_frame form.now) (lists_of form.now) (other_player player) other.now }
+    ensures plan { IfOk result (λ x. IsPlanOf (abstract_frame form.now) (lists_of form.now) player x) }
+    ensures best { IfOk result (λ x. let f = abstract_frame form.now in let lists = lists_of form.now in
         IsFirstBestPlan f lists player (lifted f lists other.now) (class_plan f lists x)) }
-    ensures bound { IfOk result (λ x. let f = frame_of form.now in let lists = lists_of form.now in
+    ensures bound { IfOk result (λ x. let f = abstract_frame form.now in let lists = lists_of form.now in
         NoneGainsMore f player (lifted f lists other.now) (lifted f lists x)) }
-    ensures paid { IfOk result (λ x. let f = frame_of form.now in let lists = lists_of form.now in
+    ensures paid { IfOk result (λ x. let f = abstract_frame form.now in let lists = lists_of form.now in
         IsPaidMost f lists player (lifted f lists other.now) (lifted f lists x)) }
 {
     let side = Deviator {
@@ -45,8 +45,9 @@ pub fn choices(
 ) -> Result<Vec<u8>, AllocError>
     requires some { 0 < player }
     requires two { player ≤ 2 }
-    requires other { IsPlanOf (frame_of form.now) (lists_of form.now) (other_player player) other.now }
-    ensures { IfOk result (λ v. let f = frame_of form.now in let lists = lists_of form.now in AreChoices f lists player (lifted f lists other.now) v.items) }
+    requires other { IsPlanOf (abstract_frame form.now) (lists_of form.now) (other_player player) other.now }
+    ensures { IfOk result (λ v. let f = abstract_frame form.now in let lists = lists_of form.now in
+        AreChoices f lists player (lifted f lists other.now) v.items) }
 {
     let side = Deviator {
         form,

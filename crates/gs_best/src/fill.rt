@@ -2,8 +2,8 @@
 
 ghost use Rattle.std.specs.Prelude.{◌+◌, ◌<◌, ◌≤◌, IfOk, length, pos};
 ghost use Rattle.gs_model.specs.Frame.{point_count};
-ghost use Rattle.gs_seq.specs.{Abstracts.{frame_of, lists_of}, Plans.{lifted}};
-ghost use Rattle.gs_best.specs.{Answers.{IsFilled}, Rows.{IsCopied}, Sizes.{HasRoom, HoldsAll, IsLaidOut}, Tables.{IsBestFrom, moves_of, table_of}};
+ghost use Rattle.gs_seq.specs.{Abstracts.{abstract_frame, lists_of}, Plans.{lifted}};
+ghost use Rattle.gs_best.specs.{Answers.{IsFilled}, Rows.{IsCopied}, Sizes.{HasRoomForClasses, HoldsAll, IsLaidOut}, Tables.{IsBestFrom, moves_of, table_of}};
 
 use crate::deviator::Deviator;
 use crate::form::{class_total, point_total, round_at};
@@ -36,17 +36,17 @@ pub fn copy_moves(row: &[u8], start: usize, count: usize, moves: &mut [u8])
 
 /// Writes the best values of a point into the table. The best values of all later points must be known.
 fn fill_point(side: &Deviator<'_>, point: u32, table: &mut Table, scratch: &mut Scratch)
-    requires point { point < point_count (frame_of side.now.form.now) }
-    requires laid_out { IsLaidOut (frame_of side.now.form.now) (lists_of side.now.form.now) table.old }
-    requires known { let f = frame_of side.now.form.now in let lists = lists_of side.now.form.now in
+    requires point { point < point_count (abstract_frame side.now.form.now) }
+    requires laid_out { IsLaidOut (abstract_frame side.now.form.now) (lists_of side.now.form.now) table.old }
+    requires known { let f = abstract_frame side.now.form.now in let lists = lists_of side.now.form.now in
         IsBestFrom f lists side.now.player (table_of f lists side.now.player (lifted f lists side.now.other.now) table.old.values.items)
         (moves_of f lists table.old.picks.items) (point + 1) }
-    requires room { HasRoom (frame_of side.now.form.now) (lists_of side.now.form.now) scratch.old }
-    ensures laid_out { IsLaidOut (frame_of side.now.form.now) (lists_of side.now.form.now) table.new }
-    ensures known { let f = frame_of side.now.form.now in let lists = lists_of side.now.form.now in
+    requires room { HasRoomForClasses (abstract_frame side.now.form.now) (lists_of side.now.form.now) scratch.old }
+    ensures laid_out { IsLaidOut (abstract_frame side.now.form.now) (lists_of side.now.form.now) table.new }
+    ensures known { let f = abstract_frame side.now.form.now in let lists = lists_of side.now.form.now in
         IsBestFrom f lists side.now.player (table_of f lists side.now.player (lifted f lists side.now.other.now) table.new.values.items)
         (moves_of f lists table.new.picks.items) point }
-    ensures room { HasRoom (frame_of side.now.form.now) (lists_of side.now.form.now) scratch.new }
+    ensures room { HasRoomForClasses (abstract_frame side.now.form.now) (lists_of side.now.form.now) scratch.new }
 {
     merge_moves(side, point, table, scratch);
     let start = table.starts[point as usize] as usize;
@@ -57,11 +57,11 @@ fn fill_point(side: &Deviator<'_>, point: u32, table: &mut Table, scratch: &mut 
 
 /// Writes the best values of all points into the table, the last point first.
 pub(crate) fn fill(side: &Deviator<'_>, table: &mut Table, scratch: &mut Scratch)
-    requires holds { HoldsAll (frame_of side.now.form.now) (lists_of side.now.form.now) table.old }
-    requires room { HasRoom (frame_of side.now.form.now) (lists_of side.now.form.now) scratch.old }
-    ensures filled { let f = frame_of side.now.form.now in let lists = lists_of side.now.form.now in
+    requires holds { HoldsAll (abstract_frame side.now.form.now) (lists_of side.now.form.now) table.old }
+    requires room { HasRoomForClasses (abstract_frame side.now.form.now) (lists_of side.now.form.now) scratch.old }
+    ensures filled { let f = abstract_frame side.now.form.now in let lists = lists_of side.now.form.now in
         IsFilled f lists side.now.player (lifted f lists side.now.other.now) table.new }
-    ensures room { HasRoom (frame_of side.now.form.now) (lists_of side.now.form.now) scratch.new }
+    ensures room { HasRoomForClasses (abstract_frame side.now.form.now) (lists_of side.now.form.now) scratch.new }
 {
     place_points(side.form, &mut table.starts);
     let mut point = point_total(side.form);
@@ -73,7 +73,7 @@ pub(crate) fn fill(side: &Deviator<'_>, table: &mut Table, scratch: &mut Scratch
 
 /// Returns the table of a player's best values and first best moves against the other's plan.
 pub(crate) fn filled(alloc: Global, side: &Deviator<'_>) -> Result<Table, AllocError>
-    ensures { let f = frame_of side.now.form.now in let lists = lists_of side.now.form.now in
+    ensures { let f = abstract_frame side.now.form.now in let lists = lists_of side.now.form.now in
         IfOk result (IsFilled f lists side.now.player (lifted f lists side.now.other.now)) }
 {
     let (mut table, mut scratch) = room_for(alloc, side.form)?;

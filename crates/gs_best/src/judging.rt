@@ -2,8 +2,9 @@
 
 ghost use Rattle.std.specs.Prelude.{◌≡◌, ◌+◌, ◌<◌, ◌≤◌, ◌^◌, length, unsigned_abs};
 ghost use Rattle.gs_model.specs.{Classes.{class_count}, Frame.{last_round, signals_in}, Payoff.{raw_payoff}, Sums.{sum_z}, Verdict.{IsVerdict}};
-ghost use Rattle.gs_seq.specs.{Abstracts.{frame_of, lists_of}, Plans.{IsPlanOf, lifted}};
-ghost use Rattle.gs_best.specs.{Answers.{IsBestTotal, IsFilled}, Judged.{parts}, Rows.{AreModest, value_at}, Sizes.{HasRoom, HoldsAll, sizes_of}};
+ghost use Rattle.gs_seq.specs.{Abstracts.{abstract_frame, lists_of}, Plans.{IsPlanOf, lifted}};
+ghost use Rattle.gs_best.specs.{Answers.{IsBestTotal, IsFilled}, Judged.{parts}, Rows.{AreModestClasses, value_at}};
+ghost use Rattle.gs_best.specs.Sizes.{HasRoomForClasses, HoldsAll, sizes_of};
 
 use crate::deviator::Deviator;
 use crate::ends::read_end;
@@ -21,10 +22,10 @@ use gs_seq::{Abstract, Plan};
 /// Returns the sum, over all signals of a round, of the values of their classes.
 fn round_sum(form: &Abstract, round: u8, values: &[i128], start: usize) -> i128
     requires some { 0 < round }
-    requires top { round ≤ last_round (frame_of form.now) }
+    requires top { round ≤ last_round (abstract_frame form.now) }
     requires room { start + class_count (lists_of form.now) round ≤ length values.now }
-    requires modest { AreModest values.now start (class_count (lists_of form.now) round) }
-    ensures { result ≡ sum_z (value_at (lists_of form.now) round values.now start) (signals_in (frame_of form.now) round) }
+    requires modest { AreModestClasses values.now start (class_count (lists_of form.now) round) }
+    ensures { result ≡ sum_z (value_at (lists_of form.now) round values.now start) (signals_in (abstract_frame form.now) round) }
 {
     let all = Run {
         first: 0,
@@ -36,13 +37,13 @@ fn round_sum(form: &Abstract, round: u8, values: &[i128], start: usize) -> i128
 /// Returns what a player's best raw plan of total 1 gains, from the table of the player's best values.
 /// It is the sum of the values at the start, over all raw signals of the start's round.
 fn start_total(side: &Deviator<'_>, table: &Table, scratch: &mut Scratch) -> i128
-    requires filled { let f = frame_of side.now.form.now in let lists = lists_of side.now.form.now in
+    requires filled { let f = abstract_frame side.now.form.now in let lists = lists_of side.now.form.now in
         IsFilled f lists side.now.player (lifted f lists side.now.other.now) table.now }
-    requires room { HasRoom (frame_of side.now.form.now) (lists_of side.now.form.now) scratch.old }
-    ensures total { let f = frame_of side.now.form.now in let lists = lists_of side.now.form.now in
+    requires room { HasRoomForClasses (abstract_frame side.now.form.now) (lists_of side.now.form.now) scratch.old }
+    ensures total { let f = abstract_frame side.now.form.now in let lists = lists_of side.now.form.now in
         IsBestTotal f lists side.now.player (lifted f lists side.now.other.now) result }
     ensures small { unsigned_abs result ≤ 2 ^ 87 }
-    ensures room { HasRoom (frame_of side.now.form.now) (lists_of side.now.form.now) scratch.new }
+    ensures room { HasRoomForClasses (abstract_frame side.now.form.now) (lists_of side.now.form.now) scratch.new }
 {
     match start_at(side.form) {
         Target::Point(point) => {
@@ -58,13 +59,13 @@ fn start_total(side: &Deviator<'_>, table: &Table, scratch: &mut Scratch) -> i12
 
 /// Returns what a player's best raw plan of total 1 gains.
 fn best_total(side: &Deviator<'_>, table: &mut Table, scratch: &mut Scratch) -> i128
-    requires holds { HoldsAll (frame_of side.now.form.now) (lists_of side.now.form.now) table.old }
-    requires room { HasRoom (frame_of side.now.form.now) (lists_of side.now.form.now) scratch.old }
-    ensures total { let f = frame_of side.now.form.now in let lists = lists_of side.now.form.now in
+    requires holds { HoldsAll (abstract_frame side.now.form.now) (lists_of side.now.form.now) table.old }
+    requires room { HasRoomForClasses (abstract_frame side.now.form.now) (lists_of side.now.form.now) scratch.old }
+    ensures total { let f = abstract_frame side.now.form.now in let lists = lists_of side.now.form.now in
         IsBestTotal f lists side.now.player (lifted f lists side.now.other.now) result }
     ensures small { unsigned_abs result ≤ 2 ^ 87 }
-    ensures holds { HoldsAll (frame_of side.now.form.now) (lists_of side.now.form.now) table.new }
-    ensures room { HasRoom (frame_of side.now.form.now) (lists_of side.now.form.now) scratch.new }
+    ensures holds { HoldsAll (abstract_frame side.now.form.now) (lists_of side.now.form.now) table.new }
+    ensures room { HasRoomForClasses (abstract_frame side.now.form.now) (lists_of side.now.form.now) scratch.new }
 {
     fill(side, table, scratch);
     start_total(side, table, scratch)
@@ -72,12 +73,12 @@ fn best_total(side: &Deviator<'_>, table: &mut Table, scratch: &mut Scratch) -> 
 
 /// Returns what two plans pay player 1, in chips times the weight of all deals times both totals.
 fn plans_pay(form: &Abstract, one: &Plan, two: &Plan, scratch: &mut Scratch) -> i128
-    requires one { IsPlanOf (frame_of form.now) (lists_of form.now) 1 one.now }
-    requires two { IsPlanOf (frame_of form.now) (lists_of form.now) 2 two.now }
-    requires room { HasRoom (frame_of form.now) (lists_of form.now) scratch.old }
-    ensures paid { let f = frame_of form.now in let lists = lists_of form.now in
+    requires one { IsPlanOf (abstract_frame form.now) (lists_of form.now) 1 one.now }
+    requires two { IsPlanOf (abstract_frame form.now) (lists_of form.now) 2 two.now }
+    requires room { HasRoomForClasses (abstract_frame form.now) (lists_of form.now) scratch.old }
+    ensures paid { let f = abstract_frame form.now in let lists = lists_of form.now in
         result ≡ raw_payoff f (lifted f lists one.now) (lifted f lists two.now) }
-    ensures room { HasRoom (frame_of form.now) (lists_of form.now) scratch.new }
+    ensures room { HasRoomForClasses (abstract_frame form.now) (lists_of form.now) scratch.new }
 {
     form.payoff_in(one, two, &mut scratch.ends, &mut scratch.numbers)
 }
@@ -86,11 +87,11 @@ fn plans_pay(form: &Abstract, one: &Plan, two: &Plan, scratch: &mut Scratch) -> 
 /// The numbers are in chips: divided by the weight of all deals and by both totals. Allocates no memory.
 /// A gap is one side of exploitability; both gaps together are called NashConv.
 pub fn verdict(form: &Abstract, one: &Plan, two: &Plan, work: &mut Work) -> Verdict
-    requires one { IsPlanOf (frame_of form.now) (lists_of form.now) 1 one.now }
-    requires two { IsPlanOf (frame_of form.now) (lists_of form.now) 2 two.now }
-    requires room { work.old ≡ sizes_of (frame_of form.now) (lists_of form.now) }
+    requires one { IsPlanOf (abstract_frame form.now) (lists_of form.now) 1 one.now }
+    requires two { IsPlanOf (abstract_frame form.now) (lists_of form.now) 2 two.now }
+    requires room { work.old ≡ sizes_of (abstract_frame form.now) (lists_of form.now) }
     ensures room { work.new ≡ work.old }
-    ensures verdict { let f = frame_of form.now in let lists = lists_of form.now in
+    ensures verdict { let f = abstract_frame form.now in let lists = lists_of form.now in
         IsVerdict f (lifted f lists one.now) (lifted f lists two.now) (parts result.value) (parts result.gap1) (parts result.gap2) }
 {
     let first = Deviator {

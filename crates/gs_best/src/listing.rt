@@ -1,7 +1,7 @@
 //! The list of a player's best moves.
 
 ghost use Rattle.std.specs.Prelude.{◌≡◌, ◌+◌, ◌≤◌, ◌++◌, IfOk, drop, length, take};
-ghost use Rattle.gs_seq.specs.{Abstracts.{frame_of, lists_of}, Plans.{lifted}};
+ghost use Rattle.gs_seq.specs.{Abstracts.{abstract_frame, lists_of}, Plans.{lifted}};
 ghost use Rattle.gs_best.specs.Answers.{AreChoices, IsFilled};
 
 use crate::deviator::Deviator;
@@ -23,9 +23,9 @@ pub(crate) fn own_moves(
     side: &Deviator<'_>,
     table: &Table,
 ) -> Result<Vec<u8>, AllocError>
-    requires filled { let f = frame_of side.now.form.now in let lists = lists_of side.now.form.now in
+    requires filled { let f = abstract_frame side.now.form.now in let lists = lists_of side.now.form.now in
         IsFilled f lists side.now.player (lifted f lists side.now.other.now) table.now }
-    ensures { let f = frame_of side.now.form.now in let lists = lists_of side.now.form.now in
+    ensures { let f = abstract_frame side.now.form.now in let lists = lists_of side.now.form.now in
         IfOk result (λ v. AreChoices f lists side.now.player (lifted f lists side.now.other.now) v.items) }
 {
     let mut moves = Vec::new(alloc);

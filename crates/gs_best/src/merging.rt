@@ -2,8 +2,8 @@
 
 ghost use Rattle.std.specs.Prelude.{◌≡◌, ◌==◌, ◌+◌, ◌<◌, ◌≤◌, ◌^◌, ◌+ℤ◌, ℕ, pos, length, get_or, slice_index, unsigned_abs, if◌then◌else◌};
 ghost use Rattle.gs_model.specs.{BestAnswers.{class_worth}, Frame.{point_count}};
-ghost use Rattle.gs_seq.specs.{Abstracts.{frame_of, lists_of}, Plans.{lifted}};
-ghost use Rattle.gs_best.specs.{Rows.{AreAdded, AreRaised, IsMerged, raises}, Sizes.{HasRoom, IsLaidOut}};
+ghost use Rattle.gs_seq.specs.{Abstracts.{abstract_frame, lists_of}, Plans.{lifted}};
+ghost use Rattle.gs_best.specs.{Rows.{AreWorthsAdded, AreRaised, IsMerged, raises}, Sizes.{HasRoomForClasses, IsLaidOut}};
 ghost use Rattle.gs_best.specs.Tables.{IsBestFrom, moves_of, table_of};
 
 use crate::deviator::Deviator;
@@ -50,7 +50,7 @@ pub fn add(worths: &[i128], choice: u8, count: usize, sums: &mut [i128])
     requires worths { count ≤ length worths.now }
     requires sums { count ≤ length sums.old }
     requires fits { (k : ℕ) → k < count → 0 < choice → unsigned_abs (get_or sums.old k (pos 0) +ℤ get_or worths.now k (pos 0)) < 2 ^ 127 }
-    ensures added { AreAdded count choice worths.now sums.old sums.new }
+    ensures added { AreWorthsAdded count choice worths.now sums.old sums.new }
     ensures behind { (k : ℕ) → count ≤ k → get_or sums.new k (pos 0) ≡ get_or sums.old k (pos 0) }
 {
     for class in 0..count {
@@ -60,16 +60,16 @@ pub fn add(worths: &[i128], choice: u8, count: usize, sums: &mut [i128])
 
 /// Writes into `scratch` the values of a point for each class of its round and, if the player chooses there, the first best moves.
 pub(crate) fn merge_moves(side: &Deviator<'_>, point: u32, table: &Table, scratch: &mut Scratch)
-    requires point { point < point_count (frame_of side.now.form.now) }
-    requires laid_out { IsLaidOut (frame_of side.now.form.now) (lists_of side.now.form.now) table.now }
-    requires known { let f = frame_of side.now.form.now in let lists = lists_of side.now.form.now in
+    requires point { point < point_count (abstract_frame side.now.form.now) }
+    requires laid_out { IsLaidOut (abstract_frame side.now.form.now) (lists_of side.now.form.now) table.now }
+    requires known { let f = abstract_frame side.now.form.now in let lists = lists_of side.now.form.now in
         IsBestFrom f lists side.now.player (table_of f lists side.now.player (lifted f lists side.now.other.now) table.now.values.items)
         (moves_of f lists table.now.picks.items) (point + 1) }
-    requires room { HasRoom (frame_of side.now.form.now) (lists_of side.now.form.now) scratch.old }
-    ensures merged { let f = frame_of side.now.form.now in let lists = lists_of side.now.form.now in
+    requires room { HasRoomForClasses (abstract_frame side.now.form.now) (lists_of side.now.form.now) scratch.old }
+    ensures merged { let f = abstract_frame side.now.form.now in let lists = lists_of side.now.form.now in
         IsMerged f lists side.now.player (class_worth f lists (table_of f lists side.now.player (lifted f lists side.now.other.now) table.now.values.items))
         point scratch.new.best.items scratch.new.moves.items }
-    ensures room { HasRoom (frame_of side.now.form.now) (lists_of side.now.form.now) scratch.new }
+    ensures room { HasRoomForClasses (abstract_frame side.now.form.now) (lists_of side.now.form.now) scratch.new }
 {
     let count = class_total(side.form, round_at(side.form, point)) as usize;
     let own = chooser(side.form, point) == side.player;

@@ -2,7 +2,7 @@
 
 ghost use Rattle.std.specs.Prelude.{◌≡◌, ◌+◌, ◌<◌, ◌≤◌, ℕ, IfOk, length};
 ghost use Rattle.gs_model.specs.{BestAnswers.{IsFirstBestPlan}, Classes.{IsClass}, Frame.{player_at, point_count, round_of}, Positions.{at_point}};
-ghost use Rattle.gs_seq.specs.{Abstracts.{frame_of, lists_of}, Firsts.{Agree, IsClear}, Plans.{IsPlanOf, class_plan, lifted}};
+ghost use Rattle.gs_seq.specs.{Abstracts.{abstract_frame, lists_of}, Firsts.{AgreeBefore, IsClear}, Plans.{IsPlanOf, class_plan, lifted}};
 ghost use Rattle.gs_seq.specs.Slots.{slot_count, slots_before};
 ghost use Rattle.gs_best.specs.{Answers.{IsFilled}, Puts.{ArePutBefore, IsPutAt}, Tables.{AreInMoves, AreStarts, moves_of, start_of}};
 
@@ -23,18 +23,18 @@ fn put_point(
 )
     requires some { 0 < player }
     requires two { player ≤ 2 }
-    requires point { point < point_count (frame_of form.now) }
-    requires own { player_at (frame_of form.now) point ≡ player }
-    requires starts { point_count (frame_of form.now) ≤ length starts.now }
-    requires places { AreStarts (frame_of form.now) (lists_of form.now) starts.now }
-    requires picks { let f = frame_of form.now in start_of f (lists_of form.now) (point_count f) ≤ length picks.now }
-    requires moves { let f = frame_of form.now in let lists = lists_of form.now in AreInMoves f lists player (moves_of f lists picks.now) }
-    requires long { length weights.old ≡ slot_count (frame_of form.now) (lists_of form.now) player }
-    requires clear { IsClear (slots_before (frame_of form.now) (lists_of form.now) player point) weights.old }
-    ensures kept { Agree (slots_before (frame_of form.now) (lists_of form.now) player point) weights.old weights.new }
-    ensures here { let f = frame_of form.now in let lists = lists_of form.now in
+    requires point { point < point_count (abstract_frame form.now) }
+    requires own { player_at (abstract_frame form.now) point ≡ player }
+    requires starts { point_count (abstract_frame form.now) ≤ length starts.now }
+    requires places { AreStarts (abstract_frame form.now) (lists_of form.now) starts.now }
+    requires picks { let f = abstract_frame form.now in start_of f (lists_of form.now) (point_count f) ≤ length picks.now }
+    requires moves { let f = abstract_frame form.now in let lists = lists_of form.now in AreInMoves f lists player (moves_of f lists picks.now) }
+    requires long { length weights.old ≡ slot_count (abstract_frame form.now) (lists_of form.now) player }
+    requires clear { IsClear (slots_before (abstract_frame form.now) (lists_of form.now) player point) weights.old }
+    ensures kept { AgreeBefore (slots_before (abstract_frame form.now) (lists_of form.now) player point) weights.old weights.new }
+    ensures here { let f = abstract_frame form.now in let lists = lists_of form.now in
         (c : ℕ) → IsClass lists (round_of f (at_point point)) c → IsPutAt f lists player (moves_of f lists picks.now) weights.new point c }
-    ensures clear { IsClear (slots_before (frame_of form.now) (lists_of form.now) player (point + 1)) weights.new }
+    ensures clear { IsClear (slots_before (abstract_frame form.now) (lists_of form.now) player (point + 1)) weights.new }
 {
     let start = starts[point as usize] as usize;
     for before in 0..class_total(form, round_at(form, point)) {
@@ -50,13 +50,13 @@ fn put_point(
 pub fn put_moves(form: &Abstract, player: u8, starts: &[u32], picks: &[u8], weights: &mut [u64])
     requires some { 0 < player }
     requires two { player ≤ 2 }
-    requires starts { point_count (frame_of form.now) ≤ length starts.now }
-    requires places { AreStarts (frame_of form.now) (lists_of form.now) starts.now }
-    requires picks { let f = frame_of form.now in start_of f (lists_of form.now) (point_count f) ≤ length picks.now }
-    requires moves { let f = frame_of form.now in let lists = lists_of form.now in AreInMoves f lists player (moves_of f lists picks.now) }
-    requires long { length weights.old ≡ slot_count (frame_of form.now) (lists_of form.now) player }
+    requires starts { point_count (abstract_frame form.now) ≤ length starts.now }
+    requires places { AreStarts (abstract_frame form.now) (lists_of form.now) starts.now }
+    requires picks { let f = abstract_frame form.now in start_of f (lists_of form.now) (point_count f) ≤ length picks.now }
+    requires moves { let f = abstract_frame form.now in let lists = lists_of form.now in AreInMoves f lists player (moves_of f lists picks.now) }
+    requires long { length weights.old ≡ slot_count (abstract_frame form.now) (lists_of form.now) player }
     requires clear { IsClear 0 weights.old }
-    ensures { let f = frame_of form.now in let lists = lists_of form.now in
+    ensures { let f = abstract_frame form.now in let lists = lists_of form.now in
         ArePutBefore f lists player (moves_of f lists picks.now) weights.new (point_count f) }
 {
     for point in 0..point_total(form) {
@@ -68,10 +68,10 @@ pub fn put_moves(form: &Abstract, player: u8, starts: &[u32], picks: &[u8], weig
 
 /// Returns the weights of the plan with total 1 that puts all weight on the best moves.
 fn best_weights(alloc: Global, side: &Deviator<'_>, table: &Table) -> Result<Vec<u64>, AllocError>
-    requires filled { let f = frame_of side.now.form.now in let lists = lists_of side.now.form.now in
+    requires filled { let f = abstract_frame side.now.form.now in let lists = lists_of side.now.form.now in
         IsFilled f lists side.now.player (lifted f lists side.now.other.now) table.now }
-    ensures long { IfOk result (λ v. length v.items ≡ slot_count (frame_of side.now.form.now) (lists_of side.now.form.now) side.now.player) }
-    ensures puts { let f = frame_of side.now.form.now in let lists = lists_of side.now.form.now in
+    ensures long { IfOk result (λ v. length v.items ≡ slot_count (abstract_frame side.now.form.now) (lists_of side.now.form.now) side.now.player) }
+    ensures puts { let f = abstract_frame side.now.form.now in let lists = lists_of side.now.form.now in
         IfOk result (λ v. ArePutBefore f lists side.now.player (moves_of f lists table.now.picks.items) v.items (point_count f)) }
 {
     let count = side.form.sequences(side.player) - 1;
@@ -88,10 +88,10 @@ fn best_weights(alloc: Global, side: &Deviator<'_>, table: &Table) -> Result<Vec
 
 /// Returns the plan with total 1 that puts all weight on the best moves.
 pub(crate) fn put_all(alloc: Global, side: &Deviator<'_>, table: &Table) -> Result<Plan, AllocError>
-    requires filled { let f = frame_of side.now.form.now in let lists = lists_of side.now.form.now in
+    requires filled { let f = abstract_frame side.now.form.now in let lists = lists_of side.now.form.now in
         IsFilled f lists side.now.player (lifted f lists side.now.other.now) table.now }
-    ensures plan { IfOk result (IsPlanOf (frame_of side.now.form.now) (lists_of side.now.form.now) side.now.player) }
-    ensures best { let f = frame_of side.now.form.now in let lists = lists_of side.now.form.now in
+    ensures plan { IfOk result (IsPlanOf (abstract_frame side.now.form.now) (lists_of side.now.form.now) side.now.player) }
+    ensures best { let f = abstract_frame side.now.form.now in let lists = lists_of side.now.form.now in
         IfOk result (λ x. IsFirstBestPlan f lists side.now.player (lifted f lists side.now.other.now) (class_plan f lists x)) }
 {
     let weights = best_weights(alloc, side, table)?;

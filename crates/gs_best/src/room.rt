@@ -2,7 +2,7 @@
 
 ghost use Rattle.std.specs.Prelude.{◌≡◌, ◌≤◌, ℕ, length, slice_index};
 ghost use Rattle.gs_model.specs.Frame.{point_count};
-ghost use Rattle.gs_seq.specs.Abstracts.{frame_of, lists_of};
+ghost use Rattle.gs_seq.specs.Abstracts.{abstract_frame, lists_of};
 ghost use Rattle.gs_best.specs.Tables.{AreStarts};
 
 use crate::form::{class_total, point_total, round_at};
@@ -35,9 +35,9 @@ pub(crate) struct Scratch {
 
 /// Writes for each point the place where its values start.
 pub fn place_points(form: &Abstract, starts: &mut [u32])
-    requires { point_count (frame_of form.now) ≤ length starts.old }
-    ensures starts { AreStarts (frame_of form.now) (lists_of form.now) starts.new }
-    ensures behind { (i : ℕ) → point_count (frame_of form.now) ≤ i → slice_index starts.new i ≡ slice_index starts.old i }
+    requires { point_count (abstract_frame form.now) ≤ length starts.old }
+    ensures starts { AreStarts (abstract_frame form.now) (lists_of form.now) starts.new }
+    ensures behind { (i : ℕ) → point_count (abstract_frame form.now) ≤ i → slice_index starts.new i ≡ slice_index starts.old i }
 {
     let mut start = 0;
     for point in 0..point_total(form) {

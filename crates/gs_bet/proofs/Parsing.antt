@@ -3,7 +3,7 @@ use Rattle.std.proofs.Common.{◌≡◌, ℕ, ◌-◌, ◌≤◌, List, [], leng
 use Rattle.std.specs.Prelude.{IsTrue}
 use Rattle.gs_bet.specs.{declared.fault.Mistake.{Mistake}, declared.fault.Mistake.TheVariants.{RepeatedLetter, TooDeep, Syntax}}
 use Rattle.gs_bet.specs.{declared.fault.Stop.TheVariants.{At}, Grammar.{tree_text, is_tree}, Cuts.{at_tree, whole}, Reading.{Read, Fails, all_of}}
-use Rattle.gs_bet.specs.Faults.{IsFaultOf, IsMistake, fault_of}
+use Rattle.gs_bet.specs.Faults.{IsFaultOf, IsMistake, mistake_fault}
 use Rattle.gs_model.specs.Betting.{Bet}
 use Rattle.gs_bet.proofs.{Steps.{read}, ReadsAsCut.{LeadsTo, reads_as_cut}, Whole.{is_read, reads, is_mistake, left_within}}
 
@@ -34,7 +34,7 @@ mistaken text m left f = rw (← f.2) (is_mistake text m f.0 (read_to text (Err 
 pub within : (text : List ℕ) (m : Mistake) (left : ℕ) → Fails (At m left) (all_of text) → left ≤ length text
 within text m left f = rw (← f.2) (left_within text m f.0 (read_to text (Err (m, f.0)) f.1))
 
-pub fault : (text : List ℕ) (m : Mistake) (at : ℕ) → IsMistake text at m → IsFaultOf text (fault_of m at)
+pub fault : (text : List ℕ) (m : Mistake) (at : ℕ) → IsMistake text at m → IsFaultOf text (mistake_fault m at)
 fault text RepeatedLetter at h = h
 fault text TooDeep at h = h
 fault text Syntax at h = h

@@ -3,7 +3,7 @@ use Rattle.std.proofs.Common.{◌≡◌, ℕ, zero, suc, ◌+◌, ◌-◌, ◌<�
 use Rattle.std.proofs.lemmas.Bool.{cases_Bool, false≢true, ltb-true, ne_eqb}
 use Rattle.gs_bet.specs.{declared.fault.Mistake.TheVariants.{TooDeep, Syntax}, declared.fault.Stop.{Stop}, declared.shape.Move.{Move, out-Move}}
 use Rattle.gs_bet.specs.{MoveLists.{count, push_move}, TreeView.{plain, plain_moves}}
-use Rattle.gs_bet.specs.Reading.{Read, Fails, outer_at, ◌>>=◌, player_at, act_with, act_at, moves_at, move_at, more_at, inner_at}
+use Rattle.gs_bet.specs.Reading.{Read, Fails, outer_at, ◌>>=◌, player_digit, act_with, act_at, moves_at, move_at, more_at, inner_at}
 use Rattle.gs_bet.specs.declared.fault.Stop.TheVariants as stops
 use Rattle.gs_model.specs.Betting.{Bet, Moves, move}
 
@@ -16,8 +16,8 @@ pub plain_push : (ms : List Move) (m : Move) → plain_moves (ms ++ m ∷ [])
 plain_push [] m = refl
 plain_push (n ∷ ms) m = ap (move n.letter n.chips (plain n.next)) (plain_push ms m)
 
-no_room : {A : Type 0} (bytes : List ℕ) (f g : ℕ × List ℕ → Read A) → (player_at 0 bytes >>= f) ≡ (player_at 0 bytes >>= g)
-unfolding player_at
+no_room : {A : Type 0} (bytes : List ℕ) (f g : ℕ × List ℕ → Read A) → (player_digit 0 bytes >>= f) ≡ (player_digit 0 bytes >>= g)
+unfolding player_digit
 no_room [] f g = refl
 no_room (b ∷ bytes) f g =
     let go : (t : Bool) → (cond t (Err (TooDeep, b ∷ bytes)) (Err (Syntax, b ∷ bytes)) >>= f)

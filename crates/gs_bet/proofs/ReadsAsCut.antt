@@ -4,7 +4,8 @@ use Rattle.std.proofs.lemmas.Bool.{cases_Bool, and_parts, and_right, leb-true, l
 use Rattle.gs_bet.proofs.{ReadingLaws.{more_room}, Steps.{after, is_inside, read}}
 use Rattle.gs_bet.specs.{declared.fault.Mistake.{Mistake}, declared.fault.Mistake.TheVariants.{TooDeep, Syntax}, MoveLists.{count, has_letter, push_move}}
 use Rattle.gs_bet.specs.{Grammar.{is_letter}, Cuts.{Open, Cut, at_tree, at_bracket, at_letter, at_chips, at_next, whole}}
-use Rattle.gs_bet.specs.Reading.{goes_on, Read, ◌>>=◌, player_at, expect_at, letter_at, chips_at, move_at, more_at, moves_at, inner_at, act_with, act_at, outer_at, at_end, all_of}
+use Rattle.gs_bet.specs.Reading.{goes_on, Read, ◌>>=◌, player_digit, expect_at, letter_at, chips_at, move_at, more_at, moves_at, inner_at, act_with, act_at}
+use Rattle.gs_bet.specs.Reading.{outer_at, at_end, all_of}
 use Rattle.gs_model.specs.Betting.{Bet, Moves, act, none, move}
 
 -- what reading a part leads to, where the whole text is read from a cut
@@ -86,8 +87,8 @@ NoEnd outer [] = Unit {0}
 NoEnd outer (b ∷ bytes) = (eqb b 61 ≡ false) × ((eqb b 33 && is_inside outer) ≡ false)
 
 lead_player : (left : ℕ) (outer : List Open) (bytes : List ℕ) → left + length outer ≡ 16 → NoEnd outer bytes
-    → LeadsTo (λ p. at_bracket p outer) (read (at_tree outer) bytes) (player_at left bytes)
-unfolding player_at
+    → LeadsTo (λ p. at_bracket p outer) (read (at_tree outer) bytes) (player_digit left bytes)
+unfolding player_digit
 lead_player left outer [] room h = refl
 lead_player zero outer (b ∷ bytes) room h =
     let full : ltb (length outer) 16 ≡ false = le-ltb _ _ (omega arith) in
@@ -161,8 +162,8 @@ move_count tree ms bytes x h =
     let e : push_move ms a.0.0 (chips_at 0 a.0.1).0 c.0.0 ≡ x.0 = ap pushed c.2 in
     rw (← e) (count_push ms a.0.0 (chips_at 0 a.0.1).0 c.0.0)
 
-player_room : (left : ℕ) (bytes : List ℕ) (x : ℕ × List ℕ) → player_at left bytes ≡ Ok x → 0 < left
-unfolding player_at
+player_room : (left : ℕ) (bytes : List ℕ) (x : ℕ × List ℕ) → player_digit left bytes ≡ Ok x → 0 < left
+unfolding player_digit
 player_room (suc left) bytes x h = omega arith
 player_room zero [] x h = absurd cc
 player_room zero (b ∷ bytes) x h =

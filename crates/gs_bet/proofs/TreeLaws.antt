@@ -4,7 +4,7 @@ use Rattle.std.specs.Global.{Vec}
 use Rattle.gs_bet.specs.{declared.shape.Tree.{fold_out-Tree}, declared.shape.Tree.TheVariants.{Act, Fold, outs-Act, outs-Fold}}
 use Rattle.gs_bet.specs.declared.shape.Act.{Act as Choice, fold_out-Act, fold-roll-Act, roll-Act, out-Act}
 use Rattle.gs_bet.specs.declared.shape.Move.{Move, fold-Move, fold_out-Move}
-use Rattle.gs_bet.specs.TreeView.{plain, plain_act, plain_moves, moves_of, tree_step, act_step, move_step, PlainMove}
+use Rattle.gs_bet.specs.TreeView.{plain, plain_act, plain_moves, moves_of_list, tree_step, act_step, move_step, PlainMove}
 use Rattle.gs_model.specs.Betting.{Bet, act, fold}
 
 pub plain-act : (a : Choice) → plain (Act a) ≡ plain_act a
@@ -13,7 +13,7 @@ plain-act a = fold_out-Tree Bet Bet PlainMove tree_step act_step move_step (Act 
 pub plain-fold : plain Fold ≡ fold
 plain-fold = fold_out-Tree Bet Bet PlainMove tree_step act_step move_step Fold ∙ rw outs-Fold refl
 
-same_moves : (ms : List Move) → moves_of (map (fold-Move Bet Bet PlainMove tree_step act_step move_step) ms) ≡ plain_moves ms
+same_moves : (ms : List Move) → moves_of_list (map (fold-Move Bet Bet PlainMove tree_step act_step move_step) ms) ≡ plain_moves ms
 same_moves [] = refl
 same_moves (m ∷ ms) = cc (fold_out-Move Bet Bet PlainMove tree_step act_step move_step m, same_moves ms)
 

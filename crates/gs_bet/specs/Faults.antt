@@ -28,10 +28,10 @@ IsFaultOf text (faults.Syntax at) = IsMistake text at Syntax
 IsFaultOf text faults.Memory = Unit {0}
 
 -- the fault of a mistake and its place
-abbrev pub fault_of : Mistake → ℕ → TreeFault
-fault_of RepeatedLetter at = faults.RepeatedLetter at
-fault_of TooDeep at = faults.TooDeep at
-fault_of Syntax at = faults.Syntax at
+abbrev pub mistake_fault : Mistake → ℕ → TreeFault
+mistake_fault RepeatedLetter at = faults.RepeatedLetter at
+mistake_fault TooDeep at = faults.TooDeep at
+mistake_fault Syntax at = faults.Syntax at
 
 -- what was read is the tree t, unless memory ran out
 abbrev pub ReadsAs : Result BetTree TreeFault → Bet → Type 0

@@ -46,9 +46,9 @@ chips_at n [] = (n, [])
 chips_at n (b ∷ bytes) = if goes_on n b then chips_at (n * 10 + (b - 48)) bytes else (n, b ∷ bytes)
 
 -- reads the player of an act; at most `left` acts may still open, this one included
-unfoldable pub player_at : ℕ → List ℕ → Read ℕ
-player_at left [] = Err (Syntax, [])
-player_at left (b ∷ bytes) = if b == 49 || b == 50 then (if left == 0 then Err (TooDeep, b ∷ bytes) else Ok (b - 48, bytes)) else Err (Syntax, b ∷ bytes)
+unfoldable pub player_digit : ℕ → List ℕ → Read ℕ
+player_digit left [] = Err (Syntax, [])
+player_digit left (b ∷ bytes) = if b == 49 || b == 50 then (if left == 0 then Err (TooDeep, b ∷ bytes) else Ok (b - 48, bytes)) else Err (Syntax, b ∷ bytes)
 
 -- reads a move and adds it to the moves before it
 unfoldable pub move_at : (List ℕ → Read Bet) → Moves → List ℕ → Read Moves
@@ -84,7 +84,7 @@ inner_at deeper (b ∷ bytes) =
 -- reads an act; at most `left` acts may still open, this one included. `deeper` reads the acts inside it
 unfoldable pub act_with : ℕ → (List ℕ → Read Bet) → List ℕ → Read Bet
 act_with left deeper bytes = do
-  player ← player_at left bytes
+  player ← player_digit left bytes
   bracket ← expect_at 91 player.1
   moves ← moves_at (inner_at deeper) 26 none bracket.1
   Ok (act player.0 moves.0, moves.1)

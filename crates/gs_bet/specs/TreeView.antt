@@ -11,9 +11,9 @@ pub record PlainMove : Type 0 where
   pub next : Bet
 
 -- the moves of a list
-abbrev pub moves_of : List PlainMove → Moves
-moves_of [] = none
-moves_of (m ∷ ms) = move m.letter m.chips m.next (moves_of ms)
+abbrev pub moves_of_list : List PlainMove → Moves
+moves_of_list [] = none
+moves_of_list (m ∷ ms) = move m.letter m.chips m.next (moves_of_list ms)
 
 -- one layer of a tree of the program, as the definitions see it
 abbrev pub tree_step : Tree-F Bet Bet PlainMove → Bet
@@ -23,7 +23,7 @@ tree_step Even = even
 
 -- one layer of an act of the program, as the definitions see it
 abbrev pub act_step : Act-F Bet Bet PlainMove → Bet
-act_step a = act a.player (moves_of a.moves.items)
+act_step a = act a.player (moves_of_list a.moves.items)
 
 -- one layer of a move of the program, as the definitions see it
 abbrev pub move_step : Move-F Bet Bet PlainMove → PlainMove

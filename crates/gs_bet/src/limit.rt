@@ -2,7 +2,7 @@
 
 ghost use Rattle.std.specs.Prelude.{◌≡◌, ◌≤◌, IfOk, OnOk};
 ghost use Rattle.gs_model.specs.Betting.{act};
-ghost use Rattle.gs_bet.specs.{MoveLists.{push_move}, TreeView.{plain, plain_moves}, Limit.{facing, behind_check, limit_bet}};
+ghost use Rattle.gs_bet.specs.{MoveLists.{push_move}, TreeView.{plain, plain_moves}, Limit.{facing_bet, behind_check, limit_bet}};
 
 use crate::shape::{Act, BetTree, Move, Tree};
 use std::alloc::{AllocError, Global};
@@ -30,7 +30,7 @@ fn add(moves: &mut Vec<Move>, letter: u8, chips: u16, next: Tree) -> Result<(), 
 fn against_bet(alloc: Global, bet: u16, left: u8, player: u8) -> Result<Tree, AllocError>
     requires bet { bet ≤ 2048 }
     requires player { player ≤ 3 }
-    ensures { IfOk result (λ t. plain t ≡ facing bet left player) }
+    ensures { IfOk result (λ t. plain t ≡ facing_bet bet left player) }
 {
     let mut moves = Vec::new(alloc);
     add(&mut moves, b'f', 0, Tree::Fold)?;

@@ -1,9 +1,9 @@
 //! Reads the text of a betting tree.
 
 ghost use Rattle.std.specs.Prelude.{◌≡◌, ◌≤◌, ◌<◌, ◌-◌, IfOk, IfErr, IsTrue, []};
-ghost use Rattle.gs_bet.specs.{Grammar.{is_tree, tree_text}, Faults.{IsFaultOf, ReadsAs, fault_of}, MoveLists.{has_letter, push_move}};
+ghost use Rattle.gs_bet.specs.{Grammar.{is_tree, tree_text}, Faults.{IsFaultOf, ReadsAs, mistake_fault}, MoveLists.{has_letter, push_move}};
 ghost use Rattle.gs_bet.specs.{TreeView.{plain, plain_moves}, declared.shape.Move.{out-Move}};
-ghost use Rattle.gs_bet.specs.Reading.{Gives, player_at, letter_at, chips_at, expect_at, move_at, more_at, moves_at, inner_at, act_with, act_at};
+ghost use Rattle.gs_bet.specs.Reading.{Gives, player_digit, letter_at, chips_at, expect_at, move_at, more_at, moves_at, inner_at, act_with, act_at};
 ghost use Rattle.gs_bet.specs.Reading.{outer_at, all_of};
 ghost use Rattle.gs_model.specs.Betting.{Bet, none};
 
@@ -13,7 +13,7 @@ use std::alloc::Global;
 
 #[tactic(auto, unfolding(crate::specs::Reading::player_at))]
 fn player_of(left: u8, bytes: &[u8]) -> Result<(u8, &[u8]), Stop>
-    ensures read { Gives (λ x. (x.0, x.1.now)) result (player_at left bytes.now) }
+    ensures read { Gives (λ x. (x.0, x.1.now)) result (player_digit left bytes.now) }
     ensures room { IfOk result (λ _. 0 < left) }
 {
     match bytes {
@@ -166,7 +166,7 @@ fn outer_of(alloc: Global, bytes: &[u8]) -> Result<(Tree, &[u8]), Stop>
 
 /// Returns the fault of a mistake and its place.
 fn fault_at(mistake: Mistake, at: usize) -> TreeFault
-    ensures { result ≡ fault_of mistake at }
+    ensures { result ≡ mistake_fault mistake at }
 {
     let at = at as u64;
     match mistake {

@@ -5,7 +5,7 @@ use Rattle.std.specs.Prelude.{◌==◌, ◌&&◌, ◌*ℤ◌, All}
 use borrow.Author.Differences.{neg_is}
 use Rattle.gs_model.specs.Sums.{sum_z}
 use Rattle.gs_model.proofs.{Total.{sum_z-mul, sum_z-same_all}, Regroup.{sum_z-pos}, Basics.{not_eq}}
-use Rattle.gs_boards.specs.{Runs.{HasPassed, board_sum, level_sum, lost_by, number_at, outcome_at, paid_by, won_by, worth_at}, declared.pays.Pays.{Pays}}
+use Rattle.gs_boards.specs.{Runs.{HasPassed, board_sum, level_sum, lost_by, number_at, outcome_at, paid_by, won_by, place_worth}, declared.pays.Pays.{Pays}}
 use Rattle.gs_boards.specs.{declared.pays.Pays.TheVariants.{Fixed, Showdown}, declared.place.Place.{Place}, declared.running.Running.{Running}}
 use Rattle.gs_boards.proofs.Runs.{both_add}
 
@@ -114,8 +114,8 @@ weaker chips numbers p q weak = settled chips numbers p q (pos (chips * p.win)) 
     (λ b s. ap (λ o. pos (number_at numbers q) *ℤ (pos chips *ℤ o)) (wins p q (omega (arith, weak b, s))) ∙ won_of chips (number_at numbers q) p.win)
 
 stronger : (chips : ℕ) (numbers : List ℕ) (p q : Place) → (q.board ≡ p.board → p.strength ≤ q.strength)
-    → cond (q.board == p.board) (shown chips numbers p q) (pos 0) ≡ neg_ℤ (pos chips) *ℤ pos (apart (worth_at (Showdown chips) numbers) p q)
-stronger chips numbers p q strong = settled chips numbers p q (neg_ℤ (pos chips)) (worth_at (Showdown chips) numbers)
+    → cond (q.board == p.board) (shown chips numbers p q) (pos 0) ≡ neg_ℤ (pos chips) *ℤ pos (apart (place_worth (Showdown chips) numbers) p q)
+stronger chips numbers p q strong = settled chips numbers p q (neg_ℤ (pos chips)) (place_worth (Showdown chips) numbers)
     (λ b s. ap (λ o. pos (number_at numbers q) *ℤ (pos chips *ℤ o)) (loses p q (omega (arith, strong b, s))) ∙ lost_of chips (number_at numbers q) q.win)
 
 -- ---- all that a walk has passed
@@ -139,12 +139,12 @@ won_is (Showdown chips) numbers qs r p h b s weak =
     (λ i d l. weaker chips numbers p (get_or qs i d) (weak i d l)))
 
 -- what a place is paid by places that are no weaker on its board
-pub lost_is : (pays : Pays) (numbers : List ℕ) (qs : List Place) (r : Running) (p : Place) → HasPassed (worth_at pays numbers) qs r → r.board ≡ p.board
+pub lost_is : (pays : Pays) (numbers : List ℕ) (qs : List Place) (r : Running) (p : Place) → HasPassed (place_worth pays numbers) qs r → r.board ≡ p.board
     → r.strength ≡ p.strength
     → All (λ q. q.board ≡ p.board → p.strength ≤ q.strength) qs → lost_by pays r ≡ paid_by pays numbers p qs
 lost_is (Fixed stake) numbers qs r p h b s strong = sym (fixed_all stake numbers qs r p h b)
 lost_is (Showdown chips) numbers qs r p h b s strong =
-    ap (λ n. neg_ℤ (pos (chips * n))) (sym (apart_is (worth_at (Showdown chips) numbers) qs r p h b s))
-    ∙ sym (neg_times chips (sum_by (apart (worth_at (Showdown chips) numbers) p) qs))
-    ∙ sym (multiples (neg_ℤ (pos chips)) (λ q. cond (q.board == p.board) (shown chips numbers p q) (pos 0)) (apart (worth_at (Showdown chips) numbers) p) qs
+    ap (λ n. neg_ℤ (pos (chips * n))) (sym (apart_is (place_worth (Showdown chips) numbers) qs r p h b s))
+    ∙ sym (neg_times chips (sum_by (apart (place_worth (Showdown chips) numbers) p) qs))
+    ∙ sym (multiples (neg_ℤ (pos chips)) (λ q. cond (q.board == p.board) (shown chips numbers p q) (pos 0)) (apart (place_worth (Showdown chips) numbers) p) qs
     (λ i d l. stronger chips numbers p (get_or qs i d) (strong i d l)))

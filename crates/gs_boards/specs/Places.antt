@@ -18,5 +18,5 @@ AreApart places = (i j : ℕ) (d : Place) → i < j → j < length places → (s
 -- ---- of private functions
 
 -- the board and the strength of a place as one number
-abbrev pub rank_of : Place → ℕ
-rank_of p = p.board * 2 ^ 32 + p.strength
+abbrev pub place_rank : Place → ℕ
+place_rank p = p.board * 2 ^ 32 + p.strength

@@ -48,8 +48,8 @@ worth_of (Fixed stake) q number = number
 worth_of (Showdown chips) q number = number * q.win
 
 -- what a place counts for the places before it, from the numbers of the signals
-abbrev pub worth_at : Pays → List ℕ → Place → ℕ
-worth_at pays numbers q = worth_of pays q (number_at numbers q)
+abbrev pub place_worth : Pays → List ℕ → Place → ℕ
+place_worth pays numbers q = worth_of pays q (number_at numbers q)
 
 -- what a place is paid by what was passed before it: at a showdown by the weaker places of its board, at a fold by all of them
 abbrev pub won_by : Pays → Place → Running → ℤ

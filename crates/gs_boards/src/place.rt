@@ -25,11 +25,11 @@ pub(crate) struct Place {
 
 impl Place {
     ghost use Rattle.std.specs.Prelude.{◌≡◌};
-    ghost use Rattle.gs_boards.specs.Places.{rank_of};
+    ghost use Rattle.gs_boards.specs.Places.{place_rank};
 
     // Returns the board and the strength as one number, so that places are compared in one step.
     fn rank(self) -> u64
-        ensures { result ≡ rank_of self }
+        ensures { result ≡ place_rank self }
     {
         u64::from(self.board) * BOARD + u64::from(self.strength)
     }

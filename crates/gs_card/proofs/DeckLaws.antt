@@ -3,7 +3,7 @@ use Rattle.std.proofs.Common.{◌≡◌, ◌≢◌, ℕ, ◌-◌, ◌*◌, ◌<�
 use Rattle.std.proofs.{lemmas.List.{length-map, length-replicate}, lemmas.List.Elements.{All-map, All-replicate}, lemmas.List.Sums.{AllPass-from_list_all}}
 use Rattle.std.proofs.lemmas.Bool.{or_parts, and_parts, not-false, eqb-false, eqb-true, ltb-false, ne_eqb, leb-true}
 use Rattle.std.specs.{List.{list_all}, Char.{is_ascii_alphanumeric, is_ascii_digit}}
-use Rattle.gs_card.specs.{Decks.{IsDeck, repeats, counts_of, deck_of}, DeckFaults.{fault_of}, declared.faults.DeckFault.{DeckFault}}
+use Rattle.gs_card.specs.{Decks.{IsDeck, repeats, counts_of, deck_of_texts}, DeckFaults.{fault_of}, declared.faults.DeckFault.{DeckFault}}
 use Rattle.gs_card.specs.declared.faults.DeckFault.TheVariants.{NoCards, BadLetter, RepeatedLetter, TooManyKinds, BadCopies}
 
 passes : (a b c d e : Bool) (f g h i j : DeckFault) → cond a (Some f) (cond b (Some g) (cond c (Some h) (cond d (Some i) (cond e (Some j) None)))) ≡ None
@@ -68,7 +68,7 @@ one_or_more m n h =
     grind arith
 
 -- texts without a fault make a deck
-pub sound : (ranks suits copies : List ℕ) → fault_of ranks suits copies ≡ None → IsDeck (deck_of ranks suits copies)
+pub sound : (ranks suits copies : List ℕ) → fault_of ranks suits copies ≡ None → IsDeck (deck_of_texts ranks suits copies)
 sound ranks suits copies h =
     let p = faultless ranks suits copies h in
     let letters = and_parts _ _ p.letters in

@@ -37,8 +37,8 @@ counts_of kinds [] = replicate kinds 1
 counts_of kinds (c ∷ cs) = map (λ digit. digit - 48) (c ∷ cs)
 
 -- the deck that three texts give: ranks, suits and copies
-abbrev pub deck_of : List ℕ → List ℕ → List ℕ → DeckValue
-deck_of ranks suits copies = record { ranks = ranks; suits = suits; counts = counts_of (length ranks * length suits) copies }
+abbrev pub deck_of_texts : List ℕ → List ℕ → List ℕ → DeckValue
+deck_of_texts ranks suits copies = record { ranks = ranks; suits = suits; counts = counts_of (length ranks * length suits) copies }
 
 -- the text of a card: the letter of its rank and the letter of its suit
 abbrev pub card_text : DeckValue → ℕ → List ℕ

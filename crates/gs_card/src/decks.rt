@@ -4,7 +4,7 @@ ghost use Rattle.std.specs.Prelude.{◌≡◌, ◌<◌, ◌≤◌, ◌*◌, ◌|
 ghost use Rattle.std.specs.Prelude.{slice_index, nat_lt, ◌==◌, true, false, Some, position, All};
 ghost use Rattle.std.specs.{List.{list_all, range_with_len}, Char.{is_ascii_alphanumeric, is_ascii_digit}};
 ghost use Rattle.gs_model.specs.{Cards.{groups}, Outcome.{rank_of, suit_of}};
-ghost use Rattle.gs_card.specs.{Decks.{DeckValue, IsDeck, IsTextOf, kinds, repeats, counts_of, deck_of, card_text}, Groups.{IsGroup}};
+ghost use Rattle.gs_card.specs.{Decks.{DeckValue, IsDeck, IsTextOf, kinds, repeats, counts_of, deck_of_texts, card_text}, Groups.{IsGroup}};
 ghost use Rattle.gs_card.specs.{Kinds.{HasLetters}, DeckFaults.{fault_of}, declared.faults.DeckFault.TheVariants.{Memory}};
 
 use crate::cards::{Card, Cards};
@@ -135,8 +135,8 @@ impl Deck {
     /// Fails with the first `DeckFault` that applies, or if memory runs out.
     pub fn new(alloc: Global, ranks: &str, suits: &str, copies: &str) -> Result<Deck, DeckFault>
         ensures refused { IfSome (fault_of ranks.now suits.now copies.now) (λ f. result ≡ Err f) }
-        ensures made { IfNone (fault_of ranks.now suits.now copies.now) (MatchResult result (λ deck. deck ≡ deck_of ranks.now suits.now copies.now) (λ f. f
-            ≡ Memory)) }
+        ensures made { IfNone (fault_of ranks.now suits.now copies.now)
+            (MatchResult result (λ deck. deck ≡ deck_of_texts ranks.now suits.now copies.now) (λ f. f ≡ Memory)) }
         ensures deck { IfOk result IsDeck }
     {
         let ranks = ranks.as_bytes();

@@ -3,7 +3,7 @@ use Rattle.std.proofs.{Common.{◌≡◌, ◌≢◌, ℕ, ◌+◌, ◌<◌, ◌�
 use Rattle.std.specs.Prelude.{◌≤ℤ◌, ◌<ℤ◌}
 use Rattle.gs_model.specs.{BestAnswers.{Values, class_worth}, Classes.{ClassLists, IsClass, class_count}}
 use Rattle.gs_model.specs.{Frame.{Frame, leads_to, move_count, player_at, round_of}, Positions.{Target, at_point}}
-use Rattle.gs_certificate.specs.{Numbers.{AreHighAt, IsFirstLowAt, Tells}, Spots.{IsFirstBelow}, Worths.{target_worth}}
+use Rattle.gs_certificate.specs.{Numbers.{AreHighAt, IsFirstLowAt, TellsWhether}, Spots.{IsFirstBelow}, Worths.{target_worth}}
 
 module _ (f : Frame) (lists : ClassLists) (v : Values) (q : ℕ) where
   -- the numbers of the classes up to one are at least what a move to a position is worth
@@ -12,7 +12,7 @@ module _ (f : Frame) (lists : ClassLists) (v : Values) (q : ℕ) where
 
   -- the answer of a test of the next class
   abbrev IsTold : Target → ℕ → Bool → Type 0
-  IsTold t n says = Tells says (v (at_point q) (n + 1) <ℤ target_worth f lists v q t (n + 1)) (target_worth f lists v q t (n + 1) ≤ℤ v (at_point q) (n + 1))
+  IsTold t n says = TellsWhether says (v (at_point q) (n + 1) <ℤ target_worth f lists v q t (n + 1)) (target_worth f lists v q t (n + 1) ≤ℤ v (at_point q) (n + 1))
 
   pub one_above : (t : Target) (n : ℕ) {says : Bool} → AreAbove t n → says ≡ false → IsTold t n says → AreAbove t (n + 1)
   one_above t n h e told c lc le = ⊎_elim

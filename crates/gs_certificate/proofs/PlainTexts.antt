@@ -8,21 +8,21 @@ use mir.Syntax.{w128}
 use mir.Val.{of_z, to_z}
 use Rattle.json.specs.Print.{escape, escape_byte, quoted}
 use Rattle.serde_json.specs.{Written.{comma_if, compact_text, items_text}, View.{items_of}}
-use Rattle.gs_frac.specs.Texts.{fraction_text, is_fraction, is_numeral, number_of, signed}
+use Rattle.gs_frac.specs.Texts.{fraction_text, is_fraction, is_numeral, number_with_sign, signed}
 use Rattle.gs_frac.proofs.{Numerals.{decimal_of_value, digit_value-is}, TextLaws.{with_sign, signed-is}}
-use Rattle.gs_certificate.specs.{Reading.{number_at}, Straight.{AreDigits, StandsFor, opened}}
+use Rattle.gs_certificate.specs.{Reading.{number_in_text}, Straight.{AreDigits, StandsFor, opened}}
 use Rattle.gs_certificate.specs.Texts.{Side, Stated, certificate_data, certificate_text, number_data, side_data}
 use Rattle.gs_certificate.proofs.{Plain.{escaped, fraction_plain, signed_plain}, Small.{by_parts}}
 
 -- ---- one number
 
-signed_text : (negative : Bool) (n : ℕ) → (negative && n == 0) ≡ false → signed_decimal (number_of negative n) ≡ with_sign negative (decimal n)
+signed_text : (negative : Bool) (n : ℕ) → (negative && n == 0) ≡ false → signed_decimal (number_with_sign negative n) ≡ with_sign negative (decimal n)
 signed_text false n h = refl
 signed_text true zero h = absurd (false≢true (sym h))
 signed_text true (suc n) h = refl
 
 -- what is read as a number is the number's text, and the number is small
-pub number_is : (text : List ℕ) (z : ℤ) → number_at text ≡ Some z → (text ≡ signed_decimal z) × (unsigned_abs z < 2 ^ 90)
+pub number_is : (text : List ℕ) (z : ℤ) → number_in_text text ≡ Some z → (text ≡ signed_decimal z) × (unsigned_abs z < 2 ^ 90)
 number_is text z h =
     let s = signed text in
     let n = digits_value 10 s.1 in
@@ -55,7 +55,7 @@ value_more bs i size lt is low high = let d = digit_value-is (get_or bs i 0) low
 -- a sign and few digits are the text of their number
 pub narrow_is : (bytes digits : List ℕ) (negative : Bool) (size count : ℕ) → (negative, digits) ≡ signed bytes → AreDigits digits size count → 0 < count
     → (1 < count → get_or digits 0 0 ≢ 48)
-    → (negative && size == 0) ≡ false → bytes ≡ signed_decimal (number_of negative size) ++ drop count digits
+    → (negative && size == 0) ≡ false → bytes ≡ signed_decimal (number_with_sign negative size) ++ drop count digits
 narrow_is bytes digits negative size count parts h some first no_minus_zero =
     let ds : List ℕ = take count digits in
     let long : length ds ≡ count = length-take-le count digits h.within in
@@ -63,7 +63,7 @@ narrow_is bytes digits negative size count parts h some first no_minus_zero =
     let numeral : is_numeral ds ≡ true = numeral_is ds h.digits (omega (arith, long, some))
     (λ more. subst (λ (x : ℕ). x ≢ 48) (sym front) (first (omega (arith, long, more)))) in
     let text : decimal size ≡ ds = ap decimal h.value ∙ decimal_of_value ds numeral (omega (arith, h.value, h.few)) in
-    let shown : signed_decimal (number_of negative size) ≡ with_sign negative ds = signed_text negative size no_minus_zero ∙ ap (with_sign negative) text in
+    let shown : signed_decimal (number_with_sign negative size) ≡ with_sign negative ds = signed_text negative size no_minus_zero ∙ ap (with_sign negative) text in
     let split : with_sign negative digits ≡ with_sign negative ds ++ drop count digits =
     ap (with_sign negative) (sym (take-append-drop count digits)) ∙ before negative ds (drop count digits) in
     signed-is bytes ∙ ap (λ (p : Bool × List ℕ). with_sign p.0 p.1) (sym parts) ∙ split ∙ ap (λ (q : List ℕ). q ++ drop count digits) (sym shown)

@@ -3,7 +3,7 @@ use Rattle.std.proofs.{Common.{◌≡◌, ℕ, ◌*◌, ◌<◌, ◌≤◌, ◌^
 use Rattle.std.proofs.{Math.Nat.{mul-le-mul_right}, lemmas.Bool.{cases_Bool}, lemmas.Int.{by_lt_z, ints}}
 use Rattle.std.specs.{Prelude.{ℤ, pos, ◌+ℤ◌, ◌*ℤ◌, ◌≤ℤ◌, ◌<ℤ◌, T}, Int.Signed.{lt_z, lt_z_no, lt_z_yes}}
 use Rattle.gs_model.proofs.Total.{mul-add_right, mul-le}
-use Rattle.gs_certificate.specs.Numbers.{Tells}
+use Rattle.gs_certificate.specs.Numbers.{TellsWhether}
 
 abbrev Q : Bool → Type 0
 Q t = T (not t)
@@ -22,25 +22,25 @@ not_less n number worth some h = by_lt_z number worth
     (λ le. le)
 
 -- what a comparison tells, also of other forms of the two numbers
-less_tells : (a b : ℤ) → Tells (lt_z a b) (a <ℤ b) (b ≤ℤ a)
+less_tells : (a b : ℤ) → TellsWhether (lt_z a b) (a <ℤ b) (b ≤ℤ a)
 less_tells a b = elim (cases_Bool (lt_z a b)) [
-  | inl e ↦ subst (λ t. Tells t (a <ℤ b) (b ≤ℤ a)) (sym e) (lt_z_yes (subst T (sym e) tt))
-  | inr e ↦ subst (λ t. Tells t (a <ℤ b) (b ≤ℤ a)) (sym e) (lt_z_no (subst Q (sym e) tt))
+  | inl e ↦ subst (λ t. TellsWhether t (a <ℤ b) (b ≤ℤ a)) (sym e) (lt_z_yes (subst T (sym e) tt))
+  | inr e ↦ subst (λ t. TellsWhether t (a <ℤ b) (b ≤ℤ a)) (sym e) (lt_z_no (subst Q (sym e) tt))
 ]
 
-tells_so : {A B C D : Type 0} (t : Bool) → (A → B) → (C → D) → Tells t A C → Tells t B D
+tells_so : {A B C D : Type 0} (t : Bool) → (A → B) → (C → D) → TellsWhether t A C → TellsWhether t B D
 tells_so true f g h = f h
 tells_so false f g h = g h
 
-pub tells_same : (t : Bool) (a b x y : ℤ) → a ≡ x → b ≡ y → Tells t (a <ℤ b) (b ≤ℤ a) → Tells t (x <ℤ y) (y ≤ℤ x)
-tells_same t a b x y e h told = subst (λ z. Tells t (x <ℤ z) (z ≤ℤ x)) h (subst (λ z. Tells t (z <ℤ b) (b ≤ℤ z)) e told)
+pub tells_same : (t : Bool) (a b x y : ℤ) → a ≡ x → b ≡ y → TellsWhether t (a <ℤ b) (b ≤ℤ a) → TellsWhether t (x <ℤ y) (y ≤ℤ x)
+tells_same t a b x y e h told = subst (λ z. TellsWhether t (x <ℤ z) (z ≤ℤ x)) h (subst (λ z. TellsWhether t (z <ℤ b) (b ≤ℤ z)) e told)
 
-pub compared : (a b x y : ℤ) → a ≡ x → b ≡ y → Tells (lt_z a b) (x <ℤ y) (y ≤ℤ x)
+pub compared : (a b x y : ℤ) → a ≡ x → b ≡ y → TellsWhether (lt_z a b) (x <ℤ y) (y ≤ℤ x)
 compared a b x y e h = tells_same (lt_z a b) a b x y e h (less_tells a b)
 
 -- so many times a number beside so many equal shares
 pub share_tells : (n : ℕ) (number worth product together : ℤ) → 0 < n → product ≡ pos n *ℤ number → together ≡ worth *ℤ pos n
-    → Tells (lt_z product together) (number <ℤ worth) (worth ≤ℤ number)
+    → TellsWhether (lt_z product together) (number <ℤ worth) (worth ≤ℤ number)
 share_tells n number worth product together some is share =
     tells_so (lt_z product together) (less n number worth) (not_less n number worth some) (compared product together _ _ is (share ∙ *ℤ_comm worth (pos n)))
 

@@ -13,5 +13,5 @@ pub record AreKept (f : Frame) (lists : ClassLists) (player : ℕ) (y : Plan) (c
       → get_or sums (get_or starts z 0 + (c - 1)) (pos 0) ≡ end_sum f lists player y z c
 
 -- the kept sums are what all ends pay a player against the other's plan y over classes
-abbrev pub ArePaid : Frame → ClassLists → ℕ → Plan → EndSums → Type 0
-ArePaid f lists player y e = AreKept f lists player y (end_count f) e.starts.items e.sums.items
+abbrev pub AreSumsPaid : Frame → ClassLists → ℕ → Plan → EndSums → Type 0
+AreSumsPaid f lists player y e = AreKept f lists player y (end_count f) e.starts.items e.sums.items

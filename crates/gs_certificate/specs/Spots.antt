@@ -15,9 +15,9 @@ pub record IsSpot (f : Frame) (lists : ClassLists) (s : Spot) : Type 0 where
   pub start : s.start ≡ start_of f lists s.point
 
 -- the place of a point's first number, and 0 for an end
-abbrev pub place_of : Frame → ClassLists → Target → ℕ
-place_of f lists (at_point q) = start_of f lists q
-place_of f lists (at_end z) = 0
+abbrev pub first_place_of : Frame → ClassLists → Target → ℕ
+first_place_of f lists (at_point q) = start_of f lists q
+first_place_of f lists (at_end z) = 0
 
 -- a position of the game, its round, which is not before that of point q, and its place
 pub record IsWay (f : Frame) (lists : ClassLists) (q : ℕ) (w : Way) : Type 0 where
@@ -25,7 +25,7 @@ pub record IsWay (f : Frame) (lists : ClassLists) (q : ℕ) (w : Way) : Type 0 w
   pub round : w.round ≡ round_of f (target_of w.to)
   pub onward : round_of f (at_point q) ≤ w.round
   pub top : w.round ≤ last_round f
-  pub place : w.place ≡ place_of f lists (target_of w.to)
+  pub place : w.place ≡ first_place_of f lists (target_of w.to)
 
 -- where the first `count` moves of a point lead; the list has 26 places
 pub record AreWays (f : Frame) (lists : ClassLists) (q count : ℕ) (ways : List Way) : Type 0 where

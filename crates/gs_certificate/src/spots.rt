@@ -3,7 +3,7 @@
 ghost use Rattle.std.specs.Prelude.{◌≡◌, ◌<◌};
 ghost use Rattle.gs_game.specs.Seen.{target_of};
 ghost use Rattle.gs_model.specs.Frame.{leads_to, move_count, point_count};
-ghost use Rattle.gs_seq.specs.Abstracts.{frame_of, lists_of};
+ghost use Rattle.gs_seq.specs.Abstracts.{abstract_frame, lists_of};
 ghost use Rattle.gs_best.specs.Tables.{start_of};
 ghost use Rattle.gs_certificate.specs.Spots.{AreWays, IsSpot, IsWay};
 
@@ -14,9 +14,9 @@ use gs_game::Target;
 
 /// Returns a point whose first number is at place `start`.
 pub(crate) fn spot_at(side: &Deviator<'_>, point: u32, start: u32) -> Spot
-    requires point { point < point_count (frame_of side.now.form.now) }
-    requires start { start ≡ start_of (frame_of side.now.form.now) (lists_of side.now.form.now) point }
-    ensures spot { IsSpot (frame_of side.now.form.now) (lists_of side.now.form.now) result }
+    requires point { point < point_count (abstract_frame side.now.form.now) }
+    requires start { start ≡ start_of (abstract_frame side.now.form.now) (lists_of side.now.form.now) point }
+    ensures spot { IsSpot (abstract_frame side.now.form.now) (lists_of side.now.form.now) result }
     ensures point { result.point ≡ point }
 {
     Spot {
@@ -28,10 +28,10 @@ pub(crate) fn spot_at(side: &Deviator<'_>, point: u32, start: u32) -> Spot
 
 /// Returns where a move of a point leads.
 pub(crate) fn way_at(side: &Deviator<'_>, spot: Spot, choice: u8) -> Way
-    requires spot { IsSpot (frame_of side.now.form.now) (lists_of side.now.form.now) spot }
-    requires choice { choice < move_count (frame_of side.now.form.now) spot.point }
-    ensures way { IsWay (frame_of side.now.form.now) (lists_of side.now.form.now) spot.point result }
-    ensures leads { target_of result.to ≡ leads_to (frame_of side.now.form.now) spot.point choice }
+    requires spot { IsSpot (abstract_frame side.now.form.now) (lists_of side.now.form.now) spot }
+    requires choice { choice < move_count (abstract_frame side.now.form.now) spot.point }
+    ensures way { IsWay (abstract_frame side.now.form.now) (lists_of side.now.form.now) spot.point result }
+    ensures leads { target_of result.to ≡ leads_to (abstract_frame side.now.form.now) spot.point choice }
 {
     let to = target_at(side.form, spot.point, choice);
     match to {
@@ -51,8 +51,9 @@ pub(crate) fn way_at(side: &Deviator<'_>, spot: Spot, choice: u8) -> Way
 /// Returns where each move of a point leads.
 #[inline(always)]
 pub(crate) fn ways_at(side: &Deviator<'_>, spot: Spot) -> [Way; 26]
-    requires { IsSpot (frame_of side.now.form.now) (lists_of side.now.form.now) spot }
-    ensures { AreWays (frame_of side.now.form.now) (lists_of side.now.form.now) spot.point (move_count (frame_of side.now.form.now) spot.point) result }
+    requires { IsSpot (abstract_frame side.now.form.now) (lists_of side.now.form.now) spot }
+    ensures { AreWays (abstract_frame side.now.form.now) (lists_of side.now.form.now) spot.point
+        (move_count (abstract_frame side.now.form.now) spot.point) result }
 {
     let nowhere = Way {
         to: Target::Point(0),

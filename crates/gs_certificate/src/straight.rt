@@ -4,7 +4,7 @@
 //! certificate without numbers.
 
 ghost use Rattle.std.specs.{Prelude.{◌≡◌, ◌≢◌, ◌++◌, ◌<◌, ◌≤◌, ◌^◌, All, IfOk, IfSome, get_or, length, true, unsigned_abs}, Fmt.{signed_decimal}};
-ghost use Rattle.gs_frac.specs.Texts.{fraction_text, number_of};
+ghost use Rattle.gs_frac.specs.Texts.{fraction_text, number_with_sign};
 ghost use Rattle.serde_json.specs.Written.{compact_text};
 ghost use Rattle.gs_certificate.specs.{Checks.{AreSmall}, Straight.{AreDigits, StandsFor}, Texts.{certificate_text as text_of, side_data}};
 ghost use Rattle.gs_certificate.specs.Views.{certificate_view, fraction_parts};
@@ -88,7 +88,7 @@ fn is_plain(digits: &[u8], count: usize) -> bool
 /// Returns a whole number of at most 18 digits, from its sign and size.
 fn narrow_number(negative: bool, size: u64) -> i128
     requires { size < 10 ^ 18 }
-    ensures { result ≡ number_of negative size }
+    ensures { result ≡ number_with_sign negative size }
 {
     if negative {
         i128::from(-(size as i64))

@@ -2,9 +2,9 @@
 
 ghost use Rattle.std.specs.Prelude.{◌≡◌, ◌<◌, IfOk, length};
 ghost use Rattle.gs_model.specs.{Classes.{IsClass}, Frame.{end_count, round_of}, Payoff.{raw_payoff}, Positions.{at_end}};
-ghost use Rattle.gs_seq.specs.{Abstracts.{frame_of, lists_of}, Payoffs.{end_sum, payoff_at}, Plans.{IsPlanOf, class_plan, lifted}};
+ghost use Rattle.gs_seq.specs.{Abstracts.{abstract_frame, lists_of}, Payoffs.{end_sum, payoff_at}, Plans.{IsPlanOf, class_plan, lifted}};
 ghost use Rattle.gs_best.specs.Sizes.{IsWide};
-ghost use Rattle.gs_certificate.specs.{Claims.{IsClaim, frame_in, lists_in}, Paid.{ArePaid}};
+ghost use Rattle.gs_certificate.specs.{Claims.{IsClaim, claim_frame, claim_lists}, Paid.{AreSumsPaid}};
 
 use crate::claim::Claim;
 use gs_best::{Deviator, class_total, end_round, end_total, widest};
@@ -25,10 +25,10 @@ fn sums_in(
     row: &mut [i128],
     numbers: &mut [u64],
 ) -> Result<EndSums, AllocError>
-    requires row { IsWide (frame_of side.now.form.now) (lists_of side.now.form.now) (length row.old) }
-    requires wide { IsWide (frame_of side.now.form.now) (lists_of side.now.form.now) (length numbers.old) }
-    ensures { let f = frame_of side.now.form.now in let lists = lists_of side.now.form.now in
-        IfOk result (ArePaid f lists side.now.player (class_plan f lists side.now.other.now)) }
+    requires row { IsWide (abstract_frame side.now.form.now) (lists_of side.now.form.now) (length row.old) }
+    requires wide { IsWide (abstract_frame side.now.form.now) (lists_of side.now.form.now) (length numbers.old) }
+    ensures { let f = abstract_frame side.now.form.now in let lists = lists_of side.now.form.now in
+        IfOk result (AreSumsPaid f lists side.now.player (class_plan f lists side.now.other.now)) }
 {
     let ends = end_total(side.form);
     let mut starts = Vec::with_capacity(alloc, ends as usize)?;
@@ -45,8 +45,8 @@ fn sums_in(
 
 /// Returns what all ends pay a player against the other's plan.
 pub(crate) fn sums_of(alloc: Global, side: &Deviator<'_>) -> Result<EndSums, AllocError>
-    ensures { let f = frame_of side.now.form.now in let lists = lists_of side.now.form.now in
-        IfOk result (ArePaid f lists side.now.player (class_plan f lists side.now.other.now)) }
+    ensures { let f = abstract_frame side.now.form.now in let lists = lists_of side.now.form.now in
+        IfOk result (AreSumsPaid f lists side.now.player (class_plan f lists side.now.other.now)) }
 {
     let wide = widest(side.form) as usize;
     let mut row = vec![in alloc; 0i128; wide]?;
@@ -56,11 +56,11 @@ pub(crate) fn sums_of(alloc: Global, side: &Deviator<'_>) -> Result<EndSums, All
 
 /// Returns what an end pays the members of a class of its round together, from the kept sums.
 fn kept_at(side: &Deviator<'_>, ends: &EndSums, end: u32, class: u32) -> i128
-    requires ends { let f = frame_of side.now.form.now in let lists = lists_of side.now.form.now in
-        ArePaid f lists side.now.player (class_plan f lists side.now.other.now) ends.now }
-    requires end { end < end_count (frame_of side.now.form.now) }
-    requires class { IsClass (lists_of side.now.form.now) (round_of (frame_of side.now.form.now) (at_end end)) class }
-    ensures { let f = frame_of side.now.form.now in let lists = lists_of side.now.form.now in
+    requires ends { let f = abstract_frame side.now.form.now in let lists = lists_of side.now.form.now in
+        AreSumsPaid f lists side.now.player (class_plan f lists side.now.other.now) ends.now }
+    requires end { end < end_count (abstract_frame side.now.form.now) }
+    requires class { IsClass (lists_of side.now.form.now) (round_of (abstract_frame side.now.form.now) (at_end end)) class }
+    ensures { let f = abstract_frame side.now.form.now in let lists = lists_of side.now.form.now in
         result ≡ end_sum f lists side.now.player (class_plan f lists side.now.other.now) end class }
 {
     ends.sums[ends.starts[end as usize] + class as usize - 1]
@@ -69,9 +69,9 @@ fn kept_at(side: &Deviator<'_>, ends: &EndSums, end: u32, class: u32) -> i128
 /// Returns what an end pays the members of a class of its round together: read if it is kept, else added up.
 pub(crate) fn paid_at(claim: &Claim<'_>, end: u32, class: u32) -> i128
     requires claim { IsClaim claim.now }
-    requires end { end < end_count (frame_in claim.now) }
-    requires class { IsClass (lists_in claim.now) (round_of (frame_in claim.now) (at_end end)) class }
-    ensures { let f = frame_in claim.now in let lists = lists_in claim.now in let side = claim.now.side.now in
+    requires end { end < end_count (claim_frame claim.now) }
+    requires class { IsClass (claim_lists claim.now) (round_of (claim_frame claim.now) (at_end end)) class }
+    ensures { let f = claim_frame claim.now in let lists = claim_lists claim.now in let side = claim.now.side.now in
         result ≡ end_sum f lists side.player (class_plan f lists side.other.now) end class }
 {
     let side = claim.side;
@@ -84,11 +84,11 @@ pub(crate) fn paid_at(claim: &Claim<'_>, end: u32, class: u32) -> i128
 /// Returns what plan `x` of player 1 and the other's plan pay player 1 at an end, by what the end pays player 1's classes.
 fn end_paid(first: &Deviator<'_>, x: &Plan, ends: &EndSums, end: u32) -> i128
     requires first { first.now.player ≡ 1 }
-    requires x { IsPlanOf (frame_of first.now.form.now) (lists_of first.now.form.now) 1 x.now }
-    requires ends { let f = frame_of first.now.form.now in let lists = lists_of first.now.form.now in
-        ArePaid f lists first.now.player (class_plan f lists first.now.other.now) ends.now }
-    requires end { end < end_count (frame_of first.now.form.now) }
-    ensures { let f = frame_of first.now.form.now in let lists = lists_of first.now.form.now in
+    requires x { IsPlanOf (abstract_frame first.now.form.now) (lists_of first.now.form.now) 1 x.now }
+    requires ends { let f = abstract_frame first.now.form.now in let lists = lists_of first.now.form.now in
+        AreSumsPaid f lists first.now.player (class_plan f lists first.now.other.now) ends.now }
+    requires end { end < end_count (abstract_frame first.now.form.now) }
+    ensures { let f = abstract_frame first.now.form.now in let lists = lists_of first.now.form.now in
         result ≡ payoff_at f lists (class_plan f lists x.now) (class_plan f lists first.now.other.now) end }
 {
     let mut sum = 0i128;
@@ -102,10 +102,10 @@ fn end_paid(first: &Deviator<'_>, x: &Plan, ends: &EndSums, end: u32) -> i128
 /// Returns what plan `x` of player 1 and the other's plan pay player 1, by what ends pay player 1's classes.
 pub(crate) fn plans_pay(first: &Deviator<'_>, x: &Plan, ends: &EndSums) -> i128
     requires first { first.now.player ≡ 1 }
-    requires x { IsPlanOf (frame_of first.now.form.now) (lists_of first.now.form.now) 1 x.now }
-    requires ends { let f = frame_of first.now.form.now in let lists = lists_of first.now.form.now in
-        ArePaid f lists first.now.player (class_plan f lists first.now.other.now) ends.now }
-    ensures { let f = frame_of first.now.form.now in let lists = lists_of first.now.form.now in
+    requires x { IsPlanOf (abstract_frame first.now.form.now) (lists_of first.now.form.now) 1 x.now }
+    requires ends { let f = abstract_frame first.now.form.now in let lists = lists_of first.now.form.now in
+        AreSumsPaid f lists first.now.player (class_plan f lists first.now.other.now) ends.now }
+    ensures { let f = abstract_frame first.now.form.now in let lists = lists_of first.now.form.now in
         result ≡ raw_payoff f (lifted f lists x.now) (lifted f lists first.now.other.now) }
 {
     let mut sum = 0i128;

@@ -13,7 +13,7 @@ use Rattle.gs_model.specs.{Certificate.{IsCertificate}, Classes.{ClassLists}, Fr
 use Rattle.gs_reply.specs.Refusals.{Limit, Sequences, Cells, Table_numbers, Raw_cells, Bad_game, Unlike_pair, Overflows, Many_pivots, Too_large, Bad_strategy, Wrong_number, Bad_query, Other_game, Bad_certificate}
 use Rattle.gs_reply.specs.{Replies.{OfRead, Reply, Prints, Refuses}, Troubles.{Passes}, declared.strategies.Which.TheVariants.{Only}}
 use Rattle.gs_seq.specs.Stops.{IsSmall}
-use Rattle.gs_strategy.specs.{Checks.{ReadResult}, Confirmed.{IsConfirmed, frame_of, raw_plan}, Laws.{IsStrategy}, Texts.{strategy_data, strategy_text}}
+use Rattle.gs_strategy.specs.{Checks.{ReadResult}, Confirmed.{IsConfirmed, strategy_frame, raw_plan}, Laws.{IsStrategy}, Texts.{strategy_data, strategy_text}}
 use Rattle.gs_strategy.specs.Values.{Strategy}
 use Rattle.gs_strategy.proofs.{Only.{only}, Shape.{has_line}}
 use Rattle.gs_certify.specs.{Certificates.{IsCertified}, Verifying.{SaysChecked, SaysVerified, Verifies}}
@@ -59,22 +59,22 @@ held s = Ok s
 clash : (why : CertTextFault) (s : Stated) → refused why ≡ held s → ⊥
 clash why s e = cc
 
-not_large : (s : Strategy) (limit : Limit) → IsSmall (frame_of s) s.classes → Passes s.game s.classes limit → ⊥
+not_large : (s : Strategy) (limit : Limit) → IsSmall (strategy_frame s) s.classes → Passes s.game s.classes limit → ⊥
 not_large s (Sequences player count) small (inl over) = omega (arith, small.sequences.one, over.1, over.2)
 not_large s (Sequences player count) small (inr over) = omega (arith, small.sequences.two, over.1.1, over.1.2)
 not_large s (Cells count) small h = omega (arith, small.cells, h.1, h.2)
 not_large s (Table_numbers count) small h = h
 not_large s (Raw_cells count) small h = h
 
-module _ (s : Strategy) (c d : Certificate) (confirmed : IsConfirmed s) (sound : IsSound (frame_of s) s.classes (raw_plan s s.one) (raw_plan s s.two) c)
+module _ (s : Strategy) (c d : Certificate) (confirmed : IsConfirmed s) (sound : IsSound (strategy_frame s) s.classes (raw_plan s s.one) (raw_plan s s.two) c)
     (same : certificate_view c ≡ certificate_view d) where
   printed_only : (reply : Reply) → SaysChecked s d reply → IsPrinted reply
   printed_only (Prints text) h = (text, refl)
   printed_only (Refuses (Unlike_pair round one two)) h = absurd (h.not_lossless confirmed.lossless)
   printed_only (Refuses (Too_large limit)) h = absurd (not_large s limit confirmed.small h.passed)
   printed_only (Refuses (Bad_certificate text)) h =
-      absurd (faults_exclude (frame_of s) s.classes (raw_plan s s.one) (raw_plan s s.two) d h.why
-      (same_sound (frame_of s) s.classes (raw_plan s s.one) (raw_plan s s.two) c d same sound) h.fault)
+      absurd (faults_exclude (strategy_frame s) s.classes (raw_plan s s.one) (raw_plan s s.two) d h.why
+      (same_sound (strategy_frame s) s.classes (raw_plan s s.one) (raw_plan s s.two) c d same sound) h.fault)
   printed_only (Refuses (Bad_game why)) h = absurd h
   printed_only (Refuses (Overflows at)) h = absurd h
   printed_only (Refuses Many_pivots) h = absurd h
@@ -84,7 +84,7 @@ module _ (s : Strategy) (c d : Certificate) (confirmed : IsConfirmed s) (sound :
   printed_only (Refuses Other_game) h = absurd h
 
 second_line : (s : Strategy) (c : Certificate) (reply : Reply) → IsConfirmed s → AreSmall c
-    → IsSound (frame_of s) s.classes (raw_plan s s.one) (raw_plan s s.two) c
+    → IsSound (strategy_frame s) s.classes (raw_plan s s.one) (raw_plan s s.two) c
     → SaysVerified (certificate_text (certificate_view c)) s reply → IsPrinted reply
 second_line s c reply confirmed small sound (inl bad) = absurd (clash bad.why (certificate_view c)
     (certificate_only (certificate_view c) (Err bad.why) (stated c small) bad.reads))

@@ -6,9 +6,9 @@ use Rattle.gs_certificate.specs.Checks.{AreSmall}
 use Rattle.gs_certify.specs.{Certificates.{SaysCertified}, Verifying.{SaysChecked}, declared.task.Task.{Task}, declared.task.Task.TheVariants.{Certify, Verify}}
 
 -- what each command says of a strategy that was read
-abbrev pub says_of : Task → Strategy → Reply → Type 0
-says_of Certify s reply = OfConfirmed SaysCertified s reply
-says_of (Verify c) s reply = SaysChecked s c.now reply
+abbrev pub task_says : Task → Strategy → Reply → Type 0
+task_says Certify s reply = OfConfirmed SaysCertified s reply
+task_says (Verify c) s reply = SaysChecked s c.now reply
 
 -- the numbers of a certificate that is to be checked are below 2^90 in size
 abbrev pub IsModest : Task → Type 0

@@ -1,7 +1,7 @@
 //! The text that `certify` prints.
 
 ghost use Rattle.std.specs.Prelude.{IfOk};
-ghost use Rattle.gs_confirm.specs.Held.{Holds};
+ghost use Rattle.gs_confirm.specs.Held.{HoldsStrategy};
 ghost use Rattle.gs_strategy.specs.Views.{stored_view};
 ghost use Rattle.gs_certify.specs.Certificates.{IsCertified};
 
@@ -17,7 +17,7 @@ pub(crate) fn certified_text(
     stored: &Stored,
     form: &Abstract,
 ) -> Result<Vec<u8>, AllocError>
-    requires { Holds form.now.lossless.now stored.now }
+    requires { HoldsStrategy form.now.lossless.now stored.now }
     ensures { IfOk result (λ text. IsCertified (stored_view stored.now) text.items) }
 {
     let c = make_certificate(alloc, form, &stored.one, &stored.two)?;

@@ -2,10 +2,10 @@
 
 ghost use Rattle.std.specs.Prelude.{IfOk};
 ghost use Rattle.gs_model.specs.Lossless.{IsLossless};
-ghost use Rattle.gs_strategy.specs.{Confirmed.{frame_of}, Views.{stored_view}};
+ghost use Rattle.gs_strategy.specs.{Confirmed.{strategy_frame}, Views.{stored_view}};
 ghost use Rattle.gs_reply.specs.Replies.{Answers};
-ghost use Rattle.gs_confirm.specs.{Commands.{OfConfirmed}, Held.{Holds, IsFormOf}};
-ghost use Rattle.gs_certify.specs.{Certificates.{SaysCertified}, Tasks.{IsModest, says_of}};
+ghost use Rattle.gs_confirm.specs.{Commands.{OfConfirmed}, Held.{HoldsStrategy, IsFormOf}};
+ghost use Rattle.gs_certify.specs.{Certificates.{SaysCertified}, Tasks.{IsModest, task_says}};
 
 use crate::certifying::certified_text;
 use crate::task::Task;
@@ -20,7 +20,7 @@ use std::alloc::{AllocError, Global};
 
 // Returns the text of a strategy and its certificate.
 fn certified(alloc: Global, stored: &Stored, form: &Abstract) -> Result<Answer, AllocError>
-    requires { Holds form.now.lossless.now stored.now }
+    requires { HoldsStrategy form.now.lossless.now stored.now }
     ensures { IfOk result (Answers (SaysCertified (stored_view stored.now))) }
 {
     let text = certified_text(alloc, stored, form)?;
@@ -45,10 +45,10 @@ fn of_lossless(
     stored: &Stored,
     lossless: &Lossless,
 ) -> Result<Answer, AllocError>
-    requires held { Holds lossless.now stored.now }
-    requires lossless { IsLossless (frame_of (stored_view stored.now)) stored.now.classes.lists }
+    requires held { HoldsStrategy lossless.now stored.now }
+    requires lossless { IsLossless (strategy_frame (stored_view stored.now)) stored.now.classes.lists }
     requires modest { IsModest task.now }
-    ensures { IfOk result (Answers (says_of task.now (stored_view stored.now))) }
+    ensures { IfOk result (Answers (task_says task.now (stored_view stored.now))) }
 {
     match form_of(alloc, stored, lossless)? {
         Ok(form) => match task {
@@ -66,7 +66,7 @@ pub(crate) fn of_strategy(
     stored: &Stored,
 ) -> Result<Answer, AllocError>
     requires { IsModest task.now }
-    ensures { IfOk result (Answers (says_of task.now (stored_view stored.now))) }
+    ensures { IfOk result (Answers (task_says task.now (stored_view stored.now))) }
 {
     let signals = Signals::of(alloc, &stored.game)?;
     match lossless_of(alloc, stored, &signals)? {

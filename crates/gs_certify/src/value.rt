@@ -3,7 +3,7 @@
 ghost use Rattle.std.specs.Prelude.{◌≡◌, ◌*◌, ◌<◌, ◌≤◌, ◌^◌};
 ghost use Rattle.gs_model.specs.{Payoff.{raw_payoff}, Verdict.{IsValue}};
 ghost use Rattle.gs_best.specs.Judged.{parts};
-ghost use Rattle.gs_seq.specs.{Abstracts.{frame_of, lists_of}, Plans.{IsPlanOf, lifted}};
+ghost use Rattle.gs_seq.specs.{Abstracts.{abstract_frame, lists_of}, Plans.{IsPlanOf, lifted}};
 
 use gs_best::{deal_weight, fraction};
 use gs_frac::Fraction;
@@ -24,11 +24,11 @@ fn scale_of(weight: u64, one: u64, two: u64) -> u128
 /// Returns the value of a plan of player 1 and a plan of player 2 to player 1, in chips. This is the payoff `paid` over the weight of all deals times both
 /// totals.
 pub fn value_of(form: &Abstract, one: &Plan, two: &Plan, paid: i128) -> Fraction
-    requires one { IsPlanOf (frame_of form.now) (lists_of form.now) 1 one.now }
-    requires two { IsPlanOf (frame_of form.now) (lists_of form.now) 2 two.now }
-    requires paid { paid ≡ raw_payoff (frame_of form.now) (lifted (frame_of form.now) (lists_of form.now) one.now)
-        (lifted (frame_of form.now) (lists_of form.now) two.now) }
-    ensures { let f = frame_of form.now in let lists = lists_of form.now in
+    requires one { IsPlanOf (abstract_frame form.now) (lists_of form.now) 1 one.now }
+    requires two { IsPlanOf (abstract_frame form.now) (lists_of form.now) 2 two.now }
+    requires paid { paid ≡ raw_payoff (abstract_frame form.now) (lifted (abstract_frame form.now) (lists_of form.now) one.now)
+        (lifted (abstract_frame form.now) (lists_of form.now) two.now) }
+    ensures { let f = abstract_frame form.now in let lists = lists_of form.now in
         IsValue f (lifted f lists one.now) (lifted f lists two.now) (parts result).0 (parts result).1 }
 {
     let scale = scale_of(deal_weight(form), one.total, two.total);

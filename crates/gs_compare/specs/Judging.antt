@@ -5,29 +5,30 @@ use Rattle.gs_card.specs.Decks.{DeckValue}
 use Rattle.gs_frac.specs.Texts.{number_line}
 use Rattle.gs_model.specs.{Frame.{signal_count}, Game.{Game}, Payoff.{IsHandValue}, Plans.{Plan}, Signals.{signal_at}, Verdict.{IsJudgedVerdict}}
 use Rattle.gs_seq.specs.Slots.{plan_of}
-use Rattle.gs_strategy.specs.{Confirmed.{frame_of, over, raw_plan}, Values.{IsFractionOf, Numbers, FractionParts, Strategy, Weights}}
+use Rattle.gs_strategy.specs.{Confirmed.{strategy_frame, over, raw_plan}, Values.{IsFractionOf, Numbers, FractionParts, Strategy, Weights}}
 use Rattle.gs_tree.specs.Texts.{signal_text}
 
 -- the weights as a plan over the strategy's classes
 abbrev pub plan_in : Strategy → Weights → Plan
-plan_in s w = plan_of (frame_of s) s.classes w.total w.weights
+plan_in s w = plan_of (strategy_frame s) s.classes w.total w.weights
 
 -- reduced fractions that are the value of the two plans, and what each player could still gain by any raw plan
 pub record AreJudged (one two : Strategy) (n : Numbers) : Type 0 where
   pub value : IsFractionOf n.value
   pub gap1 : IsFractionOf n.gap1
   pub gap2 : IsFractionOf n.gap2
-  pub verdict : IsJudgedVerdict (frame_of one) one.classes (plan_in one one.one) two.classes (plan_in two two.two) (over n.value) (over n.gap1) (over n.gap2)
+  pub verdict : IsJudgedVerdict (strategy_frame one) one.classes (plan_in one one.one) two.classes (plan_in two two.two)
+      (over n.value) (over n.gap1) (over n.gap2)
 
 -- the reduced fraction is the value of a raw signal of round 1 to player 1
-pub record IsHand (one two : Strategy) (signal : ℕ) (p : FractionParts) : Type 0 where
+pub record IsHandFraction (one two : Strategy) (signal : ℕ) (p : FractionParts) : Type 0 where
   pub reduced : IsFractionOf p
-  pub value : IsHandValue (frame_of one) (raw_plan one one.one) (raw_plan two two.two) signal (over p).0 (over p).1
+  pub value : IsHandValue (strategy_frame one) (raw_plan one one.one) (raw_plan two two.two) signal (over p).0 (over p).1
 
 -- the values of all raw signals of round 1, in order
-pub record AreHands (one two : Strategy) (hands : List FractionParts) : Type 0 where
-  pub long : length hands ≡ signal_count (frame_of one) 1
-  pub each : (signal : ℕ) (d : FractionParts) → signal < signal_count (frame_of one) 1 → IsHand one two signal (get_or hands signal d)
+pub record AreHandValues (one two : Strategy) (hands : List FractionParts) : Type 0 where
+  pub long : length hands ≡ signal_count (strategy_frame one) 1
+  pub each : (signal : ℕ) (d : FractionParts) → signal < signal_count (strategy_frame one) 1 → IsHandFraction one two signal (get_or hands signal d)
 
 -- the line of a raw signal of round 1: its text and its value
 abbrev pub hand_line : DeckValue → Game → ℕ → FractionParts → List ℕ

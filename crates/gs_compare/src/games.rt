@@ -4,7 +4,7 @@ ghost use Rattle.std.specs.Prelude.{◌≡◌, ◌↔◌, IfOk, IsTrue, map};
 ghost use Rattle.gs_bet.specs.TreeView.{plain};
 ghost use Rattle.gs_card.specs.Rankings.{ranking_of};
 ghost use Rattle.gs_file.specs.Views.{valid_view};
-ghost use Rattle.gs_game.specs.Games.{round_of};
+ghost use Rattle.gs_game.specs.Games.{round_rules};
 
 use gs_bet::{BetTree, tree_text};
 use gs_card::{Deck, Ranking};
@@ -22,7 +22,7 @@ fn same_tree(alloc: Global, one: &BetTree, two: &BetTree) -> Result<bool, AllocE
 
 // Returns whether two rounds are equal.
 fn same_round(alloc: Global, one: &Round, two: &Round) -> Result<bool, AllocError>
-    ensures { IfOk result (λ b. IsTrue b ↔ (round_of one.now ≡ round_of two.now)) }
+    ensures { IfOk result (λ b. IsTrue b ↔ (round_rules one.now ≡ round_rules two.now)) }
 {
     if one.private != two.private || one.public != two.public {
         return Ok(false);
@@ -32,7 +32,7 @@ fn same_round(alloc: Global, one: &Round, two: &Round) -> Result<bool, AllocErro
 
 // Returns whether two lists of rounds are equal.
 fn same_rounds(alloc: Global, one: &[Round], two: &[Round]) -> Result<bool, AllocError>
-    ensures { IfOk result (λ b. IsTrue b ↔ (map round_of one.now ≡ map round_of two.now)) }
+    ensures { IfOk result (λ b. IsTrue b ↔ (map round_rules one.now ≡ map round_rules two.now)) }
 {
     if one.len() != two.len() {
         return Ok(false);

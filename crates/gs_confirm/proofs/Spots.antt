@@ -7,20 +7,20 @@ use Rattle.gs_lift.specs.{declared.fault.QueryFault.{QueryFault}, declared.fault
 use Rattle.gs_tree.specs.declared.signals.Signals.{Signals}
 use Rattle.gs_confirm.specs.Queries.{IsBadQuery, NamesOwnPoint, NamesSignal, NamesSomeSignal}
 
-own_is : (s : Signals) (player : ℕ) (line : List ℕ) (q : ℕ) → lift.NamesOwnPoint s.game.now player line q
+own_is : (s : Signals) (player : ℕ) (line : List ℕ) (q : ℕ) → lift.IsLineOfOwnPoint s.game.now player line q
     → NamesOwnPoint (valid_view s.game.now) player line q
 own_is s player line q h = record { in_range = h.in_range; named = h.named; own = h.own }
 
-signal_is : (s : Signals) (round : ℕ) (text : List ℕ) (i : ℕ) → lift.NamesSignal s round text i → NamesSignal (valid_view s.game.now) round text i
+signal_is : (s : Signals) (round : ℕ) (text : List ℕ) (i : ℕ) → lift.IsTextOfSignal s round text i → NamesSignal (valid_view s.game.now) round text i
 signal_is s round text i h = record { in_range = h.in_range; named = h.named }
 
-signal_back : (s : Signals) (round : ℕ) (text : List ℕ) (i : ℕ) → NamesSignal (valid_view s.game.now) round text i → lift.NamesSignal s round text i
+signal_back : (s : Signals) (round : ℕ) (text : List ℕ) (i : ℕ) → NamesSignal (valid_view s.game.now) round text i → lift.IsTextOfSignal s round text i
 signal_back s round text i h = record { in_range = h.in_range; named = h.named }
 
-some_is : (s : Signals) (text : List ℕ) → lift.NamesSomeSignal s text → NamesSomeSignal (valid_view s.game.now) text
+some_is : (s : Signals) (text : List ℕ) → lift.IsTextOfSomeSignal s text → NamesSomeSignal (valid_view s.game.now) text
 some_is s text h = (h.0, h.1, h.2, h.3, signal_is s h.0 text h.3 h.4)
 
-some_back : (s : Signals) (text : List ℕ) → NamesSomeSignal (valid_view s.game.now) text → lift.NamesSomeSignal s text
+some_back : (s : Signals) (text : List ℕ) → NamesSomeSignal (valid_view s.game.now) text → lift.IsTextOfSomeSignal s text
 some_back s text h = (h.0, h.1, h.2, h.3, signal_back s h.0 text h.3 h.4)
 
 bad_is : (s : Signals) (player : ℕ) (line text : List ℕ) (why : QueryFault) → lift.IsFaultOf s player line text why

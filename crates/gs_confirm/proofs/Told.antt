@@ -8,8 +8,8 @@ use Rattle.gs_model.specs.{Lossless.{IsLossless}, Verdict.{IsVerdict}}
 use Rattle.gs_reply.proofs.Refused.{answers_more, tells_answer}
 use Rattle.gs_reply.specs.{Refusals.{Unlike_pair, Wrong_number}, Replies.{Answers, Reply, Tells}, Troubles.{SaysLarge, SaysUnlike}}
 use Rattle.gs_reply.specs.declared.answers.Answer.{Answer}
-use Rattle.gs_seq.specs.{Games.{frame_in}, Plans.{lifted}, Stops.{IsSmall, IsStopOf}, declared.stop.SeqStop.{SeqStop}}
-use Rattle.gs_strategy.specs.{Confirmed.{AreNumbersOf, IsConfirmed, frame_of}, Values.{FractionParts, Strategy}, Views.{numbers_of, stored_view}}
+use Rattle.gs_seq.specs.{Games.{frame_in}, Plans.{lifted}, Stops.{IsSmall, IsUsualStop}, declared.stop.SeqStop.{SeqStop}}
+use Rattle.gs_strategy.specs.{Confirmed.{AreNumbersOf, IsConfirmed, strategy_frame}, Values.{FractionParts, Strategy}, Views.{numbers_of, stored_view}}
 use Rattle.gs_strategy.specs.declared.stored.Stored.{Stored}
 use Rattle.gs_confirm.specs.{Commands.{OfConfirmed}, Troubles.{IsFirstWrong, SaysTooLarge, SaysWrong}}
 
@@ -24,13 +24,13 @@ unlike_refused says s a h =
 -- ---- sizes
 
 -- a stop of the game in sequence form is one of the strategy's
-pub stop_is : (s : Stored) (w : ValidGame) (k : Filter) (stop : SeqStop) → w ≡ s.game → k ≡ s.classes → IsStopOf (frame_in w) k.lists stop
-    → IsStopOf (frame_in s.game) s.classes.lists stop
+pub stop_is : (s : Stored) (w : ValidGame) (k : Filter) (stop : SeqStop) → w ≡ s.game → k ≡ s.classes → IsUsualStop (frame_in w) k.lists stop
+    → IsUsualStop (frame_in s.game) s.classes.lists stop
 stop_is s w k stop e f h =
-    let at_game = subst (λ (x : ValidGame). IsStopOf (frame_in x) k.lists stop) e h in
-    subst (λ (x : Filter). IsStopOf (frame_in s.game) x.lists stop) f at_game
+    let at_game = subst (λ (x : ValidGame). IsUsualStop (frame_in x) k.lists stop) e h in
+    subst (λ (x : Filter). IsUsualStop (frame_in s.game) x.lists stop) f at_game
 
-pub large_told : (s : Strategy) (a : Answer) → IsLossless (frame_of s) s.classes → Answers (SaysLarge s.game s.classes) a → Answers (SaysTooLarge s) a
+pub large_told : (s : Strategy) (a : Answer) → IsLossless (strategy_frame s) s.classes → Answers (SaysLarge s.game s.classes) a → Answers (SaysTooLarge s) a
 large_told s a lossless = answers_more (SaysLarge s.game s.classes) (SaysTooLarge s)
     (λ r said. (said.0, record { lossless = lossless; passed = said.1 }, said.2)) a
 
@@ -47,14 +47,14 @@ numbers_are s w k n e f h =
     (parts n.value) (parts n.gap1) (parts n.gap2)) f at_game in
     record { value = n.value.reduced; gap1 = n.gap1.reduced; gap2 = n.gap2.reduced; verdict = at_classes }
 
-pub wrong_told : (s : Stored) (n : Verdict) (name : List ℕ) (stated found : FractionParts) (a : Answer) → IsLossless (frame_of (stored_view s)) s.classes.lists
-    → IsSmall (frame_of (stored_view s)) s.classes.lists
+pub wrong_told : (s : Stored) (n : Verdict) (name : List ℕ) (stated found : FractionParts) (a : Answer) → IsLossless (strategy_frame (stored_view s)) s.classes.lists
+    → IsSmall (strategy_frame (stored_view s)) s.classes.lists
     → AreNumbersOf (stored_view s) (numbers_of n) → IsFirstWrong (numbers_of s.verdict) (numbers_of n) name stated found
     → Tells a (Wrong_number name stated found) → Answers (SaysWrong (stored_view s)) a
 wrong_told s n name stated found a lossless small are first t =
     tells_answer (SaysWrong (stored_view s)) a (Wrong_number name stated found)
     (name, stated, found, record { lossless = lossless; small = small; numbers = numbers_of n; are = are; first = first }, refl) t
 
-pub confirmed : (s : Stored) (n : Verdict) → IsLossless (frame_of (stored_view s)) s.classes.lists → IsSmall (frame_of (stored_view s)) s.classes.lists
+pub confirmed : (s : Stored) (n : Verdict) → IsLossless (strategy_frame (stored_view s)) s.classes.lists → IsSmall (strategy_frame (stored_view s)) s.classes.lists
     → AreNumbersOf (stored_view s) (numbers_of n) → numbers_of s.verdict ≡ numbers_of n → IsConfirmed (stored_view s)
 confirmed s n lossless small are same = record { lossless = lossless; small = small; numbers = subst (AreNumbersOf (stored_view s)) (sym same) are }

@@ -3,11 +3,11 @@ use Rattle.std.specs.Prelude.{◌≡◌, ◌≢◌, ◌⊎◌, ℕ, List, codes}
 use Rattle.gs_model.specs.Lossless.{IsLossless}
 use Rattle.gs_reply.specs.{Replies.{Reply, Refuses}, Refusals.{Limit, Refusal, Unlike_pair, Too_large, Wrong_number}, Troubles.{IsUnlikePair, Passes}}
 use Rattle.gs_seq.specs.Stops.{IsSmall}
-use Rattle.gs_strategy.specs.{Confirmed.{AreNumbersOf, frame_of}, Values.{Numbers, FractionParts, Strategy}}
+use Rattle.gs_strategy.specs.{Confirmed.{AreNumbersOf, strategy_frame}, Values.{Numbers, FractionParts, Strategy}}
 
 -- the classes are lossless, the game is too large, and this is the first limit that it passes
 pub record IsTooLarge (s : Strategy) (limit : Limit) : Type 0 where
-  pub lossless : IsLossless (frame_of s) s.classes
+  pub lossless : IsLossless (strategy_frame s) s.classes
   pub passed : Passes s.game s.classes limit
 
 -- the name of the first of the three stated numbers that differs from the computed one, with both
@@ -20,8 +20,8 @@ IsFirstWrong stated found name one other =
 
 -- the classes are lossless, the game is within the limits, and this is the first stated number that is not that of the plans
 pub record IsWrongNumber (s : Strategy) (name : List ℕ) (stated found : FractionParts) : Type 0 where
-  pub lossless : IsLossless (frame_of s) s.classes
-  pub small : IsSmall (frame_of s) s.classes
+  pub lossless : IsLossless (strategy_frame s) s.classes
+  pub small : IsSmall (strategy_frame s) s.classes
   pub numbers : Numbers
   pub are : AreNumbersOf s numbers
   pub first : IsFirstWrong s.numbers numbers name stated found

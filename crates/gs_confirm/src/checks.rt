@@ -4,9 +4,9 @@ ghost use Rattle.std.specs.Prelude.{◌≡◌, IfErr, IfOk, MatchOption};
 ghost use Rattle.gs_file.specs.Views.{valid_view};
 ghost use Rattle.gs_model.specs.{Frame.{frame_of as rules_frame}, Lossless.{IsLossless}};
 ghost use Rattle.gs_tree.specs.Trees.{rules_of};
-ghost use Rattle.gs_strategy.specs.{Confirmed.{IsConfirmed, frame_of}, Views.{stored_view}};
+ghost use Rattle.gs_strategy.specs.{Confirmed.{IsConfirmed, strategy_frame}, Views.{stored_view}};
 ghost use Rattle.gs_reply.specs.{Replies.{Answers}, Troubles.{SaysUnlike}};
-ghost use Rattle.gs_confirm.specs.{Held.{Holds, IsFormOf}, Troubles.{SaysTooLarge, SaysWrong}};
+ghost use Rattle.gs_confirm.specs.{Held.{HoldsStrategy, IsFormOf}, Troubles.{SaysTooLarge, SaysWrong}};
 
 use crate::numbers::first_wrong;
 use gs_best::{Work, verdict};
@@ -25,8 +25,8 @@ pub fn lossless_of<'a>(
 ) -> Result<Result<Lossless<'a>, Answer>, AllocError>
     requires game { signals.now.game.now ≡ stored.now.game }
     requires parents { stored.now.classes.parents ≡ (rules_frame (rules_of signals.now)).parents }
-    ensures held { IfOk result (λ found. IfOk found (λ l. Holds l stored.entry.now)) }
-    ensures lossless { IfOk result (λ found. IfOk found (λ _. IsLossless (frame_of (stored_view stored.entry.now)) stored.entry.now.classes.lists)) }
+    ensures held { IfOk result (λ found. IfOk found (λ l. HoldsStrategy l stored.entry.now)) }
+    ensures lossless { IfOk result (λ found. IfOk found (λ _. IsLossless (strategy_frame (stored_view stored.entry.now)) stored.entry.now.classes.lists)) }
     ensures unlike { IfOk result (λ found. IfErr found (Answers (SaysUnlike (valid_view stored.entry.now.game) stored.entry.now.classes.lists))) }
 {
     match check(alloc, signals, &stored.classes) {
@@ -41,8 +41,8 @@ pub fn form_of<'a>(
     stored: &Stored,
     lossless: &'a Lossless<'a>,
 ) -> Result<Result<Abstract<'a>, Answer>, AllocError>
-    requires held { Holds lossless.now stored.now }
-    requires lossless { IsLossless (frame_of (stored_view stored.now)) stored.now.classes.lists }
+    requires held { HoldsStrategy lossless.now stored.now }
+    requires lossless { IsLossless (strategy_frame (stored_view stored.now)) stored.now.classes.lists }
     ensures form { IfOk result (λ found. IfOk found (IsFormOf stored.now)) }
     ensures large { IfOk result (λ found. IfErr found (Answers (SaysTooLarge (stored_view stored.now)))) }
 {

@@ -1,8 +1,8 @@
 //! The answers for a confirmed strategy.
 
 ghost use Rattle.std.specs.Prelude.{◌≡◌, ◌<◌, ◌==◌, IfOk, if◌then◌else◌};
-ghost use Rattle.gs_confirm.specs.{Asking.{says_of}, Commands.{SaysUpgraded}, Held.{Holds}, Queries.{IsToldAt}};
-ghost use Rattle.gs_lift.specs.Queries.{IsSpot, signals_of};
+ghost use Rattle.gs_confirm.specs.{Asking.{says_of}, Commands.{SaysUpgraded}, Held.{HoldsStrategy}, Queries.{IsToldAt}};
+ghost use Rattle.gs_lift.specs.Queries.{IsQuerySpot, signals_of};
 ghost use Rattle.gs_reply.specs.Replies.{Answers};
 ghost use Rattle.gs_strategy.specs.Views.{stored_view};
 
@@ -45,8 +45,8 @@ fn told_at(
     form: &Abstract,
     spot: Spot,
 ) -> Result<Vec<u8>, AllocError>
-    requires held { Holds form.now.lossless.now stored.now }
-    requires spot { IsSpot (signals_of form.now) query.now.player query.now.line.now query.now.signal.now spot }
+    requires held { HoldsStrategy form.now.lossless.now stored.now }
+    requires spot { IsQuerySpot (signals_of form.now) query.now.player query.now.line.now query.now.signal.now spot }
     ensures { IfOk result (λ text. IsToldAt (stored_view stored.now) query.now.player spot.point spot.signal text.items) }
 {
     let plan = plan_of(stored, query.player);
@@ -70,7 +70,7 @@ pub fn said(
     stored: &Stored,
     form: &Abstract,
 ) -> Result<Answer, AllocError>
-    requires { Holds form.now.lossless.now stored.now }
+    requires { HoldsStrategy form.now.lossless.now stored.now }
     ensures { IfOk result (Answers (says_of ask.now (stored_view stored.now))) }
 {
     match ask {

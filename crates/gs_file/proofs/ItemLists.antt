@@ -1,9 +1,9 @@
 -- The items of an array as a list of what they are seen as.
 use Rattle.std.proofs.Common.{◌≡◌, List, [], ◌∷◌, map, Ok, refl, ap}
 use Rattle.toml.specs.{Data.{Data}, View.{view, items_view}, declared.value.Value.{Value}}
-use Rattle.gs_file.specs.{declared.fault.Place.{Place}, Tables.{list_of, each, array_in, table_in, whole_number, tables_in, whole_numbers_in}}
+use Rattle.gs_file.specs.{declared.fault.Place.{Place}, Tables.{array_items, each, array_in, table_in, whole_number, tables_in, whole_numbers_in}}
 
-pub list_of-view : (vs : List Value) → list_of (items_view vs) ≡ map view vs
+pub list_of-view : (vs : List Value) → array_items (items_view vs) ≡ map view vs
 list_of-view [] = refl
 list_of-view (v ∷ vs) = ap (λ ds. view v ∷ ds) (list_of-view vs)
 

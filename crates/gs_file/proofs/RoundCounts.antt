@@ -6,7 +6,7 @@ use Rattle.gs_game.specs.Money.{first_of}
 use Rattle.gs_game.specs.Refusals.{Refusal, rounds, first_refusal, card_refusal, betting_refusal, deal_refusal, rounds_refusal, private_refusal, ranking_refusal, copies_refusal}
 use Rattle.gs_model.specs.Game.{Game, round_count}
 use Rattle.toml.specs.Data.{Members}
-use Rattle.gs_file.specs.Reading.{FileGame, counted, rules_of}
+use Rattle.gs_file.specs.Reading.{FileGame, counted, file_rules}
 
 rounds_first : (g : Game) → first_refusal g ≡ None → rounds_refusal g ≡ None
 unfolding first_refusal card_refusal
@@ -25,7 +25,7 @@ rounds_pass g h = elim (cases_Bool (nat_le 1 (round_count g) && nat_le (round_co
     some_none x e = cc
 
 -- so many rounds pass their check
-pub counted_is : (g : FileGame) (ts : List Members) → first_refusal (rules_of g) ≡ None → length ts ≡ length g.rounds → counted ts ≡ Ok tt
+pub counted_is : (g : FileGame) (ts : List Members) → first_refusal (file_rules g) ≡ None → length ts ≡ length g.rounds → counted ts ≡ Ok tt
 counted_is g ts h same =
-    let n = rounds_pass (rules_of g) (rounds_first (rules_of g) h) in
+    let n = rounds_pass (file_rules g) (rounds_first (file_rules g) h) in
     rw (le-ltb (length ts) 1 (omega (arith, n, same)), le-ltb 4 (length ts) (omega (arith, n, same))) refl

@@ -6,8 +6,9 @@ use Rattle.toml.specs.Data.{Data, Members, no_members, member, as_integer, as_st
 use Rattle.gs_bet.specs.Limit.{limit_bet}
 use Rattle.gs_model.specs.{Betting.{Bet}, Game.{Round as Rules}}
 use Rattle.gs_file.specs.{Faults.{wrong_type, missing_key}, Keys.{has_only, is_among, key_in, limit_keys, tree_keys, within_round}}
-use Rattle.gs_file.specs.Reading.{Play, PlayValues, Tree_text, Tree_value, Limit_of, Limit_values, Round, has_tree, play_tree, play_typed, play_values, play_within, round_at, round_built, round_keys, round_within}
-use Rattle.gs_file.specs.{States.{Has, HasOnly, IsText}, Tables.{only, required, text, whole_number, within}, TreeTexts.{IsTextOf, IsTreeRead}}
+use Rattle.gs_file.specs.Reading.{Play, PlayValues, Tree_text, Tree_value, Limit_of, Limit_values, Round, has_tree, play_tree, play_typed, play_values}
+use Rattle.gs_file.specs.Reading.{play_within, round_table_at, round_built, round_keys, round_within}
+use Rattle.gs_file.specs.{States.{Has, HasOnly, IsText}, Tables.{only, required, text, whole_number, within}, TreeTexts.{IsTreeText, IsTreeRead}}
 use Rattle.gs_file.specs.{declared.fault.Key.{Key}, declared.form.Form.TheVariants.{File}}
 use Rattle.gs_file.specs.declared.fault.Key.TheVariants as key
 use Rattle.gs_file.proofs.{Stating.{IsWhole, after, found_ok, only_ok, same_ok, within_is, within_ok}, Trees.{is_read, reads_tree}}
@@ -76,8 +77,8 @@ play_ok false n table values play o ev ep =
     let (cap, ej, e4) = after (whole_number (within_round n key.Cap) c) _ play e3 in
     subst (λ p. PlayHas p table) (same_ok (Limit_of bet cap) play e4) (o, whole_has n key.Bet table b bet eb ei, whole_has n key.Cap table c cap ec ej)
 
-pub round_ok : (n : ℕ) (table : Members) (r : Round ℤ) → round_at File n table ≡ Ok r → RoundHas r table
-unfolding round_at
+pub round_ok : (n : ℕ) (table : Members) (r : Round ℤ) → round_table_at File n table ≡ Ok r → RoundHas r table
+unfolding round_table_at
 round_ok n table r e =
     let by_tree = has_tree File table in
     let (u, eo, e1) = after (only File (round_keys by_tree) n table) _ r e in
@@ -93,11 +94,11 @@ round_ok n table r e =
       play = play_ok by_tree n table values play (only_ok (round_keys by_tree) n table u eo) ev ek;
     })
 
-pub round_is : (n : ℕ) (table : Members) (r : Round ℤ) → RoundHas r table → round_at File n table ≡ Ok r
-unfolding round_at
+pub round_is : (n : ℕ) (table : Members) (r : Round ℤ) → RoundHas r table → round_table_at File n table ≡ Ok r
+unfolding round_table_at
 round_is n table r h = by r.play h.play refl
   where
-    by : (play : Play ℤ) → PlayHas play table → r.play ≡ play → round_at File n table ≡ Ok r
+    by : (play : Play ℤ) → PlayHas play table → r.play ≡ play → round_table_at File n table ≡ Ok r
     by (Tree_text words) (none_else, (t, found, is)) same =
         let (p, fp, ip) = h.private in
         let (q, fq, iq) = h.public in
@@ -159,7 +160,7 @@ round_in_is n r w h =
 
 -- the round with its tree
 abbrev pub PlayMade : Bet → Play ℕ → Type 0
-PlayMade t (Tree_text text) = IsTextOf text t
+PlayMade t (Tree_text text) = IsTreeText text t
 PlayMade t (Limit_of bet cap) = t ≡ limit_bet bet cap
 
 pub record RoundMade (b : Rules) (w : Round ℕ) : Type 0 where

@@ -3,13 +3,15 @@ use Rattle.std.proofs.Common.{◌≡◌, ℕ, suc, ◌≤◌, ◌==◌, Bool, tr
 use Rattle.std.proofs.lemmas.Bool.{eq-eqb, eqb-true}
 use Rattle.std.specs.{Prelude.{if◌then◌else◌}, Str.{bytes_eq, is_utf8}}
 use Rattle.toml.specs.{Data.{Data, Members, get_member}, Parse.{parse_document}}
-use Rattle.gs_card.specs.{DeckFaults.{fault_of as deck_fault_of}, Decks.{DeckValue, deck_of}, declared.faults.DeckFault.{DeckFault}}
+use Rattle.gs_card.specs.{DeckFaults.{fault_of as deck_fault_of}, Decks.{DeckValue, deck_of_texts}, declared.faults.DeckFault.{DeckFault}}
 use Rattle.gs_game.specs.Refusals.{Refusal}
 use Rattle.gs_model.specs.{Betting.{Bet}, Game.{Round as Rules, Ranking, High, Pair, Three}, Outcome.{categories}}
 use Rattle.gs_file.specs.{Faults.{range, deck, not_text, not_toml, game}, JsonForm.{ranking_text}, Keys.{key_in, top}}
-use Rattle.gs_file.specs.Reading.{FileGame, Play, Tree_text, Limit_of, Round, Stated, Top, TopValues, bonus_at, counted, deck_at, deck_made, game_at, parsed_at, ranking_at, read_at, round_at, round_built, round_within, stated_at, text_at, typed_at, unless_refused, values_at}
+use Rattle.gs_file.specs.Reading.{FileGame, Play, Tree_text, Limit_of, Round, Stated, Top, TopValues, bonus_at, counted, deck_at, deck_made, game_at, parsed_at}
+use Rattle.gs_file.specs.Reading.{ranking_at, read_at, round_table_at, round_built, round_within, stated_fields_at, utf8_text, typed_at, unless_refused}
+use Rattle.gs_file.specs.Reading.{values_at}
 use Rattle.gs_file.specs.States.{FileStates, Has, IsNumber, IsRound, OneByOne, StatesBetting, StatesBonus, StatesCopies, StatesDeck, StatesGame, StatesRound}
-use Rattle.gs_file.specs.{Tables.{each, list_of, text, within}, declared.fault.Key.{Key}, declared.form.Form.TheVariants.{File}}
+use Rattle.gs_file.specs.{Tables.{each, array_items, text, within}, declared.fault.Key.{Key}, declared.form.Form.TheVariants.{File}}
 use Rattle.gs_file.specs.declared.fault.Key.TheVariants as key
 use Rattle.gs_file.proofs.RoundCounts.{counted_is}
 use Rattle.gs_file.proofs.Stating.{IsTable, IsWhole, after, between, each_is, each_ok, found_ok, never, same_ok, through, within_is, within_ok}
@@ -25,7 +27,7 @@ one_length R [] (y ∷ ys) h = absurd h
 one_length R (x ∷ xs) [] h = absurd h
 one_length R (x ∷ xs) (y ∷ ys) h = ap suc (one_length R xs ys h.1)
 
-text_ok : (bytes text : List ℕ) → text_at bytes ≡ Ok text → (is_utf8 bytes ≡ true) × (bytes ≡ text)
+text_ok : (bytes text : List ℕ) → utf8_text bytes ≡ Ok text → (is_utf8 bytes ≡ true) × (bytes ≡ text)
 text_ok bytes text e = by (is_utf8 bytes) e
   where
     by : (b : Bool) → (if b then Ok bytes else Err not_text) ≡ Ok text → (b ≡ true) × (bytes ≡ text)
@@ -90,16 +92,16 @@ bonus_in_is r (Some zs) bonus (long, all) =
     in_is : (n : ℕ) (z : ℤ) (m : ℕ) → IsIn 1 9 m z → within (top key.Bonus) 1 9 z ≡ Ok m
     in_is n z m (same, low, high) = rw same (within_is (top key.Bonus) 1 9 m low high)
 
-stated_ok : (t : Top) (s : Stated) → stated_at File t ≡ Ok s → StatedHas s t
-unfolding stated_at
+stated_ok : (t : Top) (s : Stated) → stated_fields_at File t ≡ Ok s → StatedHas s t
+unfolding stated_fields_at
 stated_ok t s e =
     let (u, eu, e1) = after (counted t.rounds) _ s e in
-    let (rs, er, e2) = after (each (round_at File) 1 t.rounds) _ s e1 in
+    let (rs, er, e2) = after (each (round_table_at File) 1 t.rounds) _ s e1 in
     let (ranking, ek, e3) = after (ranking_at t.ranking) _ s e2 in
     let (bonus, eb, e4) = after (bonus_at ranking t.bonus) _ s e3 in
     let (ante, ea, e5) = after (within (top key.Ante) 1 4096 t.ante) _ s e4 in
     let (ws, ew, e6) = after (each round_within 1 rs) _ s e5 in
-    let had = each_ok (round_at File) RoundHas (λ n x y. round_ok n x y) 1 t.rounds rs er in
+    let had = each_ok (round_table_at File) RoundHas (λ n x y. round_ok n x y) 1 t.rounds rs er in
     let ranged = each_ok round_within RoundIn (λ n x y. round_in_ok n x y) 1 rs ws ew in
     subst (λ w. StatedHas w t) (same_ok _ s e6) (record {
       ranking = ranking_ok t.ranking ranking ek;
@@ -108,14 +110,14 @@ stated_ok t s e =
       rounds = through RoundIn RoundHas RoundRead (λ w r table i h. (r, i, h)) ws rs t.rounds ranged had;
     })
 
-stated_is : (t : Top) (s : Stated) → counted t.rounds ≡ Ok tt → StatedHas s t → stated_at File t ≡ Ok s
-unfolding stated_at
+stated_is : (t : Top) (s : Stated) → counted t.rounds ≡ Ok tt → StatedHas s t → stated_fields_at File t ≡ Ok s
+unfolding stated_fields_at
 stated_is t s few h =
     let (rs, ranged, had) = between RoundIn RoundHas RoundRead (λ w table g. g) s.rounds t.rounds h.rounds in
     let (is, low, high) = h.ante in
     rw (
       few,
-      each_is (round_at File) RoundHas (λ n x y g. round_is n x y g) 1 t.rounds rs had,
+      each_is (round_table_at File) RoundHas (λ n x y g. round_is n x y g) 1 t.rounds rs had,
       h.ranking,
       ranking_is s.ranking,
       bonus_in_is s.ranking t.bonus s.bonus h.bonus,
@@ -152,7 +154,7 @@ bonus_states r bonus numbers (Some d) table (inr (b, o, h, m, e)) (zs, same, (it
           items,
           found,
           through (IsIn 1 9) IsWhole (IsNumber 1 9) (λ n z x i w. (w ∙ ap Some i.0, i.1, i.2)) bonus zs
-              (list_of items) all whole,
+              (array_items items) all whole,
         ),
       ),
       long,
@@ -162,7 +164,7 @@ bonus_stages : (r : Ranking) (bonus : List ℕ) (table : Members) → StatesBonu
     → (d : Option Data) × (numbers : Option (List ℤ)) × VersionHas d table × BonusTyped numbers d × BonusIn r bonus numbers
 bonus_stages r bonus table (inl (o, h, ones)) = (None, None, inl (o, h, refl), refl, ones)
 bonus_stages r bonus table (inr (o, h, (d, m, (items, found, all)), long)) =
-    let (zs, i, w) = between (IsIn 1 9) IsWhole (IsNumber 1 9) (λ n x g. (pos n, (refl, g.1, g.2), g.0)) bonus (list_of items) all in
+    let (zs, i, w) = between (IsIn 1 9) IsWhole (IsNumber 1 9) (λ n x g. (pos n, (refl, g.1, g.2), g.0)) bonus (array_items items) all in
     (Some d, Some zs, inr (d, o, h, m, refl), (zs, refl, (items, found, w)), (long, i))
 
 copies_states : (copies : List ℕ) (d : Option Data) (table : Members) → get_member (key_in File key.Copies) table ≡ d → CopiesTyped copies d
@@ -218,11 +220,11 @@ unfolding game_at
 table_ok table g e =
     let (v, ev, e1) = after (values_at File table) _ g e in
     let (t, et, e2) = after (typed_at v) _ g e1 in
-    let (s, es, e3) = after (stated_at File t) _ g e2 in
+    let (s, es, e3) = after (stated_fields_at File t) _ g e2 in
     let (cards, ec, e4) = after (deck_at t.ranks t.suits t.copies) _ g e3 in
     let (bs, eb, e5) = after (each round_built 1 s.rounds) _ g e4 in
     let (no_rule, same) = lawful_ok (record { deck = cards; ranking = s.ranking; bonus = s.bonus; ante = s.ante; rounds = bs }) _ g e5 in
-    let (no_fault, same_deck) = deck_ok (deck_of t.ranks t.suits t.copies) (deck_fault_of t.ranks t.suits t.copies) cards ec in
+    let (no_fault, same_deck) = deck_ok (deck_of_texts t.ranks t.suits t.copies) (deck_fault_of t.ranks t.suits t.copies) cards ec in
     let hv = top_ok table v ev in
     let ht = typed_ok v t et in
     let hs = stated_ok t s es in
@@ -242,7 +244,7 @@ table_ok table g e =
       ranking = (v.ranking, hv.ranking, ht.ranking ∙ ap Some hs.ranking);
       bonus = bonus_states s.ranking s.bonus t.bonus v.bonus table hv.version ht.bonus hs.bonus;
       ante = (v.ante, hv.ante, (ht.ante ∙ ap Some is, low, high));
-      rounds = (v.rounds, hv.rounds, (items, found, through StatesRound IsTable IsRound (λ b x d h i. (x, i, h)) bs t.rounds (list_of items) rounds tables));
+      rounds = (v.rounds, hv.rounds, (items, found, through StatesRound IsTable IsRound (λ b x d h i. (x, i, h)) bs t.rounds (array_items items) rounds tables));
       lawful = no_rule;
     })
 
@@ -256,7 +258,7 @@ table_is table g h =
     let (ante, ma, ia) = h.ante in
     let (rounds, mn, (items, found, all)) = h.rounds in
     let (bonus, numbers, version, typed, ranged) = bonus_stages g.ranking g.bonus table h.bonus in
-    let (ts, states, tables) = between StatesRound IsTable IsRound (λ b d i. (i.0, i.2, i.1)) g.rounds (list_of items) all in
+    let (ts, states, tables) = between StatesRound IsTable IsRound (λ b d i. (i.0, i.2, i.1)) g.rounds (array_items items) all in
     let (ws, made, reads) = between RoundMade RoundRead StatesRound (λ b x i. round_stages b x i) g.rounds ts states in
     let v : TopValues = record {
       ranks = ranks;
@@ -299,7 +301,7 @@ table_is table g h =
 pub states_ok : (bytes : List ℕ) (g : FileGame) → read_at bytes ≡ Ok g → FileStates bytes g
 unfolding read_at
 states_ok bytes g e =
-    let (text, et, e1) = after (text_at bytes) _ g e in
+    let (text, et, e1) = after (utf8_text bytes) _ g e in
     let (table, ep, e2) = after (parsed_at text) _ g e1 in
     let (is_text, same) = text_ok bytes text et in
     (is_text, (table, ap parse_document same ∙ found_ok (parse_document text) not_toml table ep, table_ok table g e2))

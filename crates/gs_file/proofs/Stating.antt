@@ -5,7 +5,7 @@ use Rattle.std.specs.{Prelude.{◌↔◌, if◌then◌else◌}, Option.{ok_or}}
 use Rattle.toml.specs.Data.{Data, Members, as_array, as_table, as_integer}
 use Rattle.gs_json.specs.Steps.{◌>>=◌}
 use Rattle.gs_file.specs.{Faults.{Fault, unknown_key, range, wrong_type}, Keys.{has_only}, States.{HasOnly, IsList, OneByOne}}
-use Rattle.gs_file.specs.{Tables.{each, list_of, only, table_in, array_in, tables_in, whole_number, whole_numbers_in, within}, declared.fault.Key.{Key}}
+use Rattle.gs_file.specs.{Tables.{each, array_items, only, table_in, array_in, tables_in, whole_number, whole_numbers_in, within}, declared.fault.Key.{Key}}
 use Rattle.gs_file.specs.{declared.fault.Place.{Place}, declared.form.Form.TheVariants.{File}}
 
 -- ---- one step after another
@@ -78,17 +78,17 @@ each_is read R h n (x ∷ xs) (y ∷ ys) g =
 -- an array is read item by item
 pub array_ok : {B : Type 0} (read : ℕ → Data → Result B Fault) (R : B → Data → Type 0) → ((n : ℕ) (x : Data) (y : B) → read n x ≡ Ok y → R y x)
     → (place : Place) (d : Data) (ys : List B)
-    → (array_in place d >>= (λ items. each read 1 (list_of items))) ≡ Ok ys → IsList R ys d
+    → (array_in place d >>= (λ items. each read 1 (array_items items))) ≡ Ok ys → IsList R ys d
 array_ok read R h place d ys e =
-    let (items, ei, e1) = after (array_in place d) (λ items. each read 1 (list_of items)) ys e in
-    (items, found_ok (as_array d) (wrong_type place) items ei, each_ok read R h 1 (list_of items) ys e1)
+    let (items, ei, e1) = after (array_in place d) (λ items. each read 1 (array_items items)) ys e in
+    (items, found_ok (as_array d) (wrong_type place) items ei, each_ok read R h 1 (array_items items) ys e1)
 
 pub array_is : {B : Type 0} (read : ℕ → Data → Result B Fault) (R : B → Data → Type 0) → ((n : ℕ) (x : Data) (y : B) → R y x → read n x ≡ Ok y)
     → (place : Place) (d : Data) (ys : List B)
-    → IsList R ys d → (array_in place d >>= (λ items. each read 1 (list_of items))) ≡ Ok ys
+    → IsList R ys d → (array_in place d >>= (λ items. each read 1 (array_items items))) ≡ Ok ys
 array_is read R h place d ys g =
     let (items, found, one) = g in
-    rw found (each_is read R h 1 (list_of items) ys one)
+    rw found (each_is read R h 1 (array_items items) ys one)
 
 -- tables, and whole numbers
 abbrev pub IsTable : Members → Data → Type 0

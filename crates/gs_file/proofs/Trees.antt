@@ -2,7 +2,7 @@
 use Rattle.std.proofs.Common.{◌≡◌, ℕ, ◌-◌, ◌<◌, List, [], ◌∷◌, length, take, Ok, Err, refl, sym, ap, ◌∙◌, arith}
 use Rattle.std.specs.Prelude.{IsTrue, slice_get}
 use Rattle.gs_bet.specs.{declared.fault.Mistake.{Mistake}, declared.fault.Mistake.TheVariants.{RepeatedLetter, TooDeep, Syntax}}
-use Rattle.gs_bet.specs.{declared.fault.TreeFault.{TreeFault}, Cuts.{Cut}, Faults.{IsFaultOf, IsMistake, ReadsAs, fault_of, mistake_at}}
+use Rattle.gs_bet.specs.{declared.fault.TreeFault.{TreeFault}, Cuts.{Cut}, Faults.{IsFaultOf, IsMistake, ReadsAs, mistake_fault, mistake_at}}
 use Rattle.gs_bet.specs.{Grammar.{is_tree, tree_text, IsLongest}, Reading.{Read, all_of, at_end, outer_at, ◌>>=◌}}
 use Rattle.gs_bet.specs.declared.fault.TreeFault.TheVariants as tree
 use Rattle.gs_bet.proofs.{Parsing.{found, only, refuses, mistaken}, Whole.{one_cut}}
@@ -30,13 +30,13 @@ same_longest text a b x y =
     omega arith
 
 -- a text has one mistake
-one_mistake : (text : List ℕ) (a b : ℕ) (m k : Mistake) → IsMistake text a m → IsMistake text b k → fault_of m a ≡ fault_of k b
+one_mistake : (text : List ℕ) (a b : ℕ) (m k : Mistake) → IsMistake text a m → IsMistake text b k → mistake_fault m a ≡ mistake_fault k b
 one_mistake text a b m k x y =
     let e : a ≡ b = same_longest text a b x.longest y.longest in
     let p : x.place ≡ y.place = one_cut x.place y.place x.is y.is (x.reached ∙ ap (λ (n : ℕ). take n text) e ∙ sym y.reached) in
     let same : m ≡ k = x.mistake ∙ ap (λ (c : Cut). mistake_at c (slice_get text a)) p ∙ ap (λ (n : ℕ). mistake_at y.place (slice_get text n)) e
     ∙ sym y.mistake in
-    ap (λ (q : Mistake). fault_of q a) same ∙ ap (λ (n : ℕ). fault_of k n) e
+    ap (λ (q : Mistake). mistake_fault q a) same ∙ ap (λ (n : ℕ). mistake_fault k n) e
 
 -- the tree whose text it is
 pub reads_tree : (n : ℕ) (text : List ℕ) (t : Bet) → IsTrue (is_tree t) → text ≡ tree_text t → tree_at n text ≡ Ok t
@@ -48,10 +48,10 @@ reads_tree n text t is e = by_answer (all_of text) refl
 
 -- the mistake of a text that is no tree's
 reads_mistake : (n : ℕ) (text : List ℕ) (at : ℕ) (m : Mistake) → ((t : Bet) → IsTrue (is_tree t) → text ≡ tree_text t → ⊥) → IsMistake text at m
-    → tree_at n text ≡ Err (tree_fault n (fault_of m at))
+    → tree_at n text ≡ Err (tree_fault n (mistake_fault m at))
 reads_mistake n text at m none is = by_answer (all_of text) refl
   where
-    by_answer : (r : Read Bet) → all_of text ≡ r → tree_read n text r ≡ Err (tree_fault n (fault_of m at))
+    by_answer : (r : Read Bet) → all_of text ≡ r → tree_read n text r ≡ Err (tree_fault n (mistake_fault m at))
     by_answer (Ok (u, rest)) a = let f = found text u (leaves_none text u rest a) in absurd (none u f.1 f.0)
     by_answer (Err (k, rest)) a = ap (λ (f : TreeFault). Err (tree_fault n f))
         (one_mistake text (length text - length rest) at k m (mistaken text k (length rest) (rest, a, refl)) is)

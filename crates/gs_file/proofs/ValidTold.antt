@@ -1,7 +1,7 @@
 -- A valid game is told by each version that can tell its bonuses.
 use Rattle.std.proofs.{Common.{◌≡◌, ◌≤◌, List, [], ◌∷◌, map, All, Ok}, lemmas.List.Elements.{All-cons, All-head, All-nil, All-tail}}
 use Rattle.gs_card.specs.Decks.{IsDeck}
-use Rattle.gs_game.specs.{Games.{round_of}, declared.game.Round.{Round}, declared.valid.ValidGame.{ValidGame}}
+use Rattle.gs_game.specs.{Games.{round_rules}, declared.game.Round.{Round}, declared.valid.ValidGame.{ValidGame}}
 use Rattle.gs_model.specs.Game.{Round as Rules}
 use Rattle.gs_file.specs.{JsonForm.{game_data}, JsonLaws.{IsRoundTold, IsTold, TellsBonus}, JsonReading.{json_game_at}, Views.{valid_view}}
 use Rattle.gs_file.specs.declared.version.Version.{Version}
@@ -10,16 +10,16 @@ use Rattle.gs_file.proofs.ReadsBack.{reads_back}
 abbrev IsSmall : Rules → Type 0
 IsSmall r = (r.private ≤ 2) × (r.public ≤ 3)
 
-rounds_told : (rs : List Round) → All IsSmall (map round_of rs) → All IsRoundTold (map round_of rs)
+rounds_told : (rs : List Round) → All IsSmall (map round_rules rs) → All IsRoundTold (map round_rules rs)
 rounds_told [] h = All-nil IsRoundTold
 rounds_told (r ∷ rs) h =
-    let here = All-head IsSmall (round_of r) (map round_of rs) h in
-    All-cons IsRoundTold (round_of r) (map round_of rs) (record {
+    let here = All-head IsSmall (round_rules r) (map round_rules rs) h in
+    All-cons IsRoundTold (round_rules r) (map round_rules rs) (record {
       private =
           here.0;
       public = here.1;
       tree = r.tree.sound;
-    }) (rounds_told rs (All-tail IsSmall (round_of r) (map round_of rs) h))
+    }) (rounds_told rs (All-tail IsSmall (round_rules r) (map round_rules rs) h))
 
 pub valid_told : (version : Version) (v : ValidGame) → IsDeck v.game.deck → TellsBonus version v.game.bonus.items → IsTold version (valid_view v)
 valid_told version v deck tells = record {

@@ -3,8 +3,8 @@
 use Rattle.std.specs.Prelude.{ℕ, zero, suc, ℤ, pos, ◌-◌, ◌==◌, ◌||◌, Bool, true, false, List, Option, Some, None, is_some, Result, Ok, Err, codes, length, replicate, nat_lt, if◌then◌else◌}
 use Rattle.std.specs.{Option.{ok_or}, Str.{bytes_eq, is_utf8}}
 use Rattle.toml.specs.{Parse.{parse_document}, Data.{Data, Members, get_member}}
-use Rattle.gs_bet.specs.{Faults.{fault_of as tree_fault_of}, Limit.{limit_bet}, Reading.{Read, all_of}}
-use Rattle.gs_card.specs.{DeckFaults.{fault_of as deck_fault_of}, Decks.{DeckValue, deck_of}, declared.faults.DeckFault.{DeckFault}}
+use Rattle.gs_bet.specs.{Faults.{mistake_fault as tree_fault_of}, Limit.{limit_bet}, Reading.{Read, all_of}}
+use Rattle.gs_card.specs.{DeckFaults.{fault_of as deck_fault_of}, Decks.{DeckValue, deck_of_texts}, declared.faults.DeckFault.{DeckFault}}
 use Rattle.gs_game.specs.Refusals.{first_refusal, rounds as rounds_refused, Refusal}
 use Rattle.gs_json.specs.Steps.{◌>>=◌}
 use Rattle.gs_model.specs.{Betting.{Bet}, Game.{Game, Round as RoundRules, Ranking, High, Pair, Three}, Outcome.{categories}}
@@ -18,8 +18,8 @@ use Rattle.gs_file.specs.declared.fault.Key.TheVariants as key
 -- ---- the text
 
 -- the bytes as a text, if they are UTF-8
-abbrev pub text_at : List ℕ → Result (List ℕ) Fault
-text_at bytes = if is_utf8 bytes then Ok bytes else Err not_text
+abbrev pub utf8_text : List ℕ → Result (List ℕ) Fault
+utf8_text bytes = if is_utf8 bytes then Ok bytes else Err not_text
 
 -- the table of a text, if it is TOML
 abbrev pub parsed_at : List ℕ → Result Members Fault
@@ -152,8 +152,8 @@ play_typed n (Limit_values bet cap) = do
   Ok (Limit_of bet cap)
 
 -- a round: exactly the keys `private` and `public`, which are integers, and those of its betting
-unfoldable pub round_at : Form → ℕ → Members → Result (Round ℤ) Fault
-round_at form n table = do
+unfoldable pub round_table_at : Form → ℕ → Members → Result (Round ℤ) Fault
+round_table_at form n table = do
   _ ← only form (round_keys (has_tree form table)) n table
   private ← required form table (within_round n key.Private)
   public ← required form table (within_round n key.Public)
@@ -206,8 +206,8 @@ pub record FileGame : Type 0 where
   pub rounds : List RoundRules
 
 -- the game as the definitions of `gs_model` see it, without the letters of its deck
-abbrev pub rules_of : FileGame → Game
-rules_of g = record { suits = length g.deck.suits; copies = g.deck.counts; ranking = g.ranking; bonus = g.bonus; ante = g.ante; rounds = g.rounds }
+abbrev pub file_rules : FileGame → Game
+file_rules g = record { suits = length g.deck.suits; copies = g.deck.counts; ranking = g.ranking; bonus = g.bonus; ante = g.ante; rounds = g.rounds }
 
 -- a deck, unless its texts have a fault
 abbrev pub deck_made : DeckValue → Option DeckFault → Result DeckValue Fault
@@ -216,7 +216,7 @@ deck_made d (Some why) = Err (deck why)
 
 -- the deck that the texts of ranks, suits and copies make, or their first fault
 abbrev pub deck_at : List ℕ → List ℕ → List ℕ → Result DeckValue Fault
-deck_at ranks suits copies = deck_made (deck_of ranks suits copies) (deck_fault_of ranks suits copies)
+deck_at ranks suits copies = deck_made (deck_of_texts ranks suits copies) (deck_fault_of ranks suits copies)
 
 -- the tree that is read from a round's text, or the fault of the text
 abbrev pub tree_read : ℕ → List ℕ → Read Bet → Result Bet Fault
@@ -245,7 +245,7 @@ unless_refused g (Some why) = Err (game why)
 
 -- the game if it keeps the rules, otherwise its first refusal
 abbrev pub lawful : FileGame → Result FileGame Fault
-lawful g = unless_refused g (first_refusal (rules_of g))
+lawful g = unless_refused g (first_refusal (file_rules g))
 
 -- what a file states beside its deck, each in its range
 pub record Stated : Type 0 where
@@ -256,10 +256,10 @@ pub record Stated : Type 0 where
 
 -- What a file states beside its deck. Checked are the number of rounds, the keys and types of each round, and the ranking. Then come the bonus, the ante
 -- from 1 to 4,096 chips, and the ranges of each round.
-unfoldable pub stated_at : Form → Top → Result Stated Fault
-stated_at form fields = do
+unfoldable pub stated_fields_at : Form → Top → Result Stated Fault
+stated_fields_at form fields = do
   _ ← counted fields.rounds
-  rounds ← each (round_at form) 1 fields.rounds
+  rounds ← each (round_table_at form) 1 fields.rounds
   ranking ← ranking_at fields.ranking
   bonus ← bonus_at ranking fields.bonus
   ante ← within (top key.Ante) 1 4096 fields.ante
@@ -271,7 +271,7 @@ unfoldable pub game_at : Form → Members → Result FileGame Fault
 game_at form table = do
   values ← values_at form table
   fields ← typed_at values
-  stated ← stated_at form fields
+  stated ← stated_fields_at form fields
   cards ← deck_at fields.ranks fields.suits fields.copies
   rounds ← each round_built 1 stated.rounds
   lawful (record { deck = cards; ranking = stated.ranking; bonus = stated.bonus; ante = stated.ante; rounds = rounds })
@@ -279,6 +279,6 @@ game_at form table = do
 -- the game that the bytes of a game file state, or their first fault
 unfoldable pub read_at : List ℕ → Result FileGame Fault
 read_at bytes = do
-  text ← text_at bytes
+  text ← utf8_text bytes
   table ← parsed_at text
   game_at File table

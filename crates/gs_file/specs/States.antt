@@ -3,11 +3,12 @@
 use Rattle.std.specs.{Prelude.{ℕ, pos, ◌≡◌, ◌≤◌, ◌⊎◌, true, List, [], ◌∷◌, Some, None, length, replicate}, Str.{is_utf8}}
 use Rattle.toml.specs.{Data.{Data, Items, Members, get_member, as_str, as_integer, as_array, as_table}, Parse.{parse_document}}
 use Rattle.gs_bet.specs.Limit.{limit_bet}
-use Rattle.gs_card.specs.{DeckFaults.{fault_of as deck_fault_of}, Decks.{DeckValue, deck_of}}
+use Rattle.gs_card.specs.{DeckFaults.{fault_of as deck_fault_of}, Decks.{DeckValue, deck_of_texts}}
 use Rattle.gs_game.specs.Refusals.{first_refusal}
 use Rattle.gs_model.specs.{Betting.{Bet}, Game.{Round, Ranking}, Outcome.{categories}}
-use Rattle.gs_file.specs.{JsonForm.{ranking_text}, Keys.{key_in, has_only, top_keys, tree_keys, limit_keys}, Reading.{FileGame, rules_of}, Tables.{list_of}}
-use Rattle.gs_file.specs.{TreeTexts.{IsTextOf}, declared.fault.Key.{Key}, declared.form.Form.TheVariants.{File}}
+use Rattle.gs_file.specs.{JsonForm.{ranking_text}, Keys.{key_in, has_only, top_keys, tree_keys, limit_keys}, Reading.{FileGame, file_rules}}
+use Rattle.gs_file.specs.Tables.{array_items}
+use Rattle.gs_file.specs.{TreeTexts.{IsTreeText}, declared.fault.Key.{Key}, declared.form.Form.TheVariants.{File}}
 use Rattle.gs_file.specs.declared.version.Version.TheVariants.{One, Two}
 use Rattle.gs_file.specs.declared.fault.Key.TheVariants as key
 
@@ -42,14 +43,14 @@ OneByOne R (x ∷ xs) (y ∷ ys) = R x y × OneByOne R xs ys
 
 -- the value is a list, and `R` holds of the members of `xs` and its items one by one
 abbrev pub IsList : {A : Type 0} → (A → Data → Type 0) → List A → Data → Type 0
-IsList R xs d = (items : Items) × (as_array d ≡ Some items) × OneByOne R xs (list_of items)
+IsList R xs d = (items : Items) × (as_array d ≡ Some items) × OneByOne R xs (array_items items)
 
 -- ---- a round
 
 -- the table states the betting: by a tree's text, or by a bet from 1 to 2,048 chips and a cap from 0 to 8
 abbrev pub StatesBetting : Bet → Members → Type 0
 StatesBetting t table =
-    ((text : List ℕ) × HasOnly table tree_keys × Has table key.Tree (IsText text) × IsTextOf text t)
+    ((text : List ℕ) × HasOnly table tree_keys × Has table key.Tree (IsText text) × IsTreeText text t)
     ⊎ ((bet : ℕ) × (cap : ℕ) × HasOnly table limit_keys × Has table key.Bet (IsNumber 1 2048 bet) × Has table key.Cap (IsNumber 0 8 cap)
     × (t ≡ limit_bet bet cap))
 
@@ -76,7 +77,7 @@ pub record StatesDeck (d : DeckValue) (table : Members) : Type 0 where
   pub copies : List ℕ
   pub copies_are : StatesCopies copies table
   pub good : deck_fault_of d.ranks d.suits copies ≡ None
-  pub made : d ≡ deck_of d.ranks d.suits copies
+  pub made : d ≡ deck_of_texts d.ranks d.suits copies
 
 -- version 1 has no bonuses, so that all are 1; version 2 has one from 1 to 9 for each category
 abbrev pub StatesBonus : Ranking → List ℕ → Members → Type 0
@@ -92,7 +93,7 @@ pub record StatesGame (g : FileGame) (table : Members) : Type 0 where
   pub bonus : StatesBonus g.ranking g.bonus table
   pub ante : Has table key.Ante (IsNumber 1 4096 g.ante)
   pub rounds : Has table key.Round (IsList IsRound g.rounds)
-  pub lawful : first_refusal (rules_of g) ≡ None
+  pub lawful : first_refusal (file_rules g) ≡ None
 
 -- the bytes are UTF-8 and TOML, and their table states the game
 abbrev pub FileStates : List ℕ → FileGame → Type 0

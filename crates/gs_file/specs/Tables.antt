@@ -43,21 +43,21 @@ each read n (x ∷ xs) = do
   Ok (first ∷ others)
 
 -- the items of an array as a list
-abbrev pub list_of : Items → List Data
-list_of no_items = []
-list_of (item d rest) = d ∷ list_of rest
+abbrev pub array_items : Items → List Data
+array_items no_items = []
+array_items (item d rest) = d ∷ array_items rest
 
 -- the tables of an array that holds nothing else
 unfoldable pub tables_in : Place → Data → Result (List Members) Fault
 tables_in place d = do
   items ← array_in place d
-  each (λ n. table_in place) 1 (list_of items)
+  each (λ n. table_in place) 1 (array_items items)
 
 -- the integers of an array that holds nothing else
 unfoldable pub whole_numbers_in : Place → Data → Result (List ℤ) Fault
 whole_numbers_in place d = do
   items ← array_in place d
-  each (λ n. whole_number place) 1 (list_of items)
+  each (λ n. whole_number place) 1 (array_items items)
 
 -- the number, if it is from low to high
 abbrev pub within : Place → ℕ → ℕ → ℤ → Result ℕ Fault

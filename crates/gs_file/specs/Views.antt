@@ -2,7 +2,7 @@
 use Rattle.std.specs.Prelude.{ℕ, ℤ, map, option_map}
 use Rattle.toml.specs.View.{view, table_view}
 use Rattle.gs_card.specs.Rankings.{ranking_of}
-use Rattle.gs_game.specs.{Games.{round_of}, declared.game.Game.{Game}, declared.valid.ValidGame.{ValidGame}}
+use Rattle.gs_game.specs.{Games.{round_rules}, declared.game.Game.{Game}, declared.valid.ValidGame.{ValidGame}}
 use Rattle.gs_file.specs.Reading.{Play, PlayValues, Tree_text, Tree_value, Limit_of, Limit_values, Round, TopValues as TopData, Top, Stated, FileGame}
 use Rattle.gs_file.specs.{declared.values.TopValues.{TopValues}, declared.values.TopFields.{TopFields}, declared.values.RoundFields.{RoundFields}}
 use Rattle.gs_file.specs.{declared.values.Betting.{Betting}, declared.values.BettingValues.{BettingValues}, declared.values.RoundSizes.{RoundSizes}}
@@ -64,7 +64,7 @@ stated_view s = record { ranking = ranking_of s.ranking; bonus = s.bonus.items; 
 
 -- the game of the program, with the letters of its deck
 abbrev pub game_view : Game → FileGame
-game_view g = record { deck = g.deck; ranking = ranking_of g.ranking; bonus = g.bonus.items; ante = g.ante; rounds = map round_of g.rounds.items }
+game_view g = record { deck = g.deck; ranking = ranking_of g.ranking; bonus = g.bonus.items; ante = g.ante; rounds = map round_rules g.rounds.items }
 
 -- a valid game of the program, as the definitions see it
 abbrev pub valid_view : ValidGame → FileGame

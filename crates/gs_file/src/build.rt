@@ -3,7 +3,7 @@
 ghost use Rattle.std.specs.Prelude.{◌≤◌, All, IfOk, length, map};
 ghost use Rattle.gs_bet.specs.TreeView.{plain};
 ghost use Rattle.gs_card.specs.Rankings.{ranking_of};
-ghost use Rattle.gs_game.specs.Games.{HasFewCards, round_of as rules_of_round};
+ghost use Rattle.gs_game.specs.Games.{HasFewCards, round_rules as rules_of_round};
 ghost use Rattle.gs_model.specs.Outcome.{IsBonus};
 ghost use Rattle.gs_file.specs.{Answers.{Gives}, Reading.{deck_at, tree_at, play_tree, round_built, lawful}, Tables.{each}};
 ghost use Rattle.gs_file.specs.Views.{sizes_view, ranged_view, game_view, valid_view};

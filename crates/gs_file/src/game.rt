@@ -1,7 +1,7 @@
 //! Reading a whole game file.
 
 ghost use Rattle.toml.specs.View.{table_view};
-ghost use Rattle.gs_file.specs.{Answers.{Gives}, Reading.{text_at, parsed_at, game_at, read_at}, Views.{valid_view}};
+ghost use Rattle.gs_file.specs.{Answers.{Gives}, Reading.{utf8_text, parsed_at, game_at, read_at}, Views.{valid_view}};
 
 use crate::build::{checked, deck_of, rounds_built};
 use crate::fault::FileFault;
@@ -13,7 +13,7 @@ use std::alloc::Global;
 use toml::Table;
 
 fn text_of_bytes(bytes: &[u8]) -> Result<&str, FileFault>
-    ensures { Gives (λ s. s.now) result (text_at bytes.now) }
+    ensures { Gives (λ s. s.now) result (utf8_text bytes.now) }
 {
     match std::str::from_utf8(bytes) {
         Ok(text) => Ok(text),

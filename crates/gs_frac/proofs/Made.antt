@@ -3,7 +3,7 @@ use Rattle.std.proofs.Common.{◌≡◌, ℕ, zero, suc, ◌^◌, ◌<◌, ◌�
 use Rattle.std.proofs.lemmas.Bool.{cases_Bool, cases_eq, cases_lt, and_right, lt-ltb, le-ltb, eq-eqb, ne_eqb}
 use Rattle.std.specs.{Prelude.{IsTrue}, Int.RustNames.{unsigned_abs}, Str.Parse.{digits_value}}
 use Rattle.gs_frac.specs.{declared.fault.FracFault.TheVariants.{NotFraction, TooWide, NotReduced}, Gcd.{gcd_of}}
-use Rattle.gs_frac.specs.Texts.{limit, is_fraction, is_numeral, number_of, reduced_fraction, fraction_between}
+use Rattle.gs_frac.specs.Texts.{limit, is_fraction, is_numeral, number_with_sign, reduced_fraction, fraction_between}
 
 pub wide : (negative : Bool) (n d : ℕ) → (2 ^ 127 ≤ n) ⊎ (2 ^ 127 ≤ d) → reduced_fraction negative n d ≡ Err TooWide
 unfolding limit
@@ -11,7 +11,7 @@ wide negative n d (inl h) = rw (le-ltb n (2 ^ 127) h) refl
 wide negative n d (inr h) = rw (and_right (ltb n (2 ^ 127)) (ltb d (2 ^ 127)) (le-ltb d (2 ^ 127) h)) refl
 
 narrow : (negative : Bool) (n d : ℕ) → n < 2 ^ 127 → d < 2 ^ 127 → reduced_fraction negative n d
-    ≡ cond (ltb 0 d && eqb (gcd_of n d) 1) (Ok (number_of negative n, pos d)) (Err NotReduced)
+    ≡ cond (ltb 0 d && eqb (gcd_of n d) 1) (Ok (number_with_sign negative n, pos d)) (Err NotReduced)
 unfolding limit
 narrow negative n d few low = rw (lt-ltb n (2 ^ 127) few, lt-ltb d (2 ^ 127) low) refl
 
@@ -20,15 +20,15 @@ unreduced negative n d few low (inl e) = narrow negative n d few low ∙ rw e re
 unreduced negative n d few low (inr ne) = narrow negative n d few low ∙ rw (and_right (ltb 0 d) (eqb (gcd_of n d) 1) (ne_eqb (gcd_of n d) 1 ne)) refl
 
 pub reduces : (negative : Bool) (n d : ℕ) → n < 2 ^ 127 → d < 2 ^ 127 → 0 < d → gcd_of n d ≡ 1
-    → reduced_fraction negative n d ≡ Ok (number_of negative n, pos d)
+    → reduced_fraction negative n d ≡ Ok (number_with_sign negative n, pos d)
 reduces negative n d few low some one = narrow negative n d few low ∙ rw (lt-ltb 0 d some, one) refl
 
-pub size_of : (negative : Bool) (n : ℕ) → unsigned_abs (number_of negative n) ≡ n
+pub size_of : (negative : Bool) (n : ℕ) → unsigned_abs (number_with_sign negative n) ≡ n
 size_of false n = refl
 size_of true zero = refl
 size_of true (suc n) = refl
 
-pub fraction_is : (negative : Bool) (n d : ℕ) → n < 2 ^ 127 → d < 2 ^ 127 → 0 < d → gcd_of n d ≡ 1 → IsTrue (is_fraction (number_of negative n) (pos d))
+pub fraction_is : (negative : Bool) (n d : ℕ) → n < 2 ^ 127 → d < 2 ^ 127 → 0 < d → gcd_of n d ≡ 1 → IsTrue (is_fraction (number_with_sign negative n) (pos d))
 unfolding limit
 fraction_is negative n d few low some one = rw (size_of, lt-ltb n (2 ^ 127) few, lt-ltb d (2 ^ 127) low, lt-ltb 0 d some, one) refl
 

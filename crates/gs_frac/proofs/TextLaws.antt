@@ -4,7 +4,8 @@ use Rattle.std.proofs.lemmas.Bool.{cases_Bool, cases_lt, and_parts, lt-ltb, le-l
 use Rattle.std.specs.{Prelude.{IsTrue, IfOk, option_map}, Fmt.{decimal, signed_decimal}, Str.{all_ascii_digits}, Str.Parse.{digits_value}}
 use Rattle.std.specs.Char.{is_ascii_digit}
 use Rattle.gs_frac.specs.{declared.value.Fraction.{Fraction}, declared.fault.FracFault.{FracFault}, Gcd.{gcd_of}}
-use Rattle.gs_frac.specs.Texts.{fraction_text, is_numeral, sides, signed, limit, is_fraction, number_of, reduced_fraction, fraction_between, fraction_from, fraction_of}
+use Rattle.gs_frac.specs.Texts.{fraction_text, is_numeral, sides, signed, limit, is_fraction, number_with_sign, reduced_fraction, fraction_between}
+use Rattle.gs_frac.specs.Texts.{fraction_from, fraction_of}
 use Rattle.gs_frac.specs.Views.{Gives}
 use Rattle.gs_frac.proofs.{Numerals.{decimal_of_value, numeral_of_decimal, digits_of_decimal, digit_in}, Made.{reduces}}
 
@@ -19,7 +20,7 @@ abbrev pub with_sign : Bool → List ℕ → List ℕ
 with_sign true ds = 45 ∷ ds
 with_sign false ds = ds
 
-signed_text : (negative : Bool) (n : ℕ) → (negative && eqb n 0) ≡ false → signed_decimal (number_of negative n) ≡ with_sign negative (decimal n)
+signed_text : (negative : Bool) (n : ℕ) → (negative && eqb n 0) ≡ false → signed_decimal (number_with_sign negative n) ≡ with_sign negative (decimal n)
 signed_text false n h = refl
 signed_text true zero h = absurd (false≢true (sym h))
 signed_text true (suc n) h = refl
@@ -37,9 +38,9 @@ has_reduced negative ds right ds_is right_is z =
         | inl low ↦ elim (cases_Bool (ltb 0 d && eqb (gcd_of n d) 1)) [
           | inr fails ↦ rw (lt-ltb n (2 ^ 127) few, lt-ltb d (2 ^ 127) low, fails) tt
           | inl holds ↦
-              let left : signed_decimal (number_of negative n) ≡ with_sign negative ds =
+              let left : signed_decimal (number_with_sign negative n) ≡ with_sign negative ds =
               signed_text negative n z ∙ ap (with_sign negative) (decimal_of_value ds ds_is (omega arith)) in
-              let text : with_sign negative ds ++ 47 ∷ right ≡ fraction_text (number_of negative n) (pos d) =
+              let text : with_sign negative ds ++ 47 ∷ right ≡ fraction_text (number_with_sign negative n) (pos d) =
               rw (left, decimal_of_value right right_is (omega arith)) refl in
               rw (lt-ltb n (2 ^ 127) few, lt-ltb d (2 ^ 127) low, holds) text
         ]
@@ -107,16 +108,16 @@ signed-digits (d ∷ ds) h =
     rw (ne_eqb d 45 (λ e. omega (arith, r.0))) refl
 
 read_back : (negative : Bool) (n d : ℕ) → n < 2 ^ 127 → d < 2 ^ 127 → 0 < d → gcd_of n d ≡ 1 → (negative && eqb n 0) ≡ false
-    → fraction_of (with_sign negative (decimal n) ++ 47 ∷ decimal d) ≡ Ok (number_of negative n, pos d)
+    → fraction_of (with_sign negative (decimal n) ++ 47 ∷ decimal d) ≡ Ok (number_with_sign negative n, pos d)
 read_back negative n d few low some one z =
     let num = numeral_of_decimal n (omega arith) in
     let den = numeral_of_decimal d (omega arith) in
-    let between : fraction_between (negative, decimal n) (decimal d) ≡ Ok (number_of negative n, pos d) =
+    let between : fraction_between (negative, decimal n) (decimal d) ≡ Ok (number_with_sign negative n, pos d) =
     rw (num.0, den.0, num.1, den.1, z) (reduces negative n d few low some one) in
     go negative (digits_of_decimal n (omega arith)) between
   where
-    go : (negative : Bool) → all_ascii_digits (decimal n) ≡ true → fraction_between (negative, decimal n) (decimal d) ≡ Ok (number_of negative n, pos d)
-        → fraction_of (with_sign negative (decimal n) ++ 47 ∷ decimal d) ≡ Ok (number_of negative n, pos d)
+    go : (negative : Bool) → all_ascii_digits (decimal n) ≡ true → fraction_between (negative, decimal n) (decimal d) ≡ Ok (number_with_sign negative n, pos d)
+        → fraction_of (with_sign negative (decimal n) ++ 47 ∷ decimal d) ≡ Ok (number_with_sign negative n, pos d)
     go false digits h = rw (sides_digits, signed-digits) h
     go true digits h = let e = sides_digits (decimal n) (decimal d) digits in rw e h
 

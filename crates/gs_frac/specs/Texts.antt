@@ -27,8 +27,8 @@ signed [] = (false, [])
 signed (b ∷ bytes) = if b == 45 then (true, bytes) else (false, b ∷ bytes)
 
 -- a number from its sign and size
-abbrev pub number_of : Bool → ℕ → ℤ
-number_of negative n = if negative then neg_ℤ (pos n) else pos n
+abbrev pub number_with_sign : Bool → ℕ → ℤ
+number_with_sign negative n = if negative then neg_ℤ (pos n) else pos n
 
 -- 2 to the 127th
 unfoldable pub limit : ℕ
@@ -44,7 +44,7 @@ is_fraction num (negsuc d) = false
 abbrev pub reduced_fraction : Bool → ℕ → ℕ → Result (ℤ × ℤ) FracFault
 reduced_fraction negative n d =
     if nat_lt n limit && nat_lt d limit
-    then (if nat_lt 0 d && gcd_of n d == 1 then Ok (number_of negative n, pos d) else Err NotReduced)
+    then (if nat_lt 0 d && gcd_of n d == 1 then Ok (number_with_sign negative n, pos d) else Err NotReduced)
     else Err TooWide
 
 -- the fraction from the two sides of a slash: a numeral with an optional minus sign, but not `-0`, and a numeral

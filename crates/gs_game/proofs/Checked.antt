@@ -9,7 +9,7 @@ use Rattle.gs_model.specs.{Game.{Game as Rules, Round as RoundRules, Ranking, Hi
 use Rattle.gs_model.specs.{Walk.{walk, walk_start, walk_rounds}, Numbering.{greatest}}
 use Rattle.gs_game.specs.{declared.faults.GameFault.{GameFault}, declared.game.Game.{Game}, declared.game.Round.{Round}, declared.positions.Point.{Point}}
 use Rattle.gs_game.specs.{declared.positions.End.{End}, declared.positions.Target.{Target as StoredTarget}, FaultOf.{IsFaultOf}}
-use Rattle.gs_game.specs.{Games.{HasFewCards, game_of, round_of, plain_trees}, Limits.{IsDealable, IsWithinLimits}, Lines.{RoundsFollow}}
+use Rattle.gs_game.specs.{Games.{HasFewCards, game_of, round_rules, plain_trees}, Limits.{IsDealable, IsWithinLimits}, Lines.{RoundsFollow}}
 use Rattle.gs_game.specs.Money.{first_of, most_in}
 use Rattle.gs_game.specs.Refusals.{put_too_large, too_many_lines, too_heavy, too_many_signals, too_many_deals, card_refusal, betting_refusal, even_refusal, uneven_refusal, put_refusal, lines_refusal, deal_refusal, weight_refusal, signals_from, signals_refusal, deals_refusal, first_refusal}
 use Rattle.gs_game.specs.{Valid.{IsWalkOf}, Walks.{Grows, RoundsWalkable}}
@@ -129,7 +129,7 @@ limits game few c d =
     let one = neither (weight_refusal g) (first_of (signals_refusal g) (deals_refusal g)) d in
     let two = neither (signals_refusal g) (deals_refusal g) one.1 in
     let cards = cards_pass game few c in
-    let long = length-map game.rounds.items round_of in
+    let long = length-map game.rounds.items round_rules in
     record {
       some_round = omega (arith, cards.some, long);
       few_rounds = omega (arith, cards.few, long);
@@ -138,14 +138,14 @@ limits game few c d =
       weight_in = weight-within g one.0;
     }
 
-small-rounds : (rs : List Round) → AllByRecursion HasFewCards rs → AllByRecursion (λ (r : RoundRules). (r.private ≤ 2) × (r.public ≤ 3)) (map round_of rs)
+small-rounds : (rs : List Round) → AllByRecursion HasFewCards rs → AllByRecursion (λ (r : RoundRules). (r.private ≤ 2) × (r.public ≤ 3)) (map round_rules rs)
 small-rounds [] h = tt
 small-rounds (r ∷ rs) h = let few = h.0 in ((few.private, few.public), small-rounds rs h.1)
 
 pub is_dealable : (game : Game) → All HasFewCards game.rounds.items → IsBonus (ranking_of game.ranking) game.bonus.items → card_refusal (game_of game) ≡ None
     → IsDealable (game_of game)
 is_dealable game few bonus c = record {
-  small = All-from_recursion (λ (r : RoundRules). (r.private ≤ 2) × (r.public ≤ 3)) (map round_of game.rounds.items)
+  small = All-from_recursion (λ (r : RoundRules). (r.private ≤ 2) × (r.public ≤ 3)) (map round_rules game.rounds.items)
       (small-rounds game.rounds.items (recursion_from_All HasFewCards game.rounds.items few));
   ranked = (cards_pass game few c).ranked;
   bonuses = bonus;

@@ -9,8 +9,10 @@ use Rattle.gs_model.specs.{Game.{Game as Rules, Round as RoundRules, Ranking, Hi
 use Rattle.gs_card.specs.Rankings.{ranking_of}
 use Rattle.gs_model.proofs.Basics.{every-append, some, some-none}
 use Rattle.gs_game.specs.{declared.game.Game.{Game}, declared.game.Round.{Round}, declared.faults.GameFault.{GameFault}, FaultOf.{IsFaultOf}}
-use Rattle.gs_game.specs.{Games.{HasFewCards, game_of, round_of}, Money.{first_of}}
-use Rattle.gs_game.specs.Refusals.{rounds, no_private, ranking_cards, too_heavy, too_many_signals, too_many_deals, own_cards, public_cards, ranks, rounds_refusal, private_refusal, ranking_refusal, copies_refusal, card_refusal, weight_refusal, signals_from, signals_refusal, deals_refusal, deal_refusal}
+use Rattle.gs_game.specs.{Games.{HasFewCards, game_of, round_rules}, Money.{first_of}}
+use Rattle.gs_game.specs.Refusals.{rounds, no_private, ranking_cards, too_heavy, too_many_signals, too_many_deals, own_card_total, public_card_total, ranks}
+use Rattle.gs_game.specs.Refusals.{rounds_refusal, private_refusal, ranking_refusal, copies_refusal, card_refusal, weight_refusal, signals_from}
+use Rattle.gs_game.specs.Refusals.{signals_refusal, deals_refusal, deal_refusal}
 use Rattle.gs_game.specs.Sequences.{count_sequences, draws, seen_sizes, privates, deal_sizes}
 use Rattle.gs_game.proofs.{Deciding.{fault_first, fault_second}, Evenly.{neither}, Sequencing.{signals_counted, deals_counted, weight_drawn}}
 
@@ -36,12 +38,12 @@ pub record SignalsSeen (g : Rules) (n count : ℕ) : Type 0 where
   pub over : 200000 < count → nat_lt 200000 (length (signals g n)) ≡ true
   pub within : count ≤ 200000 → nat_lt 200000 (length (signals g n)) ≡ false
 
-pub signals_seen : (game : Game) (left sizes shown : List ℕ) (n count : ℕ) → left ≡ game.deck.counts → sizes ≡ deal_sizes (map round_of game.rounds.items)
+pub signals_seen : (game : Game) (left sizes shown : List ℕ) (n count : ℕ) → left ≡ game.deck.counts → sizes ≡ deal_sizes (map round_rules game.rounds.items)
     → shown ≡ take (2 * n) sizes
     → n ≤ length game.rounds.items → count ≡ min (count_sequences left shown) 200001 → SignalsSeen (game_of game) n count
 signals_seen game left sizes shown n count l s t h c =
     let g = game_of game in
-    let few : n ≤ length g.rounds = rw (length-map game.rounds.items round_of) h in
+    let few : n ≤ length g.rounds = rw (length-map game.rounds.items round_rules) h in
     let front : shown ≡ seen_sizes (take n g.rounds) = t ∙ ap (take (2 * n)) s ∙ sizes_front g.rounds n few in
     let same : count_sequences left shown ≡ length (signals g n) = rw (l, front) (sym (signals_counted g n few)) in
     let counted : count ≡ min (length (signals g n)) 200001 = c ∙ ap (λ (k : ℕ). min k 200001) same in
@@ -64,11 +66,11 @@ signals_go g left next n h e = rw (h, e) refl
 pub record CardsPass (game : Game) : Type 0 where
   pub some : 1 ≤ length game.rounds.items
   pub few : length game.rounds.items ≤ 4
-  pub fits : sum (deal_sizes (map round_of game.rounds.items)) ≤ 14
+  pub fits : sum (deal_sizes (map round_rules game.rounds.items)) ≤ 14
   pub dealt : 0 < (round_at (game_of game) 1).private
-  pub ranked : ranks (ranking_of game.ranking) (own_cards (game_of game).rounds) (own_cards (game_of game).rounds + public_cards (game_of game).rounds) ≡ true
+  pub ranked : ranks (ranking_of game.ranking) (own_card_total (game_of game).rounds) (own_card_total (game_of game).rounds + public_card_total (game_of game).rounds) ≡ true
 
-sizes-sum : (rs : List RoundRules) → sum (seen_sizes rs) + sum (privates rs) ≡ 2 * own_cards rs + public_cards rs
+sizes-sum : (rs : List RoundRules) → sum (seen_sizes rs) + sum (privates rs) ≡ 2 * own_card_total rs + public_card_total rs
 sizes-sum [] = refl
 sizes-sum (r ∷ rs) =
     omega (
@@ -81,11 +83,11 @@ sizes-sum (r ∷ rs) =
       sizes-sum rs,
     )
 
-public-most : (rs : List Round) → AllByRecursion HasFewCards rs → public_cards (map round_of rs) ≤ 3 * length rs
+public-most : (rs : List Round) → AllByRecursion HasFewCards rs → public_card_total (map round_rules rs) ≤ 3 * length rs
 public-most [] h = omega arith
 public-most (r ∷ rs) h = let few = h.0 in omega (
   arith,
-  sum_by-cons (λ (q : RoundRules). q.public) (round_of r) (map round_of rs),
+  sum_by-cons (λ (q : RoundRules). q.public) (round_rules r) (map round_rules rs),
   public-most rs h.1,
   few.public,
 )
@@ -104,11 +106,11 @@ private-pass g h = elim (cases_Bool ((round_at g 1).private == 0)) [
   | inr e ↦ let n = eqb-false (round_at g 1).private 0 e in omega (arith, n)
 ]
 
-ranking-pass : (g : Rules) → ranking_refusal g ≡ None → ranks g.ranking (own_cards g.rounds) (own_cards g.rounds + public_cards g.rounds) ≡ true
+ranking-pass : (g : Rules) → ranking_refusal g ≡ None → ranks g.ranking (own_card_total g.rounds) (own_card_total g.rounds + public_card_total g.rounds) ≡ true
 unfolding ranking_refusal
-ranking-pass g h = elim (cases_Bool (ranks g.ranking (own_cards g.rounds) (own_cards g.rounds + public_cards g.rounds))) [
+ranking-pass g h = elim (cases_Bool (ranks g.ranking (own_card_total g.rounds) (own_card_total g.rounds + public_card_total g.rounds))) [
   | inl e ↦ e
-  | inr e ↦ absurd (some-none (ranking_cards (own_cards g.rounds) (own_cards g.rounds + public_cards g.rounds)) (rw e at h))
+  | inr e ↦ absurd (some-none (ranking_cards (own_card_total g.rounds) (own_card_total g.rounds + public_card_total g.rounds)) (rw e at h))
 ]
 
 ranked : (r : Ranking) (own public : ℕ) → ranks r own (own + public) ≡ true → public ≤ 12 → 2 * own + public ≤ 14
@@ -123,10 +125,10 @@ cards_pass game few h =
     let one = neither (rounds_refusal g) (first_of (private_refusal g) (first_of (ranking_refusal g) (copies_refusal g))) h in
     let two = neither (private_refusal g) (first_of (ranking_refusal g) (copies_refusal g)) one.1 in
     let three = neither (ranking_refusal g) (copies_refusal g) two.1 in
-    let long : length (map round_of game.rounds.items) ≡ length game.rounds.items = length-map game.rounds.items round_of in
+    let long : length (map round_rules game.rounds.items) ≡ length game.rounds.items = length-map game.rounds.items round_rules in
     let r = rounds-pass g one.0 in
     let most = public-most game.rounds.items (recursion_from_All HasFewCards game.rounds.items few) in
-    let ok = ranked g.ranking (own_cards g.rounds) (public_cards g.rounds) (ranking-pass g three.0) (omega (arith, most, r.1, long)) in
+    let ok = ranked g.ranking (own_card_total g.rounds) (public_card_total g.rounds) (ranking-pass g three.0) (omega (arith, most, r.1, long)) in
     record {
       some = omega (arith, r.0, long);
       few = omega (arith, r.1, long);
@@ -135,8 +137,8 @@ cards_pass game few h =
       ranked = ranking-pass g three.0;
     }
 
-sizes-few : (rs : List Round) → AllByRecursion HasFewCards rs → AllByRecursion (λ k. k ≤ 3) (seen_sizes (map round_of rs))
-    × AllByRecursion (λ k. k ≤ 3) (privates (map round_of rs))
+sizes-few : (rs : List Round) → AllByRecursion HasFewCards rs → AllByRecursion (λ k. k ≤ 3) (seen_sizes (map round_rules rs))
+    × AllByRecursion (λ k. k ≤ 3) (privates (map round_rules rs))
 sizes-few [] h = (tt, tt)
 sizes-few (r ∷ rs) h =
     let few = h.0 in
@@ -144,11 +146,11 @@ sizes-few (r ∷ rs) h =
     let small : r.private ≤ 3 = omega (arith, few.private) in
     ((small, (few.public, rest.0)), (small, rest.1))
 
-pub sizes_few : (rs : List Round) → All HasFewCards rs → All (λ k. k ≤ 3) (deal_sizes (map round_of rs))
+pub sizes_few : (rs : List Round) → All HasFewCards rs → All (λ k. k ≤ 3) (deal_sizes (map round_rules rs))
 sizes_few rs h =
     let few = sizes-few rs (recursion_from_All HasFewCards rs h) in
-    All-from_recursion (λ k. k ≤ 3) (deal_sizes (map round_of rs)) (every-append (λ k. k
-    ≤ 3) (seen_sizes (map round_of rs)) (privates (map round_of rs)) few.0 few.1)
+    All-from_recursion (λ k. k ≤ 3) (deal_sizes (map round_rules rs)) (every-append (λ k. k
+    ≤ 3) (seen_sizes (map round_rules rs)) (privates (map round_rules rs)) few.0 few.1)
 
 pub copies_few : (counts : List ℕ) → length counts ≤ 52 → All (λ n. n ≤ 9) counts → sum counts ≤ 468
 copies_few counts short h =
@@ -157,7 +159,7 @@ copies_few counts short h =
 
 -- ---- the refusals on deals, in order
 
-pub weight_over : (game : Game) (copies weight : ℕ) (sizes : List ℕ) → copies ≡ sum game.deck.counts → sizes ≡ deal_sizes (map round_of game.rounds.items)
+pub weight_over : (game : Game) (copies weight : ℕ) (sizes : List ℕ) → copies ≡ sum game.deck.counts → sizes ≡ deal_sizes (map round_rules game.rounds.items)
     → weight ≡ draws copies sizes
     → 67108864 < weight → deal_refusal (game_of game) ≡ Some (too_heavy weight)
 unfolding deal_refusal weight_refusal
@@ -169,7 +171,7 @@ pub record WeightPass (game : Game) (weight : ℕ) : Type 0 where
   pub passes : weight_refusal (game_of game) ≡ None
   pub weighs : weight ≡ total_weight (frame_of (game_of game))
 
-pub weight_within : (game : Game) (copies weight : ℕ) (sizes : List ℕ) → copies ≡ sum game.deck.counts → sizes ≡ deal_sizes (map round_of game.rounds.items)
+pub weight_within : (game : Game) (copies weight : ℕ) (sizes : List ℕ) → copies ≡ sum game.deck.counts → sizes ≡ deal_sizes (map round_rules game.rounds.items)
     → weight ≡ draws copies sizes
     → weight ≤ 67108864 → WeightPass game weight
 unfolding weight_refusal
@@ -191,13 +193,13 @@ pub signals_fault : (game : Game) (f : GameFault) → IsFaultOf (signals_refusal
     → IsFaultOf (first_of (signals_refusal (game_of game)) (deals_refusal (game_of game))) f
 signals_fault game f h = fault_first (signals_refusal (game_of game)) (deals_refusal (game_of game)) f h
 
-deals-same : (game : Game) (left sizes : List ℕ) (count : ℕ) → left ≡ game.deck.counts → sizes ≡ deal_sizes (map round_of game.rounds.items)
+deals-same : (game : Game) (left sizes : List ℕ) (count : ℕ) → left ≡ game.deck.counts → sizes ≡ deal_sizes (map round_rules game.rounds.items)
     → count ≡ min (count_sequences left sizes) 8000001
     → count ≡ min (length (deals (game_of game))) 8000001
 deals-same game left sizes count l s c = c ∙ ap (λ (k : ℕ). min k 8000001) (rw (l, s) (sym (deals_counted (game_of game))))
 
 pub deals_over : (game : Game) (left sizes : List ℕ) (count : ℕ) → signals_refusal (game_of game) ≡ None → left ≡ game.deck.counts
-    → sizes ≡ deal_sizes (map round_of game.rounds.items)
+    → sizes ≡ deal_sizes (map round_rules game.rounds.items)
     → count ≡ min (count_sequences left sizes) 8000001 → 8000000 < count
     → first_of (signals_refusal (game_of game)) (deals_refusal (game_of game)) ≡ Some too_many_deals
 unfolding deals_refusal
@@ -206,7 +208,7 @@ deals_over game left sizes count g l s c h =
     rw (g, over) refl
 
 pub deals_within : (game : Game) (left sizes : List ℕ) (count : ℕ) → signals_refusal (game_of game) ≡ None → left ≡ game.deck.counts
-    → sizes ≡ deal_sizes (map round_of game.rounds.items)
+    → sizes ≡ deal_sizes (map round_rules game.rounds.items)
     → count ≡ min (count_sequences left sizes) 8000001 → count ≤ 8000000
     → (first_of (signals_refusal (game_of game)) (deals_refusal (game_of game)) ≡ None) × (count ≡ length (deals (game_of game)))
 unfolding deals_refusal

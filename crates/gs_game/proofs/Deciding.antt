@@ -4,7 +4,7 @@ use Rattle.std.proofs.lemmas.Bool.{lt-ltb, le-ltb}
 use Rattle.std.specs.Prelude.{Option, Some, None, nat_lt, Result, Ok, Err, MatchResult}
 use Rattle.gs_model.specs.{Betting.{Bet}, Frame.{trees_of}, Game.{Round as RoundRules}, Walk.{walk, walk_start}, Numbering.{greatest}}
 use Rattle.gs_game.specs.{declared.faults.GameFault.{GameFault}, declared.game.Game.{Game}, declared.game.Round.{Round}, FaultOf.{IsFaultOf}, Counts.{ends_in}}
-use Rattle.gs_game.specs.{Games.{round_of, game_of, plain_trees}, Money.{first_of, most_in}}
+use Rattle.gs_game.specs.{Games.{round_rules, game_of, plain_trees}, Money.{first_of, most_in}}
 use Rattle.gs_game.specs.Refusals.{Refusal, put_too_large, too_many_lines, no_even_from, uneven_from, even_refusal, uneven_refusal, put_refusal, lines_refusal, betting_refusal}
 use Rattle.gs_game.specs.declared.faults.GameFault.TheVariants as faults
 use Rattle.gs_game.proofs.EndLaws.{rounds_count}
@@ -28,9 +28,9 @@ fault_first a b faults.Memory h = tt
 pub fault_second : (a b : Option Refusal) (f : GameFault) → a ≡ None → IsFaultOf b f → IsFaultOf (first_of a b) f
 fault_second a b f e h = rw e h
 
-same_trees : (rs : List Round) → map (λ (r : RoundRules). r.tree) (map round_of rs) ≡ plain_trees rs
+same_trees : (rs : List Round) → map (λ (r : RoundRules). r.tree) (map round_rules rs) ≡ plain_trees rs
 same_trees [] = refl
-same_trees (r ∷ rs) = ap (λ (ts : List Bet). (round_of r).tree ∷ ts) (same_trees rs)
+same_trees (r ∷ rs) = ap (λ (ts : List Bet). (round_rules r).tree ∷ ts) (same_trees rs)
 
 pub trees_are : (g : Game) → trees_of (game_of g) ≡ plain_trees g.rounds.items
 trees_are g = same_trees g.rounds.items

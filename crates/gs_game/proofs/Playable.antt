@@ -8,11 +8,11 @@ use Rattle.gs_model.specs.{Betting.{Bet, Moves, act, fold, even, none, move, Has
 use Rattle.gs_model.specs.{Game.{Game as Rules, Round as RoundRules, IsPlayable}, Positions.{End}}
 use Rattle.gs_model.specs.Walk.{Place, Walked, after_move, fold_end, walk_tree, walk_moves, walk_rounds, walk_start, walk}
 use Rattle.gs_model.proofs.Basics.{every-weaker, every-append}
-use Rattle.gs_game.specs.{declared.game.Game.{Game}, declared.game.Round.{Round}, Games.{game_of, round_of}}
+use Rattle.gs_game.specs.{declared.game.Game.{Game}, declared.game.Round.{Round}, Games.{game_of, round_rules}}
 use Rattle.gs_game.specs.Money.{one_after, two_after, most_put, most_moved, most_in}
 use Rattle.gs_game.proofs.WalkRoom.{after_put_one, after_put_two}
 
-players : (rs : List Round) → AllByRecursion (λ (r : RoundRules). HasPlayers r.tree) (map round_of rs)
+players : (rs : List Round) → AllByRecursion (λ (r : RoundRules). HasPlayers r.tree) (map round_rules rs)
 players [] = tt
 players (r ∷ rs) = (has_players (plain r.tree.tree) r.tree.sound, players rs)
 
@@ -20,8 +20,8 @@ players (r ∷ rs) = (has_players (plain r.tree.tree) r.tree.sound, players rs)
 pub is_playable : (game : Game) → 0 < length game.rounds.items → IsPlayable (game_of game)
 is_playable game some =
     record {
-      some = omega (arith, length-map game.rounds.items round_of, some);
-      players = All-from_recursion (λ (r : RoundRules). HasPlayers r.tree) (map round_of game.rounds.items) (players game.rounds.items);
+      some = omega (arith, length-map game.rounds.items round_rules, some);
+      players = All-from_recursion (λ (r : RoundRules). HasPlayers r.tree) (map round_rules game.rounds.items) (players game.rounds.items);
     }
 
 -- ---- what the ends have put

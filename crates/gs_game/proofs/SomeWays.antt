@@ -5,7 +5,8 @@ use Rattle.std.specs.Prelude.{Some, None}
 use Rattle.gs_model.specs.{Cards.{choose}, Game.{Game, Round}}
 use Rattle.gs_model.proofs.{Basics.{product_positive}, Fits.{choose-some}}
 use Rattle.gs_game.specs.{GoingOn.{cards_shown, own_cards_of, ways_on}, Money.{first_of}}
-use Rattle.gs_game.specs.Refusals.{betting_refusal, card_refusal, copies_refusal, deal_refusal, first_refusal, not_enough_cards, own_cards, private_refusal, public_cards, ranking_refusal, rounds_refusal}
+use Rattle.gs_game.specs.Refusals.{betting_refusal, card_refusal, copies_refusal, deal_refusal, first_refusal, not_enough_cards, own_card_total}
+use Rattle.gs_game.specs.Refusals.{private_refusal, public_card_total, ranking_refusal, rounds_refusal}
 use Rattle.gs_game.specs.Sequences.{deal_sizes, draws, privates, seen_sizes}
 use Rattle.gs_game.proofs.Evenly.{neither}
 
@@ -29,7 +30,7 @@ own_sum [] = refl
 own_sum (r ∷ rs) = omega (arith, own_sum rs, sum_by-cons (λ (x : ℕ). x) r.private (privates rs))
 
 -- the cards of a deal over some rounds
-all_cards : (rs : List Round) → 2 * own_cards rs + public_cards rs ≡ cards_shown rs + own_cards_of rs
+all_cards : (rs : List Round) → 2 * own_card_total rs + public_card_total rs ≡ cards_shown rs + own_cards_of rs
 all_cards [] = refl
 all_cards (r ∷ rs) = omega (arith, all_cards rs, sum_by-cons (λ (r : Round). r.private) r rs, sum_by-cons (λ (r : Round). r.public) r rs)
 
@@ -41,10 +42,10 @@ own_append : (rs qs : List Round) → own_cards_of (rs ++ qs) ≡ own_cards_of r
 own_append [] qs = omega arith
 own_append (r ∷ rs) qs = omega (arith, own_append rs qs)
 
-cards_enough : (g : Game) → copies_refusal g ≡ None → 2 * own_cards g.rounds + public_cards g.rounds ≤ sum g.copies
+cards_enough : (g : Game) → copies_refusal g ≡ None → 2 * own_card_total g.rounds + public_card_total g.rounds ≤ sum g.copies
 unfolding copies_refusal
 cards_enough g h =
-    let need = 2 * own_cards g.rounds + public_cards g.rounds in
+    let need = 2 * own_card_total g.rounds + public_card_total g.rounds in
     elim (cases_Bool (nat_lt (sum g.copies) need)) [
       | inl short ↦ absurd (let k : Some (not_enough_cards need (sum g.copies)) ≡ None = sym (rw short refl) ∙ h in cc)
       | inr enough ↦ ltb-false (sum g.copies) need enough

@@ -6,8 +6,8 @@ use Rattle.gs_model.specs.{Betting.{Bet}, Game.{Game as Rules, Round as RoundRul
 use Rattle.gs_game.specs.{declared.game.Game.{Game}, declared.game.Round.{Round}}
 
 -- a round, with its betting tree as a plain tree
-abbrev pub round_of : Round → RoundRules
-round_of r = record { private = r.private; public = r.public; tree = plain r.tree.tree }
+abbrev pub round_rules : Round → RoundRules
+round_rules r = record { private = r.private; public = r.public; tree = plain r.tree.tree }
 
 -- a game, with its deck as copies by kind
 abbrev pub game_of : Game → Rules
@@ -17,7 +17,7 @@ game_of g = record {
   ranking = ranking_of g.ranking;
   bonus = g.bonus.items;
   ante = g.ante;
-  rounds = map round_of g.rounds.items;
+  rounds = map round_rules g.rounds.items;
 }
 
 -- the betting trees of some rounds

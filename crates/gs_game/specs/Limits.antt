@@ -1,7 +1,7 @@
 -- The limits that a valid game keeps; the crates above rely on them.
 use Rattle.std.specs.Prelude.{ℕ, ◌+◌, ◌<◌, ◌≤◌, ◌≡◌, true, length, All}
 use Rattle.gs_model.specs.{Deals.{deals}, Frame.{frame_of, total_weight}, Game.{Game, Round, round_count}, Outcome.{IsBonus}, Signals.{signals}}
-use Rattle.gs_game.specs.Refusals.{own_cards, public_cards, ranks}
+use Rattle.gs_game.specs.Refusals.{own_card_total, public_card_total, ranks}
 
 -- a valid game has 1 to 4 rounds, at most 200,000 raw signals in each, and at most 8,000,000 deals; these weigh at most 67,108,864 in all
 pub record IsWithinLimits (g : Game) : Type 0 where
@@ -15,5 +15,5 @@ pub record IsWithinLimits (g : Game) : Type 0 where
 -- category
 pub record IsDealable (g : Game) : Type 0 where
   pub small : All (λ (r : Round). (r.private ≤ 2) × (r.public ≤ 3)) g.rounds
-  pub ranked : ranks g.ranking (own_cards g.rounds) (own_cards g.rounds + public_cards g.rounds) ≡ true
+  pub ranked : ranks g.ranking (own_card_total g.rounds) (own_card_total g.rounds + public_card_total g.rounds) ≡ true
   pub bonuses : IsBonus g.ranking g.bonus

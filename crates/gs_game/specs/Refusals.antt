@@ -21,12 +21,12 @@ pub data Refusal : Type 0 where
 -- ---- cards
 
 -- how many own cards one player gets over all rounds
-abbrev pub own_cards : List Round → ℕ
-own_cards rs = sum_by (λ (r : Round). r.private) rs
+abbrev pub own_card_total : List Round → ℕ
+own_card_total rs = sum_by (λ (r : Round). r.private) rs
 
 -- how many public cards there are over all rounds
-abbrev pub public_cards : List Round → ℕ
-public_cards rs = sum_by (λ (r : Round). r.public) rs
+abbrev pub public_card_total : List Round → ℕ
+public_card_total rs = sum_by (λ (r : Round). r.public) rs
 
 -- whether a ranking can rank hands, by the number of own cards and of all cards
 abbrev pub ranks : Ranking → ℕ → ℕ → Bool
@@ -45,14 +45,14 @@ private_refusal g = if (round_at g 1).private == 0 then Some no_private else Non
 -- the ranking cannot rank the hands of the game
 unfoldable pub ranking_refusal : Game → Option Refusal
 ranking_refusal g =
-    let own = own_cards g.rounds in
-    let all = own_cards g.rounds + public_cards g.rounds in
+    let own = own_card_total g.rounds in
+    let all = own_card_total g.rounds + public_card_total g.rounds in
     if ranks g.ranking own all then None else Some (ranking_cards own all)
 
 -- both players' cards and the public cards are more than all copies
 unfoldable pub copies_refusal : Game → Option Refusal
 copies_refusal g =
-    let need = 2 * own_cards g.rounds + public_cards g.rounds in
+    let need = 2 * own_card_total g.rounds + public_card_total g.rounds in
     if nat_lt (sum g.copies) need then Some (not_enough_cards need (sum g.copies)) else None
 
 -- the first broken rule on rounds and cards: the number of rounds, the private card of round 1, the ranking, the copies

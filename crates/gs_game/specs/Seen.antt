@@ -37,11 +37,11 @@ abbrev pub point_of : StoredPoint → OwnPoint
 point_of p = record { player = p.player; round = p.round; own = option_map step_of p.own; moves = map arrow_of p.moves.items }
 
 -- how play ended in the program, as the definitions see it
-abbrev pub kind_of : StoredKind → EndKind
-kind_of kinds.Folded1 = model.Folded1
-kind_of kinds.Folded2 = model.Folded2
-kind_of kinds.Show = model.Show
+abbrev pub end_kind_of : StoredKind → EndKind
+end_kind_of kinds.Folded1 = model.Folded1
+end_kind_of kinds.Folded2 = model.Folded2
+end_kind_of kinds.Show = model.Show
 
 -- an end of the program, as the definitions see it
 abbrev pub end_of : StoredEnd → End
-end_of z = record { round = z.round; kind = kind_of z.kind; put = z.put; one = option_map step_of z.one; two = option_map step_of z.two }
+end_of z = record { round = z.round; kind = end_kind_of z.kind; put = z.put; one = option_map step_of z.one; two = option_map step_of z.two }

@@ -2,7 +2,7 @@
 
 ghost use Rattle.std.specs.Prelude.{◌≡◌, ◌≤◌, ◌<◌, ◌+◌, ◌*◌, None, IfOk, OnOk, MatchResult, All, length, map, min, sum, ◌++◌};
 ghost use Rattle.gs_model.specs.{Cards.{choose}, Deals.{deals}, Frame.{frame_of, total_weight}};
-ghost use Rattle.gs_game.specs.{FaultOf.{IsFaultOf}, Games.{HasFewCards, game_of, round_of}, Money.{first_of}};
+ghost use Rattle.gs_game.specs.{FaultOf.{IsFaultOf}, Games.{HasFewCards, game_of, round_rules}, Money.{first_of}};
 ghost use Rattle.gs_game.specs.Refusals.{card_refusal, deal_refusal, deals_refusal, signals_refusal};
 ghost use Rattle.gs_game.specs.Sequences.{count_sequences, deal_sizes, draws, power, privates, seen_sizes};
 
@@ -44,7 +44,7 @@ fn draws(copies: u32, sizes: &[u8]) -> u128
 
 /// Adds the sizes of the groups that a player sees, round by round.
 fn push_seen(sizes: &mut Vec<u8>, rounds: &[Round]) -> Result<(), AllocError>
-    ensures { OnOk result (sizes.new.items ≡ sizes.old.items ++ seen_sizes (map round_of rounds.now)) }
+    ensures { OnOk result (sizes.new.items ≡ sizes.old.items ++ seen_sizes (map round_rules rounds.now)) }
 {
     for round in rounds {
         sizes.push(round.private)?;
@@ -55,7 +55,7 @@ fn push_seen(sizes: &mut Vec<u8>, rounds: &[Round]) -> Result<(), AllocError>
 
 /// Adds the sizes of a player's own groups, round by round.
 fn push_private(sizes: &mut Vec<u8>, rounds: &[Round]) -> Result<(), AllocError>
-    ensures { OnOk result (sizes.new.items ≡ sizes.old.items ++ privates (map round_of rounds.now)) }
+    ensures { OnOk result (sizes.new.items ≡ sizes.old.items ++ privates (map round_rules rounds.now)) }
 {
     for round in rounds {
         sizes.push(round.private)?;
@@ -65,7 +65,7 @@ fn push_private(sizes: &mut Vec<u8>, rounds: &[Round]) -> Result<(), AllocError>
 
 /// Returns the sizes of the groups of a deal: all that player 1 sees, then player 2's own groups.
 fn sizes_of(alloc: Global, rounds: &[Round]) -> Result<Vec<u8>, AllocError>
-    ensures { IfOk result (λ v. v.items ≡ deal_sizes (map round_of rounds.now)) }
+    ensures { IfOk result (λ v. v.items ≡ deal_sizes (map round_rules rounds.now)) }
 {
     let mut sizes = Vec::new(alloc);
     push_seen(&mut sizes, rounds)?;
@@ -78,7 +78,7 @@ fn sizes_of(alloc: Global, rounds: &[Round]) -> Result<Vec<u8>, AllocError>
 fn check_signals(game: &Game, left: &mut [u8], sizes: &[u8]) -> Result<(), GameFault>
     requires few { length game.now.rounds.items ≤ 4 }
     requires left { left.old ≡ game.now.deck.counts }
-    requires sizes { sizes.now ≡ deal_sizes (map round_of game.now.rounds.items) }
+    requires sizes { sizes.now ≡ deal_sizes (map round_rules game.now.rounds.items) }
     ensures refusal { MatchResult result (λ _. signals_refusal (game_of game.now) ≡ None) (IsFaultOf (signals_refusal (game_of game.now))) }
     ensures kept { left.new ≡ left.old }
 {
@@ -111,7 +111,7 @@ fn count_deals(left: &mut [u8], sizes: &[u8], ways: u64) -> u64
 fn check_counts(game: &Game, left: &mut [u8], sizes: &[u8], weight: u64) -> Result<u32, GameFault>
     requires few { length game.now.rounds.items ≤ 4 }
     requires left { left.old ≡ game.now.deck.counts }
-    requires sizes { sizes.now ≡ deal_sizes (map round_of game.now.rounds.items) }
+    requires sizes { sizes.now ≡ deal_sizes (map round_rules game.now.rounds.items) }
     requires weight { weight ≡ draws (sum game.now.deck.counts) sizes.now }
     ensures { MatchResult result (λ count. (first_of (signals_refusal (game_of game.now)) (deals_refusal (game_of game.now)) ≡ None)
         × (count ≡ length (deals (game_of game.now)))) (IsFaultOf (first_of (signals_refusal (game_of game.now)) (deals_refusal (game_of game.now)))) }

@@ -1,7 +1,7 @@
 //! The game that stops after some rounds.
 
 ghost use Rattle.std.specs.Prelude.{◌≡◌, ◌≤◌, ◌++◌, ◌∷◌, [], All, IfOk, OnOk, map};
-ghost use Rattle.gs_game.specs.{Games.{HasFewCards, round_of}, GoingOn.{unbet}, Sequences.{seen_sizes}};
+ghost use Rattle.gs_game.specs.{Games.{HasFewCards, round_rules}, GoingOn.{unbet}, Sequences.{seen_sizes}};
 ghost use Rattle.gs_model.specs.Game.{Round as RoundRules};
 
 use crate::faults::GameFault;
@@ -21,8 +21,8 @@ fn push_round(
     requires private { private ≤ 2 }
     requires public { public ≤ 3 }
     requires few { All HasFewCards rounds.old.items }
-    ensures rounds { OnOk result (map round_of rounds.new.items ≡ map round_of rounds.old.items ++ unbet private public ∷ []) }
-    ensures sizes { OnOk result (seen_sizes (map round_of rounds.new.items) ≡ seen_sizes (map round_of rounds.old.items) ++ private ∷ public ∷ []) }
+    ensures rounds { OnOk result (map round_rules rounds.new.items ≡ map round_rules rounds.old.items ++ unbet private public ∷ []) }
+    ensures sizes { OnOk result (seen_sizes (map round_rules rounds.new.items) ≡ seen_sizes (map round_rules rounds.old.items) ++ private ∷ public ∷ []) }
     ensures few { OnOk result (All HasFewCards rounds.new.items) }
 {
     let tree = limit_tree(alloc, 1, 0)?;
@@ -37,9 +37,9 @@ fn push_round(
 /// Returns rounds that deal as these do, without betting, and then one that deals no cards.
 fn stopped_rounds(alloc: Global, rounds: &[Round]) -> Result<Vec<Round>, AllocError>
     requires { All HasFewCards rounds.now }
-    ensures rounds { IfOk result (λ v. map round_of v.items ≡ map (λ (r : RoundRules). unbet r.private r.public) (map round_of rounds.now)
+    ensures rounds { IfOk result (λ v. map round_rules v.items ≡ map (λ (r : RoundRules). unbet r.private r.public) (map round_rules rounds.now)
         ++ unbet 0 0 ∷ []) }
-    ensures sizes { IfOk result (λ v. seen_sizes (map round_of v.items) ≡ seen_sizes (map round_of rounds.now) ++ 0 ∷ 0 ∷ []) }
+    ensures sizes { IfOk result (λ v. seen_sizes (map round_rules v.items) ≡ seen_sizes (map round_rules rounds.now) ++ 0 ∷ 0 ∷ []) }
     ensures few { IfOk result (λ v. All HasFewCards v.items) }
 {
     let mut stopped = Vec::new(alloc);

@@ -1,7 +1,7 @@
 -- What a check of a game's classes finds is what `check` says.
 use Rattle.std.proofs.Common.{◌≡◌, ◌⊎◌, ⊎_elim, inl, inr, ℕ, List, Bool, length, arith, refl, sym, ap, ◌∙◌, subst}
 use Rattle.gs_card.specs.Decks.{DeckValue}
-use Rattle.gs_file.specs.Reading.{FileGame, rules_of}
+use Rattle.gs_file.specs.Reading.{FileGame, file_rules}
 use Rattle.gs_filter.specs.Filter.{single_classes}
 use Rattle.gs_filter.proofs.ClassLaws.{single_are_classes}
 use Rattle.gs_iso.proofs.Whole.{all_parents, parents_at, parents_long}
@@ -27,7 +27,7 @@ lists_of g parents lists e h =
           omega (arith, l, at, p);
     }
 
-pub is_checked : (grouping : Grouping) (summary : Bool) (v : FileGame) (g : Game) (d : DeckValue) (lists : ClassLists) (text : List ℕ) → g ≡ rules_of v
+pub is_checked : (grouping : Grouping) (summary : Bool) (v : FileGame) (g : Game) (d : DeckValue) (lists : ClassLists) (text : List ℕ) → g ≡ file_rules v
     → d ≡ v.deck → IsGrouping grouping g lists → IsLossless (frame_of g) lists
     → text ≡ told summary d g lists → IsChecked grouping summary v text
 is_checked grouping summary v g d lists text of_game of_deck are lossless printed = record {
@@ -48,14 +48,14 @@ always_lossless grouping g lists one are = ⊎_elim
     one
 
 -- only signal classes can have an unlike pair, since those of the other groupings are lossless
-pub unlike_so : (grouping : Grouping) (v : FileGame) (lists : ClassLists) → IsGrouping grouping (rules_of v) lists → (r : Reply) → SaysUnlike v lists r
+pub unlike_so : (grouping : Grouping) (v : FileGame) (lists : ClassLists) → IsGrouping grouping (file_rules v) lists → (r : Reply) → SaysUnlike v lists r
     → SaysNotLossless grouping v r
 unlike_so Isomorphism v lists are r said = (refl, lists, are, said)
-unlike_so Coarsest v lists are r said = absurd (said.3.not_lossless (always_lossless Coarsest (rules_of v) lists (inl refl) are))
-unlike_so Single v lists are r said = absurd (said.3.not_lossless (always_lossless Single (rules_of v) lists (inr refl) are))
+unlike_so Coarsest v lists are r said = absurd (said.3.not_lossless (always_lossless Coarsest (file_rules v) lists (inl refl) are))
+unlike_so Single v lists are r said = absurd (said.3.not_lossless (always_lossless Single (file_rules v) lists (inr refl) are))
 
 -- so `check` refuses them
-pub check_refuses : (grouping : Grouping) (summary : Bool) (v : FileGame) (lists : ClassLists) → IsGrouping grouping (rules_of v) lists → (r : Reply)
+pub check_refuses : (grouping : Grouping) (summary : Bool) (v : FileGame) (lists : ClassLists) → IsGrouping grouping (file_rules v) lists → (r : Reply)
     → SaysUnlike v lists r → ChecksGame grouping summary v r
 check_refuses grouping summary v lists are (Prints text) said = absurd (let e = said.4 in cc)
 check_refuses grouping summary v lists are (Refuses why) said = unlike_so grouping v lists are (Refuses why) said

@@ -1,6 +1,6 @@
 -- What `check` says of an input.
 use Rattle.std.specs.Prelude.{◌≡◌, ℕ, List, Bool}
-use Rattle.gs_file.specs.Reading.{FileGame, read_at, rules_of}
+use Rattle.gs_file.specs.Reading.{FileGame, read_at, file_rules}
 use Rattle.gs_filter.specs.Filter.{single_classes}
 use Rattle.gs_model.specs.{Classes.{ClassLists}, Frame.{frame_of}, Game.{Game}, Lossless.{IsLossless}, Refinement.{IsCoarsestLossless}}
 use Rattle.gs_model.specs.SignalClasses.{IsSignalClasses}
@@ -17,14 +17,14 @@ IsGrouping Single g lists = lists ≡ single_classes (frame_of g).parents
 -- the classes of the grouping are lossless, and the text is theirs or their summary
 pub record IsChecked (grouping : Grouping) (summary : Bool) (g : FileGame) (text : List ℕ) : Type 0 where
   pub classes : ClassLists
-  pub are : IsGrouping grouping (rules_of g) classes
-  pub lossless : IsLossless (frame_of (rules_of g)) classes
-  pub printed : text ≡ told summary g.deck (rules_of g) classes
+  pub are : IsGrouping grouping (file_rules g) classes
+  pub lossless : IsLossless (frame_of (file_rules g)) classes
+  pub printed : text ≡ told summary g.deck (file_rules g) classes
 
 -- the classes of the grouping are refused with their first unlike pair; only those of ordered game isomorphism may have one
 abbrev pub SaysNotLossless : Grouping → FileGame → Reply → Type 0
 SaysNotLossless grouping g reply =
-    (grouping ≡ Isomorphism) × (classes : ClassLists) × IsSignalClasses (rules_of g) classes × SaysUnlike g classes reply
+    (grouping ≡ Isomorphism) × (classes : ClassLists) × IsSignalClasses (file_rules g) classes × SaysUnlike g classes reply
 
 -- what `check` says of a game: the text of its classes, or their first unlike pair
 abbrev pub ChecksGame : Grouping → Bool → FileGame → Reply → Type 0

@@ -1,7 +1,7 @@
 -- What `shrink` says of an input.
 use Rattle.std.specs.Prelude.{◌≡◌, ℕ, List, Bool, true, false}
 use Rattle.gs_card.specs.Decks.{DeckValue}
-use Rattle.gs_file.specs.Reading.{FileGame, read_at, rules_of}
+use Rattle.gs_file.specs.Reading.{FileGame, read_at, file_rules}
 use Rattle.gs_model.specs.{Classes.{ClassLists}, Game.{Game}, SignalClasses.{IsSignalClasses}}
 use Rattle.gs_text.specs.ClassText.{class_text, summary_text}
 use Rattle.gs_reply.specs.Replies.{Reply, Prints, Refuses, OfReading}
@@ -14,8 +14,8 @@ told true d g lists = summary_text g lists
 -- the text is that of the signal classes of a game, those of recursive ordered game isomorphism, or their summary
 pub record IsShrunk (summary : Bool) (g : FileGame) (text : List ℕ) : Type 0 where
   pub classes : ClassLists
-  pub are : IsSignalClasses (rules_of g) classes
-  pub printed : text ≡ told summary g.deck (rules_of g) classes
+  pub are : IsSignalClasses (file_rules g) classes
+  pub printed : text ≡ told summary g.deck (file_rules g) classes
 
 -- what `shrink` says of a game: the text of its signal classes; no game is refused
 abbrev pub ShrinksGame : Bool → FileGame → Reply → Type 0

@@ -6,10 +6,10 @@ use Rattle.gs_model.specs.{Classes.{ClassLists}, Frame.{Frame, total_weight}, Pl
 use Rattle.gs_reply.specs.Refusals.{Limit, Refusal, Sequences, Cells, Table_numbers, Raw_cells, Bad_game, Unlike_pair, Overflows, Many_pivots, Too_large, Bad_strategy, Wrong_number, Bad_query, Other_game, Bad_certificate}
 use Rattle.gs_reply.specs.{Replies.{OfRead, Reply, Prints}, Troubles.{Passes}, declared.strategies.Which.TheVariants.{Only}, VerdictText.{verdict_text}}
 use Rattle.gs_seq.specs.{Stops.{IsSmall}, declared.plan.Plan.{Plan}}
-use Rattle.gs_settle.specs.Texts.{IsTextOf}
+use Rattle.gs_settle.specs.Texts.{IsSettledText}
 use Rattle.gs_strategy.proofs.Only.{only}
-use Rattle.gs_strategy.specs.{Checks.{ReadResult}, Confirmed.{AreNumbersOf, IsConfirmed, frame_of, over, raw_plan}, Laws.{AreFractions, IsStrategy}}
-use Rattle.gs_strategy.specs.{Texts.{strategy_text}, Values.{FractionParts, Numbers, Strategy, frame_in}}
+use Rattle.gs_strategy.specs.{Checks.{ReadResult}, Confirmed.{AreNumbersOf, IsConfirmed, strategy_frame, over, raw_plan}, Laws.{AreFractions, IsStrategy}}
+use Rattle.gs_strategy.specs.{Texts.{strategy_text}, Values.{FractionParts, Numbers, Strategy, file_frame}}
 use Rattle.gs_laws.proofs.{Dealt.{told_dealt}, Strategies.{printed_strategy}, Verdicts.{numbers_one, scale_some}}
 
 pub verdicts_one : (f : Frame) (x y : RawPlan) (n m : Numbers) → 0 < total_weight f * x.total * y.total → AreFractions n → AreFractions m
@@ -19,18 +19,18 @@ verdicts_one f x y n m some h k one two =
 
 -- the weight of all deals and both totals are above 0
 pub strategy_scale : (version : Version) (s : Strategy) → IsStrategy version s
-    → 0 < total_weight (frame_of s) * (raw_plan s s.one).total * (raw_plan s s.two).total
+    → 0 < total_weight (strategy_frame s) * (raw_plan s s.one).total * (raw_plan s s.two).total
 strategy_scale version s h =
-    scale_some (total_weight (frame_of s)) s.one.total s.two.total (told_dealt version s.game h.written.game).deals h.first.plan.total_in.0
+    scale_some (total_weight (strategy_frame s)) s.one.total s.two.total (told_dealt version s.game h.written.game).deals h.first.plan.total_in.0
     h.second.plan.total_in.0
 
 -- two lists of numbers of a strategy are the same
 pub strategy_numbers : (version : Version) (s : Strategy) (n m : Numbers) → IsStrategy version s → AreNumbersOf s n → AreNumbersOf s m → n ≡ m
 strategy_numbers version s n m h a b =
-    verdicts_one (frame_of s) (raw_plan s s.one) (raw_plan s s.two) n m (strategy_scale version s h)
+    verdicts_one (strategy_frame s) (raw_plan s s.one) (raw_plan s s.two) n m (strategy_scale version s h)
     (record { value = a.value; gap1 = a.gap1; gap2 = a.gap2 }) (record { value = b.value; gap1 = b.gap1; gap2 = b.gap2 }) a.verdict b.verdict
 
-pub small_passes : (g : FileGame) (lists : ClassLists) (limit : Limit) → IsSmall (frame_in g) lists → Passes g lists limit → ⊥
+pub small_passes : (g : FileGame) (lists : ClassLists) (limit : Limit) → IsSmall (file_frame g) lists → Passes g lists limit → ⊥
 small_passes g lists (Sequences player count) small (inl h) = let k = small.sequences.one in let e = h.1 in let o = h.2 in omega arith
 small_passes g lists (Sequences player count) small (inr h) = let k = small.sequences.two in let e = h.1.1 in let o = h.1.2 in omega arith
 small_passes g lists (Cells count) small h = let k = small.cells in let e = h.1 in let o = h.2 in omega arith
@@ -68,6 +68,6 @@ evaluated version s reply h c o =
     (only version s o.read h o.reads) o.said)
 
 pub printed_evaluated : (bytes : List ℕ) (g : FileGame) (lists : ClassLists) (one two : Plan) (text : List ℕ) (reply : Reply) → read_at bytes ≡ Ok g
-    → (t : IsTextOf g lists one two text) → Evaluates text reply → reply ≡ Prints (verdict_text t.strategy.numbers)
+    → (t : IsSettledText g lists one two text) → Evaluates text reply → reply ≡ Prints (verdict_text t.strategy.numbers)
 printed_evaluated bytes g lists one two text reply e t o =
     evaluated Two t.strategy reply (printed_strategy bytes g lists one two text e t) t.confirmed (subst (λ (b : List ℕ). Evaluates b reply) t.printed o)

@@ -5,7 +5,8 @@ use Rattle.std.proofs.{lemmas.List.Elements.{All-from_recursion}, lemmas.List.Su
 use Rattle.std.specs.{Prelude.{filter, flat_map}, List.{AllByRecursion}}
 use Rattle.gs_game.proofs.{Evenly.{neither}, GroupDraws.{all_ways, leaves_sum}, Sequencing.{drawn, facing_ways, first_sizes, sizes_are}, Totals.{total}}
 use Rattle.gs_game.specs.{GoingOn.{cards_shown, own_cards_of}, Money.{first_of}}
-use Rattle.gs_game.specs.Refusals.{betting_refusal, card_refusal, copies_refusal, deal_refusal, first_refusal, not_enough_cards, own_cards, private_refusal, public_cards, ranking_refusal, rounds_refusal}
+use Rattle.gs_game.specs.Refusals.{betting_refusal, card_refusal, copies_refusal, deal_refusal, first_refusal, not_enough_cards, own_card_total}
+use Rattle.gs_game.specs.Refusals.{private_refusal, public_card_total, ranking_refusal, rounds_refusal}
 use Rattle.gs_game.specs.Sequences.{draws, privates, seen_sizes}
 use Rattle.gs_lossless.proofs.Descent.{child_run, tabled}
 use Rattle.gs_model.proofs.{Basics.{every-map, every-weaker, product_positive}, Extends.{signal_long}, Facing.{deals_are_facing}, Fits.{choose-some}}
@@ -87,14 +88,14 @@ own_sum : (rs : List Round) → sum (privates rs) ≡ own_cards_of rs
 own_sum [] = refl
 own_sum (r ∷ rs) = omega (arith, own_sum rs, sum_by-cons (λ (x : ℕ). x) r.private (privates rs))
 
-all_cards : (rs : List Round) → 2 * own_cards rs + public_cards rs ≡ cards_shown rs + own_cards_of rs
+all_cards : (rs : List Round) → 2 * own_card_total rs + public_card_total rs ≡ cards_shown rs + own_cards_of rs
 all_cards [] = refl
 all_cards (r ∷ rs) = omega (arith, all_cards rs, sum_by-cons (λ (r : Round). r.private) r rs, sum_by-cons (λ (r : Round). r.public) r rs)
 
-cards_enough : (g : Game) → copies_refusal g ≡ None → 2 * own_cards g.rounds + public_cards g.rounds ≤ sum g.copies
+cards_enough : (g : Game) → copies_refusal g ≡ None → 2 * own_card_total g.rounds + public_card_total g.rounds ≤ sum g.copies
 unfolding copies_refusal
 cards_enough g h =
-    let need = 2 * own_cards g.rounds + public_cards g.rounds in
+    let need = 2 * own_card_total g.rounds + public_card_total g.rounds in
     elim (cases_Bool (nat_lt (sum g.copies) need)) [
       | inl short ↦ absurd (let k : Some (not_enough_cards need (sum g.copies)) ≡ None = sym (rw short refl) ∙ h in cc)
       | inr enough ↦ ltb-false (sum g.copies) need enough

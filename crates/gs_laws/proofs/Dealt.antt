@@ -2,7 +2,7 @@
 use Rattle.std.proofs.Common.{◌≡◌, ℕ, zero, suc, ◌+◌, ◌-◌, ◌<◌, ◌≤◌, ◌&&◌, List, [], ◌∷◌, length, sum, All, Some, None, Ok, ap, inl, inr, arith, nat_lt, nat_le}
 use Rattle.std.proofs.{lemmas.Bool.{and_parts, cases_Bool, cases_eq, leb-true, ltb-false}, lemmas.List.Elements.{All-cons, All-head, All-nil, All-tail}}
 use Rattle.gs_bet.proofs.Players.{has_players}
-use Rattle.gs_file.specs.{JsonLaws.{IsRoundTold, IsTold}, Reading.{FileGame, read_at, rules_of}, declared.version.Version.{Version}}
+use Rattle.gs_file.specs.{JsonLaws.{IsRoundTold, IsTold}, Reading.{FileGame, read_at, file_rules}, declared.version.Version.{Version}}
 use Rattle.gs_game.proofs.{Evenly.{neither}, Sequencing.{weight_drawn}, SomeWays.{some_ways}}
 use Rattle.gs_game.specs.Money.{first_of}
 use Rattle.gs_game.specs.Refusals.{rounds, too_many_signals, first_refusal, card_refusal, betting_refusal, deal_refusal, rounds_refusal, private_refusal, ranking_refusal, copies_refusal, weight_refusal, signals_refusal, deals_refusal, signals_from}
@@ -45,14 +45,14 @@ some_deal r h =
     let all : sum r.copies - 0 - 0 ≡ sum r.copies = omega arith in
     omega (arith, weight_drawn r, ap (λ n. draws n (deal_sizes r.rounds)) all, some_ways r 0 h)
 
-pub told_playable : (version : Version) (g : FileGame) → IsTold version g → IsPlayable (rules_of g)
+pub told_playable : (version : Version) (g : FileGame) → IsTold version g → IsPlayable (file_rules g)
 told_playable version g h = record {
-  some = let n = (rounds_pass (rules_of g) h.lawful).0 in omega arith;
+  some = let n = (rounds_pass (file_rules g) h.lawful).0 in omega arith;
   players = players g.rounds h.rounds;
 }
 
 pub told_dealt : (version : Version) (g : FileGame) → IsTold version g → IsDealt g
-told_dealt version g h = record { playable = told_playable version g h; deals = some_deal (rules_of g) h.lawful }
+told_dealt version g h = record { playable = told_playable version g h; deals = some_deal (file_rules g) h.lawful }
 
 pub file_dealt : (bytes : List ℕ) (g : FileGame) → read_at bytes ≡ Ok g → IsDealt g
 file_dealt bytes g e = told_dealt _ g (file_told bytes g e)

@@ -6,14 +6,15 @@ use Rattle.gs_best.specs.{Answers.{AreBestValues}, Tables.{classes_at, start_of,
 use Rattle.gs_certificate.proofs.{Bounds.{one_bound}, Holding.{faults_exclude, low_not_high, sound_no_fault}, OneText.{one_certificate}}
 use Rattle.gs_certificate.proofs.Only.{only as read_only, stated}
 use Rattle.gs_certificate.specs.{Checks.{IsFault, IsFaultOf, IsSound, IsSoundFor, sum_of}, FaultTexts.{cert_fault_text, cert_text_fault_text}}
-use Rattle.gs_certificate.specs.{Numbers.{IsFirstLow, IsHigh, IsLow}, Reading.{IsCanonical, ReadResult, Reads, stated_at}, Texts.{Stated, certificate_text}}
+use Rattle.gs_certificate.specs.{Numbers.{IsFirstLow, IsHigh, IsLow}, Reading.{IsCanonicalCertificate, CertificateResult, ReadsCertificate, stated_at}}
+use Rattle.gs_certificate.specs.Texts.{Stated, certificate_text}
 use Rattle.gs_certificate.specs.{Views.{certificate_view, fraction_parts}, declared.certificate.Certificate.{Certificate}, declared.fault.CertFault.{CertFault}}
 use Rattle.gs_certificate.specs.declared.text_fault.CertTextFault.{CertTextFault}
 use Rattle.gs_certificate.specs.declared.fault.CertFault.TheVariants as fault
 use Rattle.gs_certify.specs.Certificates.{Certifies, IsCertified, SaysCertified}
-use Rattle.gs_certify.specs.Verifying.{IsTextOf, IsUnsound, IsVerified, SaysChecked, SaysVerified, Verifies, bounds_text}
+use Rattle.gs_certify.specs.Verifying.{IsCertificateText, IsUnsound, IsVerified, SaysChecked, SaysVerified, Verifies, bounds_text}
 use Rattle.gs_confirm.specs.{Commands.{OfConfirmed}, Troubles.{IsTooLarge}}
-use Rattle.gs_file.specs.{declared.version.Version.{Version}, declared.version.Version.TheVariants.{Two}, Reading.{rules_of}}
+use Rattle.gs_file.specs.{declared.version.Version.{Version}, declared.version.Version.TheVariants.{Two}, Reading.{file_rules}}
 use Rattle.gs_frac.specs.{Texts.{fraction_text}, declared.value.Fraction.{Fraction}}
 use Rattle.gs_json.proofs.Outcomes.{clash, same}
 use Rattle.gs_json.specs.FirstLine.{first_line}
@@ -23,7 +24,7 @@ use Rattle.gs_model.specs.{Frame.{Frame, point_count, round_of, total_weight}, F
 use Rattle.gs_reply.specs.Refusals.{Limit, Bad_game, Unlike_pair, Overflows, Many_pivots, Too_large, Bad_strategy, Wrong_number, Bad_query, Other_game, Bad_certificate}
 use Rattle.gs_reply.specs.{Replies.{Reply, Prints, Refuses}, Troubles.{IsUnlikePair}, declared.strategies.Which.TheVariants.{Only}}
 use Rattle.gs_seq.proofs.SlotLaws.{sum_range_more}
-use Rattle.gs_strategy.specs.{Confirmed.{frame_of, raw_plan}, Laws.{IsStrategy}, Texts.{strategy_text}, Values.{FractionParts, Strategy}}
+use Rattle.gs_strategy.specs.{Confirmed.{strategy_frame, raw_plan}, Laws.{IsStrategy}, Texts.{strategy_text}, Values.{FractionParts, Strategy}}
 use Rattle.gs_laws.proofs.{Confirming.{small_passes, strategy_scale}, Dealt.{told_dealt, told_playable}, OneGame.{unlike_pair_one}}
 use Rattle.gs_laws.proofs.{OneReading.{difference_one, one_least, then_one}, OneStrategy.{confirmed_one, limit_one, over_file}, Verdicts.{value_one}}
 
@@ -92,18 +93,18 @@ bound_one f lists player y xs ys a b some e h k =
 
 -- ---- `certify`
 
-other_scale : (version : Version) (s : Strategy) (total : ℕ) → IsStrategy version s → 0 < total → 0 < total_weight (frame_of s) * total
-other_scale version s total is some = product_positive (total_weight (frame_of s)) total (told_dealt version s.game is.written.game).deals some
+other_scale : (version : Version) (s : Strategy) (total : ℕ) → IsStrategy version s → 0 < total → 0 < total_weight (strategy_frame s) * total
+other_scale version s total is some = product_positive (total_weight (strategy_frame s)) total (told_dealt version s.game is.written.game).deals some
 
 certified_view : (version : Version) (s : Strategy) (one two : List ℕ) → IsStrategy version s → (h : IsCertified s one) → (k : IsCertified s two)
     → certificate_view h.certificate ≡ certificate_view k.certificate
 certified_view version s one two is h k =
-    let f = frame_of s in
+    let f = strategy_frame s in
     let p = told_playable version s.game is.written.game in
     let c = h.certificate in
     let d = k.certificate in
-    let a = values_one f s.classes 1 (raw_plan s s.two) c.values1.items d.values1.items (walked_one (rules_of s.game) p) is.classes h.first k.first in
-    let b = values_one f s.classes 2 (raw_plan s s.one) c.values2.items d.values2.items (walked_two (rules_of s.game) p) is.classes h.second k.second in
+    let a = values_one f s.classes 1 (raw_plan s s.two) c.values1.items d.values1.items (walked_one (file_rules s.game) p) is.classes h.first k.first in
+    let b = values_one f s.classes 2 (raw_plan s s.one) c.values2.items d.values2.items (walked_two (file_rules s.game) p) is.classes h.second k.second in
     let x = bound_one f s.classes 1 (raw_plan s s.two) c.values1.items d.values1.items c.bound1 d.bound1
     (other_scale version s s.two.total is is.second.plan.total_in.0) a h.holds.sound.first k.holds.sound.first in
     let y = bound_one f s.classes 2 (raw_plan s s.one) c.values2.items d.values2.items c.bound2 d.bound2
@@ -239,13 +240,13 @@ kind_of s c (Refuses Other_game) h = absurd h
 verified_words : (version : Version) (s : Strategy) (c d : Certificate) (a b : List ℕ) → IsStrategy version s → certificate_view c ≡ certificate_view d
     → IsVerified s c a → IsVerified s d b → a ≡ b
 verified_words version s c d a b is e h k =
-    let v = value_one (frame_of s) (raw_plan s s.one) (raw_plan s s.two) h.value k.value (strategy_scale version s is) h.fraction k.fraction h.value_is
+    let v = value_one (strategy_frame s) (raw_plan s s.one) (raw_plan s s.two) h.value k.value (strategy_scale version s is) h.fraction k.fraction h.value_is
     k.value_is in
     h.printed ∙ ap (λ (x : FractionParts). bounds_text x (certificate_view c)) v ∙ ap (bounds_text k.value) e ∙ sym k.printed
 
 sound_or_not : (s : Strategy) (c d : Certificate) (a b : List ℕ) → certificate_view c ≡ certificate_view d → IsVerified s c a → IsUnsound s d b → ⊥
 sound_or_not s c d a b e h k =
-    let f = frame_of s in
+    let f = strategy_frame s in
     faults_exclude f s.classes (raw_plan s s.one) (raw_plan s s.two) d k.why
     (sound_over f s.classes (raw_plan s s.one) (raw_plan s s.two) c d e h.holds.sound) k.fault
 
@@ -253,7 +254,7 @@ unsound_words : (version : Version) (s : Strategy) (c d : Certificate) (a b : Li
     → IsUnsound s c a → IsUnsound s d b → a ≡ b
 unsound_words version s c d a b is e h k =
     h.told
-    ∙ fault_one (frame_of s) s.classes (raw_plan s s.one) (raw_plan s s.two) c d h.why k.why
+    ∙ fault_one (strategy_frame s) s.classes (raw_plan s s.one) (raw_plan s s.two) c d h.why k.why
     (other_scale version s s.one.total is is.first.plan.total_in.0) (other_scale version s s.two.total is is.second.plan.total_in.0) e h.fault k.fault
     ∙ sym k.told
 
@@ -283,7 +284,7 @@ checked_one version s c d one two is e h k = by (kind_of s c one h) (kind_of s d
 
 -- ---- the text of a certificate
 
-canonical_one : (bytes : List ℕ) (s : Stated) (x y : ReadResult) → IsCanonical bytes s x → IsCanonical bytes s y → x ≡ y
+canonical_one : (bytes : List ℕ) (s : Stated) (x y : CertificateResult) → IsCanonicalCertificate bytes s x → IsCanonicalCertificate bytes s y → x ≡ y
 canonical_one bytes s x y (inl p) (inl q) = p.1 ∙ sym q.1
 canonical_one bytes s x y (inl p) (inr q) = absurd (q.1 p.0)
 canonical_one bytes s x y (inr p) (inl q) = absurd (p.1 q.0)
@@ -293,21 +294,21 @@ canonical_one bytes s x y (inr p) (inr q) =
     let b = q.3 in
     cc
 
-read_one : (bytes : List ℕ) (x y : ReadResult) → Reads bytes x → Reads bytes y → x ≡ y
-read_one bytes x y = then_one (stated_at bytes) (IsCanonical bytes) x y (λ s. canonical_one bytes s x y)
+read_one : (bytes : List ℕ) (x y : CertificateResult) → ReadsCertificate bytes x → ReadsCertificate bytes y → x ≡ y
+read_one bytes x y = then_one (stated_at bytes) (IsCanonicalCertificate bytes) x y (λ s. canonical_one bytes s x y)
 
-abbrev fault_read : CertTextFault → ReadResult
+abbrev fault_read : CertTextFault → CertificateResult
 fault_read why = Err why
 
 same_why : (v w : CertTextFault) → fault_read v ≡ fault_read w → v ≡ w
 same_why v w e = cc
 
-text_or_none : (bytes : List ℕ) (c : Certificate) (why : CertTextFault) → IsTextOf bytes c → Reads bytes (Err why) → ⊥
+text_or_none : (bytes : List ℕ) (c : Certificate) (why : CertTextFault) → IsCertificateText bytes c → ReadsCertificate bytes (Err why) → ⊥
 text_or_none bytes c why h k =
-    let e = read_only (certificate_view c) (Err why) (stated c h.small) (subst (λ (b : List ℕ). Reads b (Err why)) h.text k) in
+    let e = read_only (certificate_view c) (Err why) (stated c h.small) (subst (λ (b : List ℕ). ReadsCertificate b (Err why)) h.text k) in
     clash (certificate_view c) why (sym e)
 
-same_certificate : (bytes : List ℕ) (c d : Certificate) → IsTextOf bytes c → IsTextOf bytes d → certificate_view c ≡ certificate_view d
+same_certificate : (bytes : List ℕ) (c d : Certificate) → IsCertificateText bytes c → IsCertificateText bytes d → certificate_view c ≡ certificate_view d
 same_certificate bytes c d h k = one_certificate (certificate_view c) (certificate_view d) (stated c h.small) (stated d k.small) (sym h.text ∙ k.text)
 
 verified_one : (bytes : List ℕ) (version : Version) (s : Strategy) (one two : Reply) → IsStrategy version s → SaysVerified bytes s one

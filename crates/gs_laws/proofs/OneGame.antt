@@ -2,14 +2,14 @@
 use Rattle.std.proofs.Common.{◌≡◌, ◌⊎◌, ℕ, ◌+◌, ◌-◌, ◌<◌, ◌≤◌, Bool, true, false, List, [], length, get_or, Result, Ok, Err, sym, ap, ◌∙◌, subst, inl, inr, arith}
 use Rattle.std.proofs.{lemmas.Bool.{cases_lt}, lemmas.List.{ext_get_or}}
 use Rattle.gs_answer.specs.Making.{Makes}
-use Rattle.gs_file.specs.{Faults.{Fault}, Reading.{FileGame, read_at, rules_of}}
+use Rattle.gs_file.specs.{Faults.{Fault}, Reading.{FileGame, read_at, file_rules}}
 use Rattle.gs_group.specs.{Checking.{Checks, ChecksGame, IsGrouping, SaysNotLossless}, Shrinking.{Shrinks, ShrinksGame, told}}
 use Rattle.gs_made.specs.{Made.{made_game}, declared.kind.Kind.{Kind}}
 use Rattle.gs_model.proofs.{Numbered.{numbered_once}, Unlike.{coarsest_is_one}}
 use Rattle.gs_model.specs.{Classes.{ClassLists, class_of, first_member, list_of}, Frame.{Frame, frame_of}, Game.{Game, round_count}}
 use Rattle.gs_model.specs.{Lossless.{Alike, IsFirstUnlike, IsLossless}, Refinement.{IsCoarsestLossless}, SignalClasses.{IsSignalClasses}, Signals.{signal_at}}
 use Rattle.gs_reply.specs.{Refusals.{Unlike_pair}, Replies.{OfReading, Reply, Prints, Refuses}, Troubles.{IsUnlikePair, SaysUnlike}}
-use Rattle.gs_strategy.specs.Values.{frame_in}
+use Rattle.gs_strategy.specs.Values.{file_frame}
 use Rattle.gs_tree.specs.Texts.{signal_text}
 use Rattle.gs_words.specs.{declared.request.Grouping.{Grouping}, declared.request.Grouping.TheVariants.{Isomorphism, Coarsest, Single}}
 
@@ -78,33 +78,33 @@ first_unlike_one f lists r a s r' a' s' u v =
 pub unlike_pair_one : (g : FileGame) (lists : ClassLists) (r : ℕ) (one two : List ℕ) (r' : ℕ) (one' two' : List ℕ) → IsUnlikePair g lists r one two
     → IsUnlikePair g lists r' one' two' → Unlike_pair r one two ≡ Unlike_pair r' one' two'
 unlike_pair_one g lists r one two r' one' two' u v =
-    let s = first_unlike_one (frame_in g) lists r u.first u.second r' v.first v.second u.unlike v.unlike in
+    let s = first_unlike_one (file_frame g) lists r u.first u.second r' v.first v.second u.unlike v.unlike in
     let rounds = s.round in
     let a : one ≡ one' = u.first_text ∙ at r r' u.first v.first rounds s.first ∙ sym v.first_text in
     let b : two ≡ two' = u.second_text ∙ at r r' u.second v.second rounds s.second ∙ sym v.second_text in
     cc
   where
-    at : (r r' i j : ℕ) → r ≡ r' → i ≡ j → signal_text g.deck (signal_at (rules_of g) r i) ≡ signal_text g.deck (signal_at (rules_of g) r' j)
+    at : (r r' i j : ℕ) → r ≡ r' → i ≡ j → signal_text g.deck (signal_at (file_rules g) r i) ≡ signal_text g.deck (signal_at (file_rules g) r' j)
     at r r' i j e h = cc
 
 pub says_unlike_one : (g : FileGame) (lists : ClassLists) (one two : Reply) → SaysUnlike g lists one → SaysUnlike g lists two → one ≡ two
 says_unlike_one g lists one two (r, a, b, u, e) (r', a', b', v, e') = let s = unlike_pair_one g lists r a b r' a' b' u v in cc
 
-pub unlike_or_lossless : (g : FileGame) (lists : ClassLists) (reply : Reply) → SaysUnlike g lists reply → IsLossless (frame_in g) lists → ⊥
+pub unlike_or_lossless : (g : FileGame) (lists : ClassLists) (reply : Reply) → SaysUnlike g lists reply → IsLossless (file_frame g) lists → ⊥
 unlike_or_lossless g lists reply (r, a, b, u, e) h = u.not_lossless h
 
 -- the refusal of a grouping is one
 pub not_lossless_one : (grouping : Grouping) (g : FileGame) (one two : Reply) → SaysNotLossless grouping g one → SaysNotLossless grouping g two → one ≡ two
 not_lossless_one grouping g one two (i, a, is, u) (j, b, it, v) =
-    let e = signal_classes_one (rules_of g) b a it is in
+    let e = signal_classes_one (file_rules g) b a it is in
     says_unlike_one g a one two u (subst (λ (l : ClassLists). SaysUnlike g l two) e v)
 
 -- and stands against lossless classes of it
 pub not_both : (grouping : Grouping) (g : FileGame) (lists : ClassLists) (reply : Reply) → SaysNotLossless grouping g reply
-    → IsGrouping grouping (rules_of g) lists → IsLossless (frame_in g) lists → ⊥
+    → IsGrouping grouping (file_rules g) lists → IsLossless (file_frame g) lists → ⊥
 not_both grouping g lists reply (i, a, is, u) are h =
-    let signals : IsSignalClasses (rules_of g) lists = subst (λ (x : Grouping). IsGrouping x (rules_of g) lists) i are in
-    let e = signal_classes_one (rules_of g) a lists is signals in
+    let signals : IsSignalClasses (file_rules g) lists = subst (λ (x : Grouping). IsGrouping x (file_rules g) lists) i are in
+    let e = signal_classes_one (file_rules g) a lists is signals in
     unlike_or_lossless g lists reply (subst (λ (l : ClassLists). SaysUnlike g l reply) e u) h
 
 -- ---- readings
@@ -118,8 +118,8 @@ over_reading says h (Err why) one two a b = a ∙ sym b
 
 shrunk_one : (summary : Bool) (g : FileGame) (one two : Reply) → ShrinksGame summary g one → ShrinksGame summary g two → one ≡ two
 shrunk_one summary g (Prints a) (Prints b) h k =
-    let e = signal_classes_one (rules_of g) h.classes k.classes h.are k.are in
-    let t : a ≡ b = h.printed ∙ ap (told summary g.deck (rules_of g)) e ∙ sym k.printed in
+    let e = signal_classes_one (file_rules g) h.classes k.classes h.are k.are in
+    let t : a ≡ b = h.printed ∙ ap (told summary g.deck (file_rules g)) e ∙ sym k.printed in
     ap (λ (x : List ℕ). Prints x) t
 shrunk_one summary g (Prints a) (Refuses why) h k = absurd k
 shrunk_one summary g (Refuses why) two h k = absurd h
@@ -130,8 +130,8 @@ shrinks_one summary bytes one two h k = over_reading (ShrinksGame summary) (shru
 checked_one : (grouping : Grouping) (summary : Bool) (g : FileGame) (one two : Reply) → ChecksGame grouping summary g one → ChecksGame grouping summary g two
     → one ≡ two
 checked_one grouping summary g (Prints a) (Prints b) h k =
-    let e = groupings_one grouping (rules_of g) h.classes k.classes h.are k.are in
-    let t : a ≡ b = h.printed ∙ ap (told summary g.deck (rules_of g)) e ∙ sym k.printed in
+    let e = groupings_one grouping (file_rules g) h.classes k.classes h.are k.are in
+    let t : a ≡ b = h.printed ∙ ap (told summary g.deck (file_rules g)) e ∙ sym k.printed in
     ap (λ (x : List ℕ). Prints x) t
 checked_one grouping summary g (Prints a) (Refuses why) h k = absurd (not_both grouping g h.classes (Refuses why) k h.are h.lossless)
 checked_one grouping summary g (Refuses why) (Prints a) h k = absurd (not_both grouping g k.classes (Refuses why) h k.are k.lossless)

@@ -2,7 +2,7 @@
 use Rattle.std.proofs.Common.{◌≡◌, ℕ, suc, ◌+◌, ◌<◌, ◌++◌, List, [], ◌∷◌, length, slice_index_or, codes, ℤ, pos, ◌*ℤ◌, ◌<ℤ◌, refl, sym, ap, ◌∙◌, subst, arith}
 use Rattle.std.specs.Fmt.{decimal}
 use Rattle.gs_frac.specs.{Texts.{number_line}, declared.value.Fraction.{Fraction}}
-use Rattle.gs_file.specs.{Reading.{rules_of}, declared.version.Version.TheVariants.{Two}}
+use Rattle.gs_file.specs.{Reading.{file_rules}, declared.version.Version.TheVariants.{Two}}
 use Rattle.gs_model.proofs.{Ranges.{in_range}, Walked.{walked_one, walked_two}}
 use Rattle.gs_reply.specs.{Refusals.{Refusal}, Replies.{Reply, Prints, Refuses}}
 use Rattle.gs_rows.proofs.{Agree.{Agree, enters_same, leaves_same, lists_same, paths_agree}, OneStop.{stops_agree}, Opening.{path_trail}}
@@ -10,7 +10,7 @@ use Rattle.gs_rows.specs.{Path.{IsPath, IsPivot, Leaves, States, Stops, ends}, P
 use Rattle.gs_settle.specs.{Paths.{ShowsPath, path_text, turn_line, turn_lines}, Settling.{Settles}}
 use Rattle.gs_simplex.specs.{Trace.{IsAimValue, IsTrace, IsTraceOf}, declared.answer.PathTrace.{PathTrace}, declared.answer.Turn.{Turn}}
 use Rattle.gs_solve.specs.Solutions.{most_pivots}
-use Rattle.gs_strategy.specs.{Values.{frame_in}, Views.{parts_of}}
+use Rattle.gs_strategy.specs.{Values.{file_frame}, Views.{parts_of}}
 use Rattle.gs_words.specs.declared.request.Grouping.{Grouping}
 use Rattle.gs_laws.proofs.{Dealt.{told_playable}, OneProgram.{Same, SameParts, ratio_one, stop_over}, OneSettled.{SaysOne, settles_one}}
 use Rattle.gs_laws.proofs.OneSolve.{ended_or_stopped, path_one, stopped_one}
@@ -152,7 +152,7 @@ shown_one p o t u ok h g =
 shown_path : SaysOne ShowsPath
 shown_path g lists (Prints a) (Prints b) t c h i =
     let p = told_playable Two g t in
-    let s = path_one (frame_in g) lists (in_range (rules_of g) p) (walked_one (rules_of g) p) (walked_two (rules_of g) p) c h.program h.opening i.program
+    let s = path_one (file_frame g) lists (in_range (file_rules g) p) (walked_one (file_rules g) p) (walked_two (file_rules g) p) c h.program h.opening i.program
     i.opening h.path i.path in
     let there = shown_over h.program i.program h.opening i.opening h.trace s.programs s.openings h.shown in
     let text : a ≡ b = h.printed ∙ shown_one i.program i.opening h.trace i.trace i.path.opens there i.shown ∙ sym i.printed in
@@ -160,16 +160,16 @@ shown_path g lists (Prints a) (Prints b) t c h i =
 shown_path g lists (Prints a) (Refuses w) t c h i =
     let p = told_playable Two g t in
     let (n, l, x, stops, trace) = h.shown.path in
-    absurd (ended_or_stopped g lists (in_range (rules_of g) p) (walked_one (rules_of g) p) (walked_two (rules_of g) p) c w h.program h.opening n l i h.path
+    absurd (ended_or_stopped g lists (in_range (file_rules g) p) (walked_one (file_rules g) p) (walked_two (file_rules g) p) c w h.program h.opening n l i h.path
     h.shown.small (record { stops = (length h.opening + n, x, stops) }))
 shown_path g lists (Refuses v) (Prints b) t c h i =
     let p = told_playable Two g t in
     let (n, l, x, stops, trace) = i.shown.path in
-    absurd (ended_or_stopped g lists (in_range (rules_of g) p) (walked_one (rules_of g) p) (walked_two (rules_of g) p) c v i.program i.opening n l h i.path
+    absurd (ended_or_stopped g lists (in_range (file_rules g) p) (walked_one (file_rules g) p) (walked_two (file_rules g) p) c v i.program i.opening n l h i.path
     i.shown.small (record { stops = (length i.opening + n, x, stops) }))
 shown_path g lists (Refuses v) (Refuses w) t c h i =
     let p = told_playable Two g t in
-    ap (λ (x : Refusal). Refuses x) (stopped_one g lists (in_range (rules_of g) p) (walked_one (rules_of g) p) (walked_two (rules_of g) p) c v w h i)
+    ap (λ (x : Refusal). Refuses x) (stopped_one g lists (in_range (file_rules g) p) (walked_one (file_rules g) p) (walked_two (file_rules g) p) c v w h i)
 
 pub paths_one : (grouping : Grouping) (bytes : List ℕ) (one two : Reply) → Settles ShowsPath grouping bytes one → Settles ShowsPath grouping bytes two
     → one ≡ two

@@ -12,8 +12,9 @@ use Rattle.gs_seq.proofs.Kept.{plan_kept}
 use Rattle.gs_seq.specs.{Faults.{FlowsAt, IsFaultOf as IsPlanFaultOf, IsFirstLeak}, Slots.{plan_of}, declared.fault.PlanFault.{PlanFault}}
 use Rattle.gs_seq.specs.declared.fault.PlanFault.TheVariants as slot
 use Rattle.gs_strategy.specs.Checks.{AreClasses, After, IsCanonical, IsClassFault, IsPlanFault, Reads, ReadResult, ReadsClasses, ReadsNumbers, ReadsParts, ReadsPlans, ReadsSecond, Unless}
-use Rattle.gs_strategy.specs.{Faults.{Fault, classes, plan}, Reading.{Whole, classes_at, game_at, json_at, numbers_at, parts_at, version_at, weights_at}}
-use Rattle.gs_strategy.specs.{Texts.{strategy_text}, Values.{IsPlanOf, Strategy, Weights, frame_in}}
+use Rattle.gs_strategy.specs.Faults.{Fault, classes, plan}
+use Rattle.gs_strategy.specs.Reading.{Whole, class_lists_at, stored_game_at, json_at, numbers_at, parts_at, stored_version_at, weights_at}
+use Rattle.gs_strategy.specs.{Texts.{strategy_text}, Values.{ArePlanWeights, Strategy, Weights, file_frame}}
 use Rattle.gs_strategy.specs.declared.fault.FilePart.TheVariants as part
 
 -- neither is less
@@ -140,19 +141,19 @@ unless_one rule IsBroken told next x y none one h (inr p) (inr q) =
     p.2 ∙ sym (q.2 ∙ ap (told_as told) (one q.0 p.0 q.1 p.1))
 
 plan_step : (g : FileGame) (lists : ClassLists) (player : ℕ) (w : Weights) (next : ReadResult → Type 0) (x y : ReadResult) → (next x → next y → x ≡ y)
-    → Unless (IsPlanOf g lists player w) (IsPlanFault g lists player w) (plan player) next x
-    → Unless (IsPlanOf g lists player w) (IsPlanFault g lists player w) (plan player) next y → x ≡ y
+    → Unless (ArePlanWeights g lists player w) (IsPlanFault g lists player w) (plan player) next x
+    → Unless (ArePlanWeights g lists player w) (IsPlanFault g lists player w) (plan player) next y → x ≡ y
 plan_step g lists player w next x y h =
-    unless_one (IsPlanOf g lists player w) (IsPlanFault g lists player w) (plan player) next x y
-    (λ why p f. plan_kept (frame_in g) lists player w.total w.weights why p f)
-    (λ v u p q. plan_fault_one (frame_in g) lists player w.total w.weights v u p q) h
+    unless_one (ArePlanWeights g lists player w) (IsPlanFault g lists player w) (plan player) next x y
+    (λ why p f. plan_kept (file_frame g) lists player w.total w.weights why p f)
+    (λ v u p q. plan_fault_one (file_frame g) lists player w.total w.weights v u p q) h
 
 class_step : (g : FileGame) (lists : ClassLists) (next : ReadResult → Type 0) (x y : ReadResult) → (next x → next y → x ≡ y)
     → Unless (AreClasses g lists) (IsClassFault g lists) classes next x → Unless (AreClasses g lists) (IsClassFault g lists) classes next y → x ≡ y
 class_step g lists next x y h =
     unless_one (AreClasses g lists) (IsClassFault g lists) classes next x y
-    (λ why p f. classes_kept (frame_in g).parents lists why p f.0 f.1)
-    (λ v u p q. class_fault_one (frame_in g).parents lists v u p.0 q.0 p.1 q.1) h
+    (λ why p f. classes_kept (file_frame g).parents lists why p f.0 f.1)
+    (λ v u p q. class_fault_one (file_frame g).parents lists v u p.0 q.0 p.1 q.1) h
 
 numbers_read : (parts : Whole) (g : FileGame) (lists : ClassLists) (one two : Weights) (x y : ReadResult) → ReadsNumbers parts g lists one two x
     → ReadsNumbers parts g lists one two y → x ≡ y
@@ -162,17 +163,17 @@ numbers_read parts g lists one two x y = then_one (numbers_at parts) (λ numbers
 second_read : (parts : Whole) (g : FileGame) (lists : ClassLists) (one : Weights) (x y : ReadResult) → ReadsSecond parts g lists one x
     → ReadsSecond parts g lists one y → x ≡ y
 second_read parts g lists one x y = then_one (weights_at part.Player2 parts.player2) (λ two.
-    Unless (IsPlanOf g lists 2 two) (IsPlanFault g lists 2 two) (plan 2) (ReadsNumbers parts g lists one two)) x y
+    Unless (ArePlanWeights g lists 2 two) (IsPlanFault g lists 2 two) (plan 2) (ReadsNumbers parts g lists one two)) x y
     (λ two. plan_step g lists 2 two (ReadsNumbers parts g lists one two) x y (numbers_read parts g lists one two x y))
 
 plans_read : (parts : Whole) (g : FileGame) (lists : ClassLists) (x y : ReadResult) → ReadsPlans parts g lists x → ReadsPlans parts g lists y → x ≡ y
 plans_read parts g lists x y = then_one (weights_at part.Player1 parts.player1) (λ one.
-    Unless (IsPlanOf g lists 1 one) (IsPlanFault g lists 1 one) (plan 1) (ReadsSecond parts g lists one)) x y
+    Unless (ArePlanWeights g lists 1 one) (IsPlanFault g lists 1 one) (plan 1) (ReadsSecond parts g lists one)) x y
     (λ one. plan_step g lists 1 one (ReadsSecond parts g lists one) x y (second_read parts g lists one x y))
 
 parts_read : (version : Version) (parts : Whole) (x y : ReadResult) → ReadsParts version parts x → ReadsParts version parts y → x ≡ y
-parts_read version parts x y = then_one (game_at version parts.game) (λ g. Then (classes_at parts.classes) (λ lists. ReadsClasses parts g lists)) x y
-    (λ g. then_one (classes_at parts.classes) (λ lists. ReadsClasses parts g lists) x y
+parts_read version parts x y = then_one (stored_game_at version parts.game) (λ g. Then (class_lists_at parts.classes) (λ lists. ReadsClasses parts g lists)) x y
+    (λ g. then_one (class_lists_at parts.classes) (λ lists. ReadsClasses parts g lists) x y
     (λ lists. class_step g lists (ReadsPlans parts g lists) x y (plans_read parts g lists x y)))
 
 canonical_one : (version : Version) (bytes : List ℕ) (s : Strategy) (x y : ReadResult) → IsCanonical version bytes s x → IsCanonical version bytes s y → x ≡ y
@@ -193,8 +194,8 @@ after_one version parts bytes x y h k =
 
 -- bytes are read as one thing
 pub reads_one : (bytes : List ℕ) (x y : ReadResult) → Reads bytes x → Reads bytes y → x ≡ y
-reads_one bytes x y = then_one (json_at bytes) (λ d. Then (version_at d) (λ version.
+reads_one bytes x y = then_one (json_at bytes) (λ d. Then (stored_version_at d) (λ version.
     Then (parts_at d) (λ parts. After (ReadsParts version parts) (IsCanonical version bytes)))) x y
-    (λ d. then_one (version_at d) (λ version. Then (parts_at d) (λ parts. After (ReadsParts version parts) (IsCanonical version bytes))) x y
+    (λ d. then_one (stored_version_at d) (λ version. Then (parts_at d) (λ parts. After (ReadsParts version parts) (IsCanonical version bytes))) x y
     (λ version. then_one (parts_at d) (λ parts. After (ReadsParts version parts) (IsCanonical version bytes)) x y
     (λ parts. after_one version parts bytes x y)))

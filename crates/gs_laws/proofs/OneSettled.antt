@@ -1,7 +1,7 @@
 -- What is said of a game over classes is one, where each of its commands says one thing; and `play` does.
 use Rattle.std.proofs.Common.{◌≡◌, ℕ, ◌≤◌, List, get_or, Result, Ok, Err, refl, sym, ap, ◌∙◌, subst, inl, inr, arith}
 use Rattle.std.proofs.lemmas.List.{get_or_default, same_lists}
-use Rattle.gs_file.specs.{Faults.{Fault}, JsonLaws.{IsTold}, Reading.{FileGame, read_at, rules_of}, declared.version.Version.TheVariants.{Two}}
+use Rattle.gs_file.specs.{Faults.{Fault}, JsonLaws.{IsTold}, Reading.{FileGame, read_at, file_rules}, declared.version.Version.TheVariants.{Two}}
 use Rattle.gs_group.specs.Checking.{IsGrouping}
 use Rattle.gs_filter.proofs.ClassLaws.{single_are_classes}
 use Rattle.gs_model.proofs.{Ranges.{in_range, signal_count_is}, Walked.{last_round_of, walked_one, walked_two}}
@@ -9,8 +9,8 @@ use Rattle.gs_model.specs.{Classes.{ClassLists, IsClasses}, Frame.{Frame, point_
 use Rattle.gs_model.specs.Verdict.{IsVerdict}
 use Rattle.gs_reply.specs.Replies.{OfReading, Reply, Prints, Refuses}
 use Rattle.gs_seq.specs.{Plans.{class_plan}, Slots.{IsPlan, plan_of}, declared.plan.Plan.{Plan}}
-use Rattle.gs_settle.specs.{Playing.{Plays}, Settling.{OfForm, OfGrouping, Settles}, Texts.{IsTextOf}}
-use Rattle.gs_strategy.specs.{Checks.{AreClasses}, Confirmed.{over}, Texts.{strategy_text}, Values.{Numbers, Strategy, Weights, frame_in}, Views.{weights_of}}
+use Rattle.gs_settle.specs.{Playing.{Plays}, Settling.{OfForm, OfGrouping, Settles}, Texts.{IsSettledText}}
+use Rattle.gs_strategy.specs.{Checks.{AreClasses}, Confirmed.{over}, Texts.{strategy_text}, Values.{Numbers, Strategy, Weights, file_frame}, Views.{weights_of}}
 use Rattle.gs_words.specs.{declared.request.Grouping.{Grouping}, declared.request.Grouping.TheVariants.{Isomorphism, Coarsest, Single}}
 use Rattle.gs_laws.proofs.{Confirming.{small_passes, verdicts_one}, Dealt.{told_dealt, told_playable}, OneGame.{groupings_one, not_both, not_lossless_one}}
 use Rattle.gs_laws.proofs.{OnePlay.{SameNumbers, play_one}, OneStrategy.{limit_one}, Slots.{place_at}, Told.{file_told}, Verdicts.{scale_some}}
@@ -29,19 +29,19 @@ form_one says h g lists one two t c (inr (small, p)) (inl (m, q, e')) = absurd (
 form_one says h g lists one two t c (inr (small, p)) (inr (low, q)) = h g lists one two t c p q
 
 -- the lossless classes of a grouping are classes of the game
-grouped_classes : (grouping : Grouping) (g : FileGame) (lists : ClassLists) → IsGrouping grouping (rules_of g) lists → IsLossless (frame_in g) lists
+grouped_classes : (grouping : Grouping) (g : FileGame) (lists : ClassLists) → IsGrouping grouping (file_rules g) lists → IsLossless (file_frame g) lists
     → AreClasses g lists
 grouped_classes Isomorphism g lists h l =
-    let last = last_round_of (rules_of g) in
+    let last = last_round_of (file_rules g) in
     record {
       rounds = h.rounds ∙ sym last;
-      lengths = λ round some top. (let within : round ≤ round_count (rules_of g) = omega arith in
-          h.lengths round some within ∙ sym (signal_count_is (rules_of g) round some within));
+      lengths = λ round some top. (let within : round ≤ round_count (file_rules g) = omega arith in
+          h.lengths round some within ∙ sym (signal_count_is (file_rules g) round some within));
       numbered = λ round some top. (h.classes round some (omega arith)).numbered;
       filter = l.filter;
     }
 grouped_classes Coarsest g lists (from, is, h) l = h.classes
-grouped_classes Single g lists h l = subst (λ (x : ClassLists). AreClasses g x) (sym h) (single_are_classes (frame_in g).parents)
+grouped_classes Single g lists h l = subst (λ (x : ClassLists). AreClasses g x) (sym h) (single_are_classes (file_frame g).parents)
 
 grouping_one : (grouping : Grouping) (says : FileGame → ClassLists → Reply → Type 0) → SaysOne says → (g : FileGame) (one two : Reply) → IsTold Two g
     → OfGrouping grouping says g one → OfGrouping grouping says g two → one ≡ two
@@ -49,7 +49,7 @@ grouping_one grouping says h g one two t (inl p) (inl q) = not_lossless_one grou
 grouping_one grouping says h g one two t (inl p) (inr (b, are, l, q)) = absurd (not_both grouping g b one p are l)
 grouping_one grouping says h g one two t (inr (a, are, l, p)) (inl q) = absurd (not_both grouping g a two q are l)
 grouping_one grouping says h g one two t (inr (a, is, l, p)) (inr (b, it, m, q)) =
-    let e = groupings_one grouping (rules_of g) b a it is in
+    let e = groupings_one grouping (file_rules g) b a it is in
     form_one says h g a one two t (grouped_classes grouping g a is l) p (subst (λ (x : ClassLists). OfForm says g x two) e q)
 
 pub settles_one : (says : FileGame → ClassLists → Reply → Type 0) → SaysOne says → (grouping : Grouping) (bytes : List ℕ) (one two : Reply)
@@ -85,7 +85,7 @@ weights_one f lists player x y h k same =
 -- the verdict on two lists of weights
 abbrev VerdictBy : FileGame → ClassLists → Weights → Weights → Numbers → Type 0
 VerdictBy g lists a b n =
-    IsVerdict (frame_in g) (lift (frame_in g) lists (plan_of (frame_in g) lists a.total a.weights)) (lift (frame_in g) lists (plan_of (frame_in g) lists b.total b.weights))
+    IsVerdict (file_frame g) (lift (file_frame g) lists (plan_of (file_frame g) lists a.total a.weights)) (lift (file_frame g) lists (plan_of (file_frame g) lists b.total b.weights))
     (over n.value) (over n.gap1) (over n.gap2)
 
 abbrev core : FileGame → ClassLists → Weights → Weights → Numbers → Strategy
@@ -104,7 +104,7 @@ verdict_over g g' l l' a a' b b' n e1 e2 e3 e4 v =
     (subst (λ (x : ClassLists). VerdictBy g' x a b n) e2 (subst (λ (x : FileGame). VerdictBy x l a b n) e1 v)))
 
 pub text_of_one : (g : FileGame) (lists : ClassLists) (one two one' two' : Plan) (a b : List ℕ) → IsTold Two g → weights_of one ≡ weights_of one'
-    → weights_of two ≡ weights_of two' → IsTextOf g lists one two a → IsTextOf g lists one' two' b → a ≡ b
+    → weights_of two ≡ weights_of two' → IsSettledText g lists one two a → IsSettledText g lists one' two' b → a ≡ b
 text_of_one g lists one two one' two' a b t ones twos h k =
     let s = h.strategy in
     let u = k.strategy in
@@ -116,40 +116,40 @@ text_of_one g lists one two one' two' a b t ones twos h k =
     let m = k.confirmed.numbers in
     let v = verdict_over u.game s.game u.classes s.classes u.one s.one u.two s.two u.numbers e1 e2 e3 e4 m.verdict in
     let told : IsTold Two s.game = subst (IsTold Two) (sym h.game) t in
-    let some = scale_some (total_weight (frame_in s.game)) s.one.total s.two.total (told_dealt Two s.game told).deals h.first_is.plan.total_in.0
+    let some = scale_some (total_weight (file_frame s.game)) s.one.total s.two.total (told_dealt Two s.game told).deals h.first_is.plan.total_in.0
     h.second_is.plan.total_in.0 in
-    let e5 : s.numbers ≡ u.numbers = verdicts_one (frame_in s.game) _ _ s.numbers u.numbers some
+    let e5 : s.numbers ≡ u.numbers = verdicts_one (file_frame s.game) _ _ s.numbers u.numbers some
     (record { value = n.value; gap1 = n.gap1; gap2 = n.gap2 }) (record { value = m.value; gap1 = m.gap1; gap2 = m.gap2 }) n.verdict v in
     let same : u ≡ s = same_core u.game s.game u.classes s.classes u.one s.one u.two s.two u.numbers s.numbers e1 e2 e3 e4 (sym e5) in
     h.printed ∙ ap (strategy_text Two) (sym same) ∙ sym k.printed
 
 -- the plans of a text are plans over the classes
-pub first_plan : (g : FileGame) (lists : ClassLists) (one two : Plan) (text : List ℕ) → IsTextOf g lists one two text
-    → IsPlan (frame_in g) lists 1 one.total one.weights.items
+pub first_plan : (g : FileGame) (lists : ClassLists) (one two : Plan) (text : List ℕ) → IsSettledText g lists one two text
+    → IsPlan (file_frame g) lists 1 one.total one.weights.items
 first_plan g lists one two text h =
-    subst (λ (w : Weights). IsPlan (frame_in g) lists 1 w.total w.weights) h.first
-    (subst (λ (l : ClassLists). IsPlan (frame_in g) l 1 h.strategy.one.total h.strategy.one.weights) h.classes
-    (subst (λ (x : FileGame). IsPlan (frame_in x) h.strategy.classes 1 h.strategy.one.total h.strategy.one.weights) h.game h.first_is))
+    subst (λ (w : Weights). IsPlan (file_frame g) lists 1 w.total w.weights) h.first
+    (subst (λ (l : ClassLists). IsPlan (file_frame g) l 1 h.strategy.one.total h.strategy.one.weights) h.classes
+    (subst (λ (x : FileGame). IsPlan (file_frame x) h.strategy.classes 1 h.strategy.one.total h.strategy.one.weights) h.game h.first_is))
 
-pub second_plan : (g : FileGame) (lists : ClassLists) (one two : Plan) (text : List ℕ) → IsTextOf g lists one two text
-    → IsPlan (frame_in g) lists 2 two.total two.weights.items
+pub second_plan : (g : FileGame) (lists : ClassLists) (one two : Plan) (text : List ℕ) → IsSettledText g lists one two text
+    → IsPlan (file_frame g) lists 2 two.total two.weights.items
 second_plan g lists one two text h =
-    subst (λ (w : Weights). IsPlan (frame_in g) lists 2 w.total w.weights) h.second
-    (subst (λ (l : ClassLists). IsPlan (frame_in g) l 2 h.strategy.two.total h.strategy.two.weights) h.classes
-    (subst (λ (x : FileGame). IsPlan (frame_in x) h.strategy.classes 2 h.strategy.two.total h.strategy.two.weights) h.game h.second_is))
+    subst (λ (w : Weights). IsPlan (file_frame g) lists 2 w.total w.weights) h.second
+    (subst (λ (l : ClassLists). IsPlan (file_frame g) l 2 h.strategy.two.total h.strategy.two.weights) h.classes
+    (subst (λ (x : FileGame). IsPlan (file_frame x) h.strategy.classes 2 h.strategy.two.total h.strategy.two.weights) h.game h.second_is))
 
-pub text_classes : (g : FileGame) (lists : ClassLists) (one two : Plan) (text : List ℕ) → IsTextOf g lists one two text → IsClasses (frame_in g).parents lists
+pub text_classes : (g : FileGame) (lists : ClassLists) (one two : Plan) (text : List ℕ) → IsSettledText g lists one two text → IsClasses (file_frame g).parents lists
 text_classes g lists one two text h =
-    subst (λ (l : ClassLists). IsClasses (frame_in g).parents l) h.classes
-    (subst (λ (x : FileGame). IsClasses (frame_in x).parents h.strategy.classes) h.game h.are_classes)
+    subst (λ (l : ClassLists). IsClasses (file_frame g).parents l) h.classes
+    (subst (λ (x : FileGame). IsClasses (file_frame x).parents h.strategy.classes) h.game h.are_classes)
 
 -- ---- `play`
 
 played_one : (turns : ℕ) → SaysOne (Plays turns)
 played_one turns g lists (Prints a) (Prints b) t c h k =
-    let r = rules_of g in
+    let r = file_rules g in
     let p = told_playable Two g t in
-    let f = frame_in g in
+    let f = file_frame g in
     let both = play_one f lists (in_range r p) (walked_one r p) (walked_two r p) c turns (class_plan f lists h.one) (class_plan f lists h.two)
     (class_plan f lists k.one) (class_plan f lists k.two) h.played k.played in
     let ones = weights_one f lists 1 h.one k.one (first_plan g lists h.one h.two a h.told) (first_plan g lists k.one k.two b k.told) both.0 in

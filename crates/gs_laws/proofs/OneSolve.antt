@@ -10,17 +10,18 @@ use Rattle.gs_model.specs.{Plans.{lift}, Positions.{at_point}}
 use Rattle.gs_rows.specs.{Path.{PathStop, PathStops, ends, pivots, unbounded, wide}, Program.{Listing}, declared.Program.{Program}}
 use Rattle.gs_rows.proofs.OneStop.{stops_agree}
 use Rattle.gs_seq.specs.{Slots.{plan_of}, declared.plan.Plan.{Plan}}
-use Rattle.gs_simplex.specs.{Answer.{IsBest, IsSmall}, declared.answer.Best.{Best}}
+use Rattle.gs_simplex.specs.{Answer.{IsBest, IsSmallTable}, declared.answer.Best.{Best}}
 use Rattle.gs_solve.proofs.{Chosen.{filter_tests, map_same}, GameEnd.{some_of}, Least.{multiple_divides_totals, multiple_is_least}, Multiples.{lcm_some}}
 use Rattle.gs_solve.proofs.Numbering.{set_below}
 use Rattle.gs_solve.specs.{GamePrograms.{IsGameOpening, sequences_by}, Openings.{is_chosen, opening_of}}
 use Rattle.gs_solve.specs.{Programs.{Sizes, first_answer, first_bound, first_slack}, Sequences.{constraints, form_sizes, payoffs, sequence_of}}
-use Rattle.gs_solve.specs.Solutions.{AreEndPlans, AreShares, IsFirstOver, IsGamePath, IsGameSolution, IsLeastPlan, IsMultiple, IsTotalOver, IsWithin, most_pivots, table_numbers}
-use Rattle.gs_solve.specs.Weights.{weight_at}
-use Rattle.gs_strategy.specs.{Values.{Weights}, Views.{weights_of}, Values.{frame_in}}
+use Rattle.gs_solve.specs.Solutions.{AreEndPlans, AreShares, IsFirstOver, IsGamePath, IsGameSolution, IsLeastPlan, IsLcmOfFirst, IsTotalOver, IsLcmWithin}
+use Rattle.gs_solve.specs.Solutions.{most_pivots, table_numbers}
+use Rattle.gs_solve.specs.Weights.{sequence_weight}
+use Rattle.gs_strategy.specs.{Values.{Weights}, Views.{weights_of}, Values.{file_frame}}
 use Rattle.gs_laws.proofs.{OnePlay.{best_same, first_moves_one}, OneProgram.{Same, SameEnds, SameFractions, best_one, best_over, programs_same, stops_over}}
 use Rattle.gs_laws.proofs.{OneReading.{one_least}, Dealt.{told_playable}, OneSettled.{SaysOne, settles_one, text_of_one}}
-use Rattle.gs_file.specs.{Reading.{FileGame, rules_of}, declared.version.Version.TheVariants.{Two}}
+use Rattle.gs_file.specs.{Reading.{FileGame, file_rules}, declared.version.Version.TheVariants.{Two}}
 use Rattle.gs_reply.specs.Refusals.{Refusal, Overflows, At_step, At_total, Many_pivots, Too_large, Sequences, Cells, Table_numbers, Raw_cells, Bad_game, Unlike_pair, Bad_strategy, Wrong_number, Bad_query, Other_game, Bad_certificate}
 use Rattle.gs_reply.specs.Replies.{Reply, Prints, Refuses}
 use Rattle.gs_settle.specs.{Solving.{SaysStopped, SaysUnsolved, Solves}, Settling.{Settles}}
@@ -129,10 +130,10 @@ least_one : (n : ℕ) (xs ys : List Fraction) (from count : ℕ) (x y : Plan) �
     → length x.weights.items + 1 ≡ count → length y.weights.items + 1 ≡ count → IsLeastPlan xs from count x → IsLeastPlan ys from count y
     → weights_of x ≡ weights_of y
 least_one n xs ys from count x y any same few sx sy lx ly h k =
-    let back = shares_same n ys xs from count y.total (weight_at y.total y.weights.items) (turned n xs ys same) few k.shares in
-    let on = shares_same n xs ys from count x.total (weight_at x.total x.weights.items) same few h.shares in
-    let totals : x.total ≡ y.total = dvd_antisymm (h.least y.total (weight_at y.total y.weights.items) sy back)
-    (k.least x.total (weight_at x.total x.weights.items) sx on) in
+    let back = shares_same n ys xs from count y.total (sequence_weight y.total y.weights.items) (turned n xs ys same) few k.shares in
+    let on = shares_same n xs ys from count x.total (sequence_weight x.total x.weights.items) same few h.shares in
+    let totals : x.total ≡ y.total = dvd_antisymm (h.least y.total (sequence_weight y.total y.weights.items) sy back)
+    (k.least x.total (sequence_weight x.total x.weights.items) sx on) in
     let each : (i : ℕ) → i < length x.weights.items → slice_index x.weights.items i ≡ slice_index y.weights.items i = λ i l. (
     let f = slice_index_or xs (from + suc i) any in
     weight_one f (slice_index x.weights.items i) (slice_index y.weights.items i)
@@ -175,7 +176,7 @@ solution_one f lists r w1 w2 k x y x' y' h g =
 
 -- ---- multiples
 
-multiple_same : (n : ℕ) (xs ys : List Fraction) (from k m : ℕ) → SameFractions n xs ys → from + k ≤ n → IsMultiple xs from k m → IsMultiple ys from k m
+multiple_same : (n : ℕ) (xs ys : List Fraction) (from k m : ℕ) → SameFractions n xs ys → from + k ≤ n → IsLcmOfFirst xs from k m → IsLcmOfFirst ys from k m
 multiple_same n xs ys from zero m same few h = h
 multiple_same n xs ys from (suc k) m same few (old, h, lcm) = (
   old,
@@ -186,18 +187,18 @@ multiple_same n xs ys from (suc k) m same few (old, h, lcm) = (
 den_some : (f : Fraction) → 0 < unsigned_abs f.den
 den_some f = let l = lower_of f.num f.den f.reduced in let some = l.some in subst (λ (z : ℤ). 0 < unsigned_abs z) (sym l.is) some
 
-multiple_some : (xs : List Fraction) (from k m : ℕ) → Fraction → IsMultiple xs from k m → 0 < m
+multiple_some : (xs : List Fraction) (from k m : ℕ) → Fraction → IsLcmOfFirst xs from k m → 0 < m
 multiple_some xs from zero m any h = omega arith
 multiple_some xs from (suc k) m any (old, h, lcm) =
     let x = slice_index_or xs (from + k) any in
     lcm_some old (unsigned_abs x.den) m (multiple_some xs from k old any h) (den_some x) (lcm any)
 
-multiple_divides : (xs : List Fraction) (from k l m n : ℕ) → Fraction → k ≤ l → IsMultiple xs from k m → IsMultiple xs from l n → m ∣ n
+multiple_divides : (xs : List Fraction) (from k l m n : ℕ) → Fraction → k ≤ l → IsLcmOfFirst xs from k m → IsLcmOfFirst xs from l n → m ∣ n
 multiple_divides xs from k l m n any le h g =
     (multiple_is_least xs from k m h).least n any (λ s low. (multiple_is_least xs from l n g).each s any (omega arith))
 
 -- of multiples of no more fractions none is more
-multiple_le : (xs : List Fraction) (from k l m n : ℕ) → Fraction → k ≤ l → IsMultiple xs from k m → IsMultiple xs from l n → m ≤ n
+multiple_le : (xs : List Fraction) (from k l m n : ℕ) → Fraction → k ≤ l → IsLcmOfFirst xs from k m → IsLcmOfFirst xs from l n → m ≤ n
 multiple_le xs from k l m n any le h g = le_of_dvd (multiple_some xs from l n any g) (multiple_divides xs from k l m n any le h g)
 
 first_over_one : (xs : List Fraction) (from count m n : ℕ) → Fraction → IsFirstOver xs from count m → IsFirstOver xs from count n → m ≡ n
@@ -209,11 +210,11 @@ first_over_one xs from count m n any h g =
     let places : k ≡ l = one_least k l
     (λ less. let le = multiple_le xs from (suc k) l m older any (omega arith) next it in absurd (omega arith))
     (λ less. let le = multiple_le xs from (suc l) k n old any (omega arith) after is in absurd (omega arith)) in
-    let same : IsMultiple xs from (suc l) m = subst (λ (i : ℕ). IsMultiple xs from (suc i) m) places next in
+    let same : IsLcmOfFirst xs from (suc l) m = subst (λ (i : ℕ). IsLcmOfFirst xs from (suc i) m) places next in
     dvd_antisymm (multiple_divides xs from (suc l) (suc l) m n any (omega arith) same after)
     (multiple_divides xs from (suc l) (suc l) n m any (omega arith) after same)
 
-within_or_over : (xs : List Fraction) (from count m : ℕ) → Fraction → IsWithin xs from count → IsFirstOver xs from count m → ⊥
+within_or_over : (xs : List Fraction) (from count m : ℕ) → Fraction → IsLcmWithin xs from count → IsFirstOver xs from count m → ⊥
 within_or_over xs from count m any (n, h, few) g =
     let (k, lk, old, next) = g.place in
     let over = g.over in
@@ -229,7 +230,7 @@ over_same n xs ys from count m same few h =
       over = h.over;
     }
 
-within_same : (n : ℕ) (xs ys : List Fraction) (from count : ℕ) → SameFractions n xs ys → from + count ≤ n → IsWithin xs from count → IsWithin ys from count
+within_same : (n : ℕ) (xs ys : List Fraction) (from count : ℕ) → SameFractions n xs ys → from + count ≤ n → IsLcmWithin xs from count → IsLcmWithin ys from count
 within_same n xs ys from count same few (m, h, low) = (m, multiple_same n xs ys from count m same few h, low)
 
 -- a plan of little total has no total that is too large
@@ -238,7 +239,7 @@ plan_or_over : (xs : List Fraction) (from count m : ℕ) (x : Plan) → Fraction
 plan_or_over xs from count m x any some few h g =
     let (k, lk, old, next) = g.place in
     let over = g.over in
-    let divides = multiple_divides_totals xs from (suc k) m any next x.total (weight_at x.total x.weights.items) some (λ s l d. h.shares s (omega arith) d) in
+    let divides = multiple_divides_totals xs from (suc k) m any next x.total (sequence_weight x.total x.weights.items) some (λ s l d. h.shares s (omega arith) d) in
     let le = le_of_dvd some divides in
     omega arith
 
@@ -252,18 +253,18 @@ Tells (unbounded col) why = ⊥
 
 -- the table is too large
 abbrev AsTable : FileGame → ClassLists → Refusal → Type 0
-AsTable g lists why = (count : ℕ) × (why ≡ Too_large (Table_numbers count)) × (count ≡ table_numbers (frame_in g) lists) × (1048576 < count)
+AsTable g lists why = (count : ℕ) × (why ≡ Too_large (Table_numbers count)) × (count ≡ table_numbers (file_frame g) lists) × (1048576 < count)
 
 -- the path stops before its end
 abbrev AsPath : FileGame → ClassLists → Refusal → Type 0
 AsPath g lists why =
-    (stop : PathStop) × Tells stop why × (p : Program) × (o : Listing) × IsGamePath (frame_in g) lists p o × IsSmall p × PathStops p o most_pivots stop
+    (stop : PathStop) × Tells stop why × (p : Program) × (o : Listing) × IsGamePath (file_frame g) lists p o × IsSmallTable p × PathStops p o most_pivots stop
 
 -- a total is too large
 abbrev AsTotal : FileGame → ClassLists → Refusal → Type 0
 AsTotal g lists why =
-    (player : ℕ) × (m : ℕ) × (why ≡ Overflows (At_total player m)) × (p : Program) × (o : Listing) × (b : Best) × IsGamePath (frame_in g) lists p o
-    × IsBest p o most_pivots b × IsTotalOver (frame_in g) lists b player m
+    (player : ℕ) × (m : ℕ) × (why ≡ Overflows (At_total player m)) × (p : Program) × (o : Listing) × (b : Best) × IsGamePath (file_frame g) lists p o
+    × IsBest p o most_pivots b × IsTotalOver (file_frame g) lists b player m
 
 stopped_kind : (g : FileGame) (lists : ClassLists) (why : Refusal) → SaysStopped g lists why → AsTable g lists why ⊎ AsPath g lists why
 stopped_kind g lists (Too_large (Table_numbers count)) h = inl (count, refl, h.0, h.1)
@@ -286,7 +287,7 @@ unsolved_kind : (g : FileGame) (lists : ClassLists) (why : Refusal) → SaysUnso
 unsolved_kind g lists (Overflows (At_total player m)) h = inr (inr (player, m, refl, h.0, h.1, h.2, h.3, h.4, h.5))
 unsolved_kind g lists why h = elim (stopped_kind g lists why h) [ inl a ↦ inl a | inr b ↦ inr (inl b) ]
 
-small_or_table : (f : Frame) (lists : ClassLists) (p : Program) (o : Listing) (count : ℕ) → IsGamePath f lists p o → IsSmall p → count ≡ table_numbers f lists
+small_or_table : (f : Frame) (lists : ClassLists) (p : Program) (o : Listing) (count : ℕ) → IsGamePath f lists p o → IsSmallTable p → count ≡ table_numbers f lists
     → 1048576 < count → ⊥
 small_or_table f lists p o count path small e over =
     let rows = path.program.rows in
@@ -308,36 +309,36 @@ tells_one s t v w e h k = by t (subst (λ (x : PathStop). Tells x v) e h) k
 ends_or_stop : (n : ℕ) (l : Listing) (s : PathStop) (why : Refusal) → ends n l ≡ s → Tells s why → ⊥
 ends_or_stop n l s why e h = subst (λ (x : PathStop). Tells x why) (sym e) h
 
-module _ (g : FileGame) (lists : ClassLists) (r : InRange (frame_in g)) (w1 : IsWalked (frame_in g) 1) (w2 : IsWalked (frame_in g) 2)
-    (k : IsClasses (frame_in g).parents lists) where
+module _ (g : FileGame) (lists : ClassLists) (r : InRange (file_frame g)) (w1 : IsWalked (file_frame g) 1) (w2 : IsWalked (file_frame g) 2)
+    (k : IsClasses (file_frame g).parents lists) where
   table_or_path : (v w : Refusal) → AsTable g lists v → AsPath g lists w → ⊥
-  table_or_path v w (count, e, is, over) (stop, tells, p, o, path, small, stops) = small_or_table (frame_in g) lists p o count path small is over
+  table_or_path v w (count, e, is, over) (stop, tells, p, o, path, small, stops) = small_or_table (file_frame g) lists p o count path small is over
 
-  table_or_best : (v : Refusal) (p : Program) (o : Listing) (b : Best) → AsTable g lists v → IsGamePath (frame_in g) lists p o → IsBest p o most_pivots b → ⊥
-  table_or_best v p o b (count, e, is, over) path best = small_or_table (frame_in g) lists p o count path best.small is over
+  table_or_best : (v : Refusal) (p : Program) (o : Listing) (b : Best) → AsTable g lists v → IsGamePath (file_frame g) lists p o → IsBest p o most_pivots b → ⊥
+  table_or_best v p o b (count, e, is, over) path best = small_or_table (file_frame g) lists p o count path best.small is over
 
-  path_or_best : (v : Refusal) (q : Program) (l : Listing) (c : Best) → AsPath g lists v → IsGamePath (frame_in g) lists q l → IsBest q l most_pivots c → ⊥
+  path_or_best : (v : Refusal) (q : Program) (l : Listing) (c : Best) → AsPath g lists v → IsGamePath (file_frame g) lists q l → IsBest q l most_pivots c → ⊥
   path_or_best v q l c (stop, tells, p, o, path, small, stops) other best =
-      let s = path_one (frame_in g) lists r w1 w2 k p o q l path other in
-      let there = stop_there (frame_in g) lists p o q l stop s stops in
+      let s = path_one (file_frame g) lists r w1 w2 k p o q l path other in
+      let there = stop_there (file_frame g) lists p o q l stop s stops in
       ends_or_stop c.pivots c.basis.items stop v
       (stops_agree q l most_pivots (ends c.pivots c.basis.items) stop other.opens best.stops there) tells
 
-  pub ended_or_stopped : (v : Refusal) (q : Program) (l : Listing) (n : ℕ) (k' : Listing) → SaysStopped g lists v → IsGamePath (frame_in g) lists q l
-      → IsSmall q → PathStops q l most_pivots (ends n k') → ⊥
+  pub ended_or_stopped : (v : Refusal) (q : Program) (l : Listing) (n : ℕ) (k' : Listing) → SaysStopped g lists v → IsGamePath (file_frame g) lists q l
+      → IsSmallTable q → PathStops q l most_pivots (ends n k') → ⊥
   ended_or_stopped v q l n k' h road few end = by (stopped_kind g lists v h)
     where
       by : AsTable g lists v ⊎ AsPath g lists v → ⊥
-      by (inl (count, e, is, over)) = small_or_table (frame_in g) lists q l count road few is over
+      by (inl (count, e, is, over)) = small_or_table (file_frame g) lists q l count road few is over
       by (inr (stop, tells, p, o, path, small, stops)) =
-          let s = path_one (frame_in g) lists r w1 w2 k p o q l path road in
-          let there = stop_there (frame_in g) lists p o q l stop s stops in
+          let s = path_one (file_frame g) lists r w1 w2 k p o q l path road in
+          let there = stop_there (file_frame g) lists p o q l stop s stops in
           ends_or_stop n k' stop v (stops_agree q l most_pivots (ends n k') stop road.opens end there) tells
 
   paths_one : (v w : Refusal) → AsPath g lists v → AsPath g lists w → v ≡ w
   paths_one v w (stop, tells, p, o, path, small, stops) (end, says, q, l, other, few, ends_so) =
-      let s = path_one (frame_in g) lists r w1 w2 k p o q l path other in
-      let there = stop_there (frame_in g) lists p o q l stop s stops in
+      let s = path_one (file_frame g) lists r w1 w2 k p o q l path other in
+      let there = stop_there (file_frame g) lists p o q l stop s stops in
       tells_one stop end v w (stops_agree q l most_pivots stop end other.opens there ends_so) tells says
 
   pub stopped_one : (v w : Refusal) → SaysStopped g lists v → SaysStopped g lists w → v ≡ w
@@ -351,34 +352,34 @@ module _ (g : FileGame) (lists : ClassLists) (r : InRange (frame_in g)) (w1 : Is
 
   totals_one : (v w : Refusal) → AsTotal g lists v → AsTotal g lists w → v ≡ w
   totals_one v w (player, m, e, p, o, b, path, best, over) (other, n, d, q, l, c, road, end, past) =
-      let s = path_one (frame_in g) lists r w1 w2 k p o q l path road in
-      let there = best_there (frame_in g) lists p o q l b s best in
+      let s = path_one (file_frame g) lists r w1 w2 k p o q l path road in
+      let there = best_there (file_frame g) lists p o q l b s best in
       let same = best_one q l most_pivots b c road.opens there end in
-      let cols = few_columns (frame_in g) lists q l road in
+      let cols = few_columns (file_frame g) lists q l road in
       let long = there.values in
       let any = some_of b.value.items (omega arith) in
-      let sizes = form_sizes (frame_in g) lists in
+      let sizes = form_sizes (file_frame g) lists in
       by q b c cols same any over past e d
     where
-      by : (q : Program) (b c : Best) → q.cols ≡ ((form_sizes (frame_in g) lists).ones + (form_sizes (frame_in g) lists).two_rows)
-          + (form_sizes (frame_in g) lists).twos → SameEnds q b c → Fraction → IsTotalOver (frame_in g) lists b player m
-          → IsTotalOver (frame_in g) lists c other n → v ≡ Overflows (At_total player m) → w ≡ Overflows (At_total other n) → v ≡ w
+      by : (q : Program) (b c : Best) → q.cols ≡ ((form_sizes (file_frame g) lists).ones + (form_sizes (file_frame g) lists).two_rows)
+          + (form_sizes (file_frame g) lists).twos → SameEnds q b c → Fraction → IsTotalOver (file_frame g) lists b player m
+          → IsTotalOver (file_frame g) lists c other n → v ≡ Overflows (At_total player m) → w ≡ Overflows (At_total other n) → v ≡ w
       by q b c cols same any (inl h) (inl i) e d =
-          let sizes = form_sizes (frame_in g) lists in
+          let sizes = form_sizes (file_frame g) lists in
           let x = first_over_one c.value.items 0 sizes.ones m n any
           (over_same q.cols b.value.items c.value.items 0 sizes.ones m same.values (omega arith) h.1) i.1 in
           let y = h.0 ∙ sym i.0 in
           e ∙ ap (λ (z : ℕ). Overflows (At_total z m)) y ∙ ap (λ (z : ℕ). Overflows (At_total other z)) x ∙ sym d
       by q b c cols same any (inl h) (inr i) e d =
-          let sizes = form_sizes (frame_in g) lists in
+          let sizes = form_sizes (file_frame g) lists in
           absurd (within_or_over c.value.items 0 sizes.ones m any i.1
           (over_same q.cols b.value.items c.value.items 0 sizes.ones m same.values (omega arith) h.1))
       by q b c cols same any (inr h) (inl i) e d =
-          let sizes = form_sizes (frame_in g) lists in
+          let sizes = form_sizes (file_frame g) lists in
           absurd (within_or_over c.value.items 0 sizes.ones n any
           (within_same q.cols b.value.items c.value.items 0 sizes.ones same.values (omega arith) h.1) i.1)
       by q b c cols same any (inr h) (inr i) e d =
-          let sizes = form_sizes (frame_in g) lists in
+          let sizes = form_sizes (file_frame g) lists in
           let x = first_over_one c.price.items (first_slack sizes) sizes.twos m n any
           (over_same q.cols b.price.items c.price.items (first_slack sizes) sizes.twos m same.prices (omega arith) h.2) i.2 in
           let y = h.0 ∙ sym i.0 in
@@ -398,31 +399,31 @@ module _ (g : FileGame) (lists : ClassLists) (r : InRange (frame_in g)) (w1 : Is
       by (inr (inr (player, m, e, p, o, b, path, best, over))) (inr (inl a)) = absurd (path_or_best w p o b a path best)
       by (inr (inr a)) (inr (inr b)) = totals_one v w a b
 
-  pub solved_or_not : (x y : Plan) (v : Refusal) → IsGameSolution (frame_in g) lists x y → SaysUnsolved g lists v → ⊥
+  pub solved_or_not : (x y : Plan) (v : Refusal) → IsGameSolution (file_frame g) lists x y → SaysUnsolved g lists v → ⊥
   solved_or_not x y v h i =
       let (p, o, b, path, best, plans) = h.path in
       by p o b path best plans (unsolved_kind g lists v i)
     where
-      total : (p : Program) (o : Listing) (b : Best) → IsGamePath (frame_in g) lists p o → IsBest p o most_pivots b
-          → AreEndPlans (frame_in g) lists b x y → (player m : ℕ) (q : Program) (l : Listing) (c : Best) → IsGamePath (frame_in g) lists q l
-          → IsBest q l most_pivots c → IsTotalOver (frame_in g) lists c player m → ⊥
+      total : (p : Program) (o : Listing) (b : Best) → IsGamePath (file_frame g) lists p o → IsBest p o most_pivots b
+          → AreEndPlans (file_frame g) lists b x y → (player m : ℕ) (q : Program) (l : Listing) (c : Best) → IsGamePath (file_frame g) lists q l
+          → IsBest q l most_pivots c → IsTotalOver (file_frame g) lists c player m → ⊥
       total p o b path best plans player m q l c road end over =
-          let s = path_one (frame_in g) lists r w1 w2 k q l p o road path in
-          let there = best_there (frame_in g) lists q l p o c s end in
+          let s = path_one (file_frame g) lists r w1 w2 k q l p o road path in
+          let there = best_there (file_frame g) lists q l p o c s end in
           let same = best_one p o most_pivots c b path.opens there best in
-          let cols = few_columns (frame_in g) lists p o path in
+          let cols = few_columns (file_frame g) lists p o path in
           let long = there.values in
           let any = some_of c.value.items (omega arith) in
           elim over [
-            | inl a ↦ plan_or_over b.value.items 0 (form_sizes (frame_in g) lists).ones m x any h.one.plan.plan.total_in.0 h.one.plan.plan.total_in.1 plans.one
-                (over_same p.cols c.value.items b.value.items 0 (form_sizes (frame_in g) lists).ones m same.values (omega arith) a.1)
-            | inr a ↦ plan_or_over b.price.items (first_slack (form_sizes (frame_in g) lists)) (form_sizes (frame_in g) lists).twos m y any
+            | inl a ↦ plan_or_over b.value.items 0 (form_sizes (file_frame g) lists).ones m x any h.one.plan.plan.total_in.0 h.one.plan.plan.total_in.1 plans.one
+                (over_same p.cols c.value.items b.value.items 0 (form_sizes (file_frame g) lists).ones m same.values (omega arith) a.1)
+            | inr a ↦ plan_or_over b.price.items (first_slack (form_sizes (file_frame g) lists)) (form_sizes (file_frame g) lists).twos m y any
                 h.two.plan.plan.total_in.0 h.two.plan.plan.total_in.1 plans.two
-                (over_same p.cols c.price.items b.price.items (first_slack (form_sizes (frame_in g) lists)) (form_sizes (frame_in g) lists).twos m same.prices
+                (over_same p.cols c.price.items b.price.items (first_slack (form_sizes (file_frame g) lists)) (form_sizes (file_frame g) lists).twos m same.prices
                 (omega arith) a.2)
           ]
 
-      by : (p : Program) (o : Listing) (b : Best) → IsGamePath (frame_in g) lists p o → IsBest p o most_pivots b → AreEndPlans (frame_in g) lists b x y
+      by : (p : Program) (o : Listing) (b : Best) → IsGamePath (file_frame g) lists p o → IsBest p o most_pivots b → AreEndPlans (file_frame g) lists b x y
           → AsTable g lists v ⊎ (AsPath g lists v ⊎ AsTotal g lists v) → ⊥
       by p o b path best plans (inl a) = table_or_best v p o b a path best
       by p o b path best plans (inr (inl a)) = path_or_best v p o b a path best
@@ -433,18 +434,18 @@ module _ (g : FileGame) (lists : ClassLists) (r : InRange (frame_in g)) (w1 : Is
 solved_one : SaysOne Solves
 solved_one g lists (Prints a) (Prints b) t c h i =
     let p = told_playable Two g t in
-    let both = solution_one (frame_in g) lists (in_range (rules_of g) p) (walked_one (rules_of g) p) (walked_two (rules_of g) p) c h.one h.two i.one i.two
+    let both = solution_one (file_frame g) lists (in_range (file_rules g) p) (walked_one (file_rules g) p) (walked_two (file_rules g) p) c h.one h.two i.one i.two
     h.solution i.solution in
     ap (λ (x : List ℕ). Prints x) (text_of_one g lists h.one h.two i.one i.two a b t both.one both.two h.told i.told)
 solved_one g lists (Prints a) (Refuses w) t c h i =
     let p = told_playable Two g t in
-    absurd (solved_or_not g lists (in_range (rules_of g) p) (walked_one (rules_of g) p) (walked_two (rules_of g) p) c h.one h.two w h.solution i)
+    absurd (solved_or_not g lists (in_range (file_rules g) p) (walked_one (file_rules g) p) (walked_two (file_rules g) p) c h.one h.two w h.solution i)
 solved_one g lists (Refuses v) (Prints b) t c h i =
     let p = told_playable Two g t in
-    absurd (solved_or_not g lists (in_range (rules_of g) p) (walked_one (rules_of g) p) (walked_two (rules_of g) p) c i.one i.two v i.solution h)
+    absurd (solved_or_not g lists (in_range (file_rules g) p) (walked_one (file_rules g) p) (walked_two (file_rules g) p) c i.one i.two v i.solution h)
 solved_one g lists (Refuses v) (Refuses w) t c h i =
     let p = told_playable Two g t in
-    ap (λ (x : Refusal). Refuses x) (unsolved_one g lists (in_range (rules_of g) p) (walked_one (rules_of g) p) (walked_two (rules_of g) p) c v w h i)
+    ap (λ (x : Refusal). Refuses x) (unsolved_one g lists (in_range (file_rules g) p) (walked_one (file_rules g) p) (walked_two (file_rules g) p) c v w h i)
 
 pub solves_one : (grouping : Grouping) (bytes : List ℕ) (one two : Reply) → Settles Solves grouping bytes one → Settles Solves grouping bytes two → one ≡ two
 solves_one = settles_one Solves solved_one

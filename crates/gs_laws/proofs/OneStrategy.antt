@@ -9,7 +9,7 @@ use Rattle.gs_compare.specs.Commands.{Judges, SaysJudged}
 use Rattle.gs_confirm.specs.Commands.{Evaluates, OfConfirmed, Queries, SaysNumbers, SaysQueried, SaysUpgraded, Upgrades}
 use Rattle.gs_confirm.specs.Queries.{IsBadQuery, IsQueried, IsToldAt, NamesPoint, NamesSignal, gap_of_player, weights_of_player}
 use Rattle.gs_confirm.specs.Troubles.{IsFirstWrong, IsTooLarge, IsTrouble, IsWrongNumber}
-use Rattle.gs_file.specs.{JsonLaws.{IsRoundTold, IsTold}, Reading.{FileGame, rules_of}, declared.version.Version.{Version}}
+use Rattle.gs_file.specs.{JsonLaws.{IsRoundTold, IsTold}, Reading.{FileGame, file_rules}, declared.version.Version.{Version}}
 use Rattle.gs_frac.specs.{Texts.{number_line}, declared.value.Fraction.{Fraction}}
 use Rattle.gs_lift.specs.{Mixtures.{IsMixture, IsShareOf}, declared.fault.QueryFault.{QueryFault}}
 use Rattle.gs_lift.specs.declared.fault.QueryFault.TheVariants as query
@@ -20,8 +20,8 @@ use Rattle.gs_reply.specs.Refusals.{Limit, Refusal, Sequences, Cells, Table_numb
 use Rattle.gs_reply.specs.{Replies.{OfFile, OfRead, Reply, Prints, Refuses}, Troubles.{IsUnlikePair, Passes}, declared.strategies.Which.{Which}}
 use Rattle.gs_reply.specs.{declared.strategies.Which.TheVariants.{Only}, VerdictText.{mix_text, verdict_text}}
 use Rattle.gs_seq.specs.Stops.{IsSmall}
-use Rattle.gs_strategy.specs.{Checks.{ReadResult, Reads}, Confirmed.{frame_of, raw_plan}, Laws.{IsStrategy}}
-use Rattle.gs_strategy.specs.Values.{FractionParts, Numbers, Strategy, frame_in}
+use Rattle.gs_strategy.specs.{Checks.{ReadResult, Reads}, Confirmed.{strategy_frame, raw_plan}, Laws.{IsStrategy}}
+use Rattle.gs_strategy.specs.Values.{FractionParts, Numbers, Strategy, file_frame}
 use Rattle.gs_tree.proofs.Named.{text_once}
 use Rattle.gs_laws.proofs.{Confirming.{no_trouble, small_passes, strategy_numbers, verdicts_one}, Dealt.{told_dealt, told_playable}, OneGame.{unlike_pair_one}}
 use Rattle.gs_laws.proofs.{OneReading.{reads_one}, Strategies.{reads_strategy}, Verdicts.{scale_some}}
@@ -60,7 +60,7 @@ passes_one g lists (Raw_cells n) b h k = absurd h
 pub limit_one : (g : FileGame) (lists : ClassLists) (a b : Limit) → Passes g lists a → Passes g lists b → a ≡ b
 limit_one g lists a b h k = passes_one g lists a b h k
 
-small_or_large : (s : Strategy) (limit : Limit) → IsSmall (frame_in s.game) s.classes → Passes s.game s.classes limit → ⊥
+small_or_large : (s : Strategy) (limit : Limit) → IsSmall (file_frame s.game) s.classes → Passes s.game s.classes limit → ⊥
 small_or_large s limit small h = small_passes s.game s.classes limit small h
 
 wrong_one : (n m : Numbers) (name : List ℕ) (a b : FractionParts) (name' : List ℕ) (c d : FractionParts) → IsFirstWrong n m name a b
@@ -137,7 +137,7 @@ upgrades_one = over_file Only (OfConfirmed SaysUpgraded) (λ version s one two i
 
 judged_one : (version : Version) (s : Strategy) (one two : Reply) → IsStrategy version s → SaysJudged s one → SaysJudged s two → one ≡ two
 judged_one version s one two is (inl (few, (n, a, e))) (inl (low, (m, b, e'))) =
-    let f = frame_of s in
+    let f = strategy_frame s in
     let some = scale_some (total_weight f) s.one.total s.two.total (told_dealt version s.game is.written.game).deals is.first.plan.total_in.0
     is.second.plan.total_in.0 in
     let same = verdicts_one f (raw_plan s s.one) (raw_plan s s.two) n m some (record { value = a.value; gap1 = a.gap1; gap2 = a.gap2 })
@@ -162,14 +162,14 @@ same_point p q e = cc
 point_one : (version : Version) (g : FileGame) (line : List ℕ) (p q : ℕ) → IsTold version g → NamesPoint g line p → NamesPoint g line q → p ≡ q
 point_one version g line p q t h k =
     let sound = sound_trees g.rounds t.rounds in
-    same_point p q (sym (named (trees_of (rules_of g)) line (at_point p) sound h) ∙ named (trees_of (rules_of g)) line (at_point q) sound k)
+    same_point p q (sym (named (trees_of (file_rules g)) line (at_point p) sound h) ∙ named (trees_of (file_rules g)) line (at_point q) sound k)
 
-signal_one : (version : Version) (g : FileGame) (q : ℕ) (text : List ℕ) (i k : ℕ) → IsTold version g → q < point_count (frame_in g)
-    → NamesSignal g (round_of (frame_in g) (at_point q)) text i → NamesSignal g (round_of (frame_in g) (at_point q)) text k → i ≡ k
+signal_one : (version : Version) (g : FileGame) (q : ℕ) (text : List ℕ) (i k : ℕ) → IsTold version g → q < point_count (file_frame g)
+    → NamesSignal g (round_of (file_frame g) (at_point q)) text i → NamesSignal g (round_of (file_frame g) (at_point q)) text k → i ≡ k
 signal_one version g q text i k t inside h l =
-    let r = rules_of g in
+    let r = file_rules g in
     let w = walked_one r (told_playable version g t) in
-    let round = round_of (frame_in g) (at_point q) in
+    let round = round_of (file_frame g) (at_point q) in
     let some = w.some_round q inside in
     let top = w.point_in q inside in
     let last = last_round_of r in
@@ -240,7 +240,7 @@ mixture_one f x q s ps rs gap h k =
 told_one : (s : Strategy) (player point place : ℕ) (one two : List ℕ) → IsToldAt s player point place one → IsToldAt s player point place two → one ≡ two
 told_one s player point place one two h k =
     h.printed
-    ∙ mixture_one (frame_of s) (raw_plan s (weights_of_player s player)) point place h.moves k.moves (gap_of_player s player) h.mixture k.mixture
+    ∙ mixture_one (strategy_frame s) (raw_plan s (weights_of_player s player)) point place h.moves k.moves (gap_of_player s player) h.mixture k.mixture
     ∙ sym k.printed
 
 queried_text : (version : Version) (s : Strategy) (player : ℕ) (line signal one two : List ℕ) → IsStrategy version s → IsQueried s player line signal one
@@ -248,8 +248,8 @@ queried_text : (version : Version) (s : Strategy) (player : ℕ) (line signal on
 queried_text version s player line signal one two is h k =
     let t = is.written.game in
     let p : h.point ≡ k.point = point_one version s.game line h.point k.point t h.own.named k.own.named in
-    let named : NamesSignal s.game (round_of (frame_of s) (at_point k.point)) signal h.place =
-    subst (λ (q : ℕ). NamesSignal s.game (round_of (frame_of s) (at_point q)) signal h.place) p h.named in
+    let named : NamesSignal s.game (round_of (strategy_frame s) (at_point k.point)) signal h.place =
+    subst (λ (q : ℕ). NamesSignal s.game (round_of (strategy_frame s) (at_point q)) signal h.place) p h.named in
     let i : h.place ≡ k.place = signal_one version s.game k.point signal h.place k.place t k.own.in_range named k.named in
     told_one s player k.point k.place one two
     (subst (λ (j : ℕ). IsToldAt s player k.point j one) i (subst (λ (q : ℕ). IsToldAt s player q h.place one) p h.told)) k.told
@@ -260,13 +260,13 @@ spot_or_bad : (version : Version) (s : Strategy) (player : ℕ) (line signal tex
 spot_or_bad version s player line signal text query.Line is h b = b h.point h.own.named
 spot_or_bad version s player line signal text query.Player is h (q, named, other) =
     let e : h.point ≡ q = point_one version s.game line h.point q is.written.game h.own.named named in
-    other (ap (player_at (frame_in s.game)) (sym e) ∙ h.own.own)
+    other (ap (player_at (file_frame s.game)) (sym e) ∙ h.own.own)
 spot_or_bad version s player line signal text query.Signal is h (q, own, none) =
-    let w = walked_one (rules_of s.game) (told_playable version s.game is.written.game) in
-    none (round_of (frame_in s.game) (at_point h.point), w.some_round h.point h.own.in_range, w.point_in h.point h.own.in_range, h.place, h.named)
+    let w = walked_one (file_rules s.game) (told_playable version s.game is.written.game) in
+    none (round_of (file_frame s.game) (at_point h.point), w.some_round h.point h.own.in_range, w.point_in h.point h.own.in_range, h.place, h.named)
 spot_or_bad version s player line signal text query.Round is h (q, own, some, none) =
     let e : h.point ≡ q = point_one version s.game line h.point q is.written.game h.own.named own.named in
-    none h.place (subst (λ (p : ℕ). NamesSignal s.game (round_of (frame_in s.game) (at_point p)) signal h.place) e h.named)
+    none h.place (subst (λ (p : ℕ). NamesSignal s.game (round_of (file_frame s.game) (at_point p)) signal h.place) e h.named)
 
 bad_one : (version : Version) (g : FileGame) (player : ℕ) (line signal : List ℕ) (v w : QueryFault) → IsTold version g
     → IsBadQuery g player line signal v → IsBadQuery g player line signal w → v ≡ w
@@ -277,17 +277,17 @@ bad_one version g player line signal query.Line query.Round t h k = absurd (h k.
 bad_one version g player line signal query.Player query.Line t h k = absurd (k h.0 h.1)
 bad_one version g player line signal query.Player query.Player t h k = refl
 bad_one version g player line signal query.Player query.Signal t h k =
-    absurd (h.2 (ap (player_at (frame_in g)) (point_one version g line h.0 k.0 t h.1 k.1.named) ∙ k.1.own))
+    absurd (h.2 (ap (player_at (file_frame g)) (point_one version g line h.0 k.0 t h.1 k.1.named) ∙ k.1.own))
 bad_one version g player line signal query.Player query.Round t h k =
-    absurd (h.2 (ap (player_at (frame_in g)) (point_one version g line h.0 k.0 t h.1 k.1.named) ∙ k.1.own))
+    absurd (h.2 (ap (player_at (file_frame g)) (point_one version g line h.0 k.0 t h.1 k.1.named) ∙ k.1.own))
 bad_one version g player line signal query.Signal query.Line t h k = absurd (k h.0 h.1.named)
 bad_one version g player line signal query.Signal query.Player t h k =
-    absurd (k.2 (ap (player_at (frame_in g)) (point_one version g line k.0 h.0 t k.1 h.1.named) ∙ h.1.own))
+    absurd (k.2 (ap (player_at (file_frame g)) (point_one version g line k.0 h.0 t k.1 h.1.named) ∙ h.1.own))
 bad_one version g player line signal query.Signal query.Signal t h k = refl
 bad_one version g player line signal query.Signal query.Round t h k = absurd (h.2 k.2)
 bad_one version g player line signal query.Round query.Line t h k = absurd (k h.0 h.1.named)
 bad_one version g player line signal query.Round query.Player t h k =
-    absurd (k.2 (ap (player_at (frame_in g)) (point_one version g line k.0 h.0 t k.1 h.1.named) ∙ h.1.own))
+    absurd (k.2 (ap (player_at (file_frame g)) (point_one version g line k.0 h.0 t k.1 h.1.named) ∙ h.1.own))
 bad_one version g player line signal query.Round query.Signal t h k = absurd (k.2 h.2)
 bad_one version g player line signal query.Round query.Round t h k = refl
 

@@ -7,7 +7,7 @@ use Rattle.std.proofs.lemmas.List.Elements.{All-head, All-tail}
 use Rattle.std.specs.{Prelude.{count_by, sum_by}, List.{AllByRecursion, list_any, range_with_len}}
 use Rattle.gs_bet.specs.{Grammar.{are_sound, is_sound}, MoveLists.{count, has_move}}
 use Rattle.gs_bet.proofs.Letters.{at_most_26}
-use Rattle.gs_file.specs.{JsonLaws.{IsRoundTold, IsTold}, Reading.{FileGame, rules_of}, declared.version.Version.{Version}}
+use Rattle.gs_file.specs.{JsonLaws.{IsRoundTold, IsTold}, Reading.{FileGame, file_rules}, declared.version.Version.{Version}}
 use Rattle.gs_filter.proofs.ClassLaws.{greatest_within, single_are_classes, single_at}
 use Rattle.gs_filter.specs.Filter.{single_classes}
 use Rattle.gs_game.proofs.{MoneyLaws.{sound_act, sound_move, tree_sound}, Totals.{sum-total, total, total-append, total-places}}
@@ -21,7 +21,7 @@ use Rattle.gs_model.specs.{Game.{Game, IsPlayable, Round, round_count}, Payoff.{
 use Rattle.gs_model.specs.Walk.{Place, Walked, WalkedMoves, after_move, fold_end, walk, walk_moves, walk_rounds, walk_start, walk_tree}
 use Rattle.gs_raw.specs.Cells.{raw_cell_count}
 use Rattle.gs_seq.specs.{Cells.{meets, pair_count}, Slots.{sequence_count, slot_count, slots_at}}
-use Rattle.gs_strategy.specs.Values.{frame_in}
+use Rattle.gs_strategy.specs.Values.{file_frame}
 use Rattle.gs_tree.proofs.Readers.{first_next}
 use Rattle.gs_laws.proofs.{Dealing.{child_some, hand_some, met}, Dealt.{few_signals, rounds_pass, told_playable}}
 
@@ -327,11 +327,11 @@ sound_trees [] h = tt
 sound_trees (r ∷ rs) h = (tree_sound r.tree (All-head IsRoundTold r rs h).tree, sound_trees rs (All-tail IsRoundTold r rs h))
 
 points_few : (version : Version) (g : FileGame) → IsTold version g
-    → moves_weigh (λ r. signal_count (frame_in g) r) (frame_in g).points ≤ 64 * raw_cell_count (frame_in g)
+    → moves_weigh (λ r. signal_count (file_frame g) r) (file_frame g).points ≤ 64 * raw_cell_count (file_frame g)
 points_few version g h =
-    let r = rules_of g in
+    let r = file_rules g in
     let p = told_playable version g h in
-    let f = frame_in g in
+    let f = file_frame g in
     let n = rounds_pass r h.lawful in
     let W = λ (i : ℕ). signal_count f i in
     let V = λ (i : ℕ). pair_count f (single r) i in
@@ -345,33 +345,33 @@ points_few version g h =
     trees_long (r ∷ rs) = ap suc (trees_long rs)
 
     by : (ts : List Bet) → AllByRecursion (λ t. is_sound 16 t ≡ true) ts → length ts ≡ length g.rounds
-        → moves_weigh (λ i. signal_count (frame_in g) i) (walk g.ante ts).points
-        ≤ 16 * length g.rounds * ends_weigh (λ i. pair_count (frame_in g) (single (rules_of g)) i) (walk g.ante ts).ends
-    by [] sound long = let n = rounds_pass (rules_of g) h.lawful in absurd (omega arith)
+        → moves_weigh (λ i. signal_count (file_frame g) i) (walk g.ante ts).points
+        ≤ 16 * length g.rounds * ends_weigh (λ i. pair_count (file_frame g) (single (file_rules g)) i) (walk g.ante ts).ends
+    by [] sound long = let n = rounds_pass (file_rules g) h.lawful in absurd (omega arith)
     by (t ∷ ts) sound long =
-        let r = rules_of g in
+        let r = file_rules g in
         let p = told_playable version g h in
         let last = last_round_of r in
-        let a = all_bound (λ i. signal_count (frame_in g) i) (λ i. pair_count (frame_in g) (single r) i) (round_count r)
+        let a = all_bound (λ i. signal_count (file_frame g) i) (λ i. pair_count (file_frame g) (single r) i) (round_count r)
         (λ i some top. pairs_some r p h.lawful i some (omega arith)) (λ i some top. signals_up r h.lawful i some top) g.ante t ts sound (omega arith) in
         let most : 16 + 16 * length ts ≡ 16 * length g.rounds = omega arith in
-        subst (λ (m : ℕ). moves_weigh (λ i. signal_count (frame_in g) i) (walk g.ante (t ∷ ts)).points
-        ≤ m * ends_weigh (λ i. pair_count (frame_in g) (single r) i) (walk g.ante (t ∷ ts)).ends) most a
+        subst (λ (m : ℕ). moves_weigh (λ i. signal_count (file_frame g) i) (walk g.ante (t ∷ ts)).points
+        ≤ m * ends_weigh (λ i. pair_count (file_frame g) (single r) i) (walk g.ante (t ∷ ts)).ends) most a
 
 pub raw_sequences_few : (version : Version) (g : FileGame) (player : ℕ) → IsTold version g
-    → sequence_count (frame_in g) (single_classes (frame_in g).parents) player ≤ 1 + 64 * raw_cell_count (frame_in g)
+    → sequence_count (file_frame g) (single_classes (file_frame g).parents) player ≤ 1 + 64 * raw_cell_count (file_frame g)
 raw_sequences_few version g player h =
-    omega (arith, slots_all (rules_of g) (told_playable version g h) h.lawful player, points_few version g h)
+    omega (arith, slots_all (file_rules g) (told_playable version g h) h.lawful player, points_few version g h)
 
-pub hands_weigh : (version : Version) (g : FileGame) (s : ℕ) → IsTold version g → s < signal_count (frame_in g) 1 → 0 < hand_weight (frame_in g) s
-hands_weigh version g s h l = hand_some (rules_of g) (told_playable version g h) h.lawful s l
+pub hands_weigh : (version : Version) (g : FileGame) (s : ℕ) → IsTold version g → s < signal_count (file_frame g) 1 → 0 < hand_weight (file_frame g) s
+hands_weigh version g s h l = hand_some (file_rules g) (told_playable version g h) h.lawful s l
 
 -- a game with few raw cells has few sequences over single signals
 points_within : (version : Version) (g : FileGame) → IsTold version g
-    → moves_weigh (λ r. signal_count (frame_in g) r) (frame_in g).points ≤ 200000 * 26 + 63 * raw_cell_count (frame_in g)
+    → moves_weigh (λ r. signal_count (file_frame g) r) (file_frame g).points ≤ 200000 * 26 + 63 * raw_cell_count (file_frame g)
 points_within version g h =
-    let r = rules_of g in
-    let f = frame_in g in
+    let r = file_rules g in
+    let f = file_frame g in
     let V = λ (i : ℕ). pair_count f (single r) i in
     let cells : raw_cell_count f ≡ ends_weigh V f.ends = sum-total (λ (z : End). V z.round) f.ends in
     let b = by (trees_of r) (sound_trees g.rounds h.rounds) (trees_long g.rounds) in
@@ -382,16 +382,16 @@ points_within version g h =
     trees_long (r ∷ rs) = ap suc (trees_long rs)
 
     by : (ts : List Bet) → AllByRecursion (λ t. is_sound 16 t ≡ true) ts → length ts ≡ length g.rounds
-        → moves_weigh (λ i. signal_count (frame_in g) i) (walk g.ante ts).points
-        ≤ 200000 * 26 + 63 * ends_weigh (λ i. pair_count (frame_in g) (single (rules_of g)) i) (walk g.ante ts).ends
-    by [] sound long = let n = rounds_pass (rules_of g) h.lawful in absurd (omega arith)
+        → moves_weigh (λ i. signal_count (file_frame g) i) (walk g.ante ts).points
+        ≤ 200000 * 26 + 63 * ends_weigh (λ i. pair_count (file_frame g) (single (file_rules g)) i) (walk g.ante ts).ends
+    by [] sound long = let n = rounds_pass (file_rules g) h.lawful in absurd (omega arith)
     by (t ∷ ts) sound long =
-        let r = rules_of g in
+        let r = file_rules g in
         let p = told_playable version g h in
         let last = last_round_of r in
         let n = rounds_pass r h.lawful in
-        let W = λ (i : ℕ). signal_count (frame_in g) i in
-        let V = λ (i : ℕ). pair_count (frame_in g) (single r) i in
+        let W = λ (i : ℕ). signal_count (file_frame g) i in
+        let V = λ (i : ℕ). pair_count (file_frame g) (single r) i in
         let a = first_bound W V (round_count r) (λ i some top. pairs_some r p h.lawful i some (omega arith))
         (λ i some top. signals_up r h.lawful i some top) g.ante t ts sound (omega arith) in
         let few = few_signals r h.lawful 1 (omega arith) (omega arith) in
@@ -400,7 +400,7 @@ points_within version g h =
         let wide = mul-le-mul_right (ends_weigh V (walk g.ante (t ∷ ts)).ends) deep in
         omega (arith, a, times, wide)
 
-pub raw_games_within : (version : Version) (g : FileGame) (player : ℕ) → IsTold version g → raw_cell_count (frame_in g) ≤ 16777216
-    → sequence_count (frame_in g) (single_classes (frame_in g).parents) player ≤ 1073741824
+pub raw_games_within : (version : Version) (g : FileGame) (player : ℕ) → IsTold version g → raw_cell_count (file_frame g) ≤ 16777216
+    → sequence_count (file_frame g) (single_classes (file_frame g).parents) player ≤ 1073741824
 raw_games_within version g player h few =
-    omega (arith, slots_all (rules_of g) (told_playable version g h) h.lawful player, points_within version g h, few)
+    omega (arith, slots_all (file_rules g) (told_playable version g h) h.lawful player, points_within version g h, few)

@@ -4,7 +4,9 @@ use Rattle.std.proofs.lemmas.Bool.{and_from, and_parts, cases_Bool, cases_eq, eq
 use Rattle.std.specs.Prelude.{if◌then◌else◌, option_map}
 use Rattle.gs_game.proofs.Evenly.{neither}
 use Rattle.gs_game.specs.Money.{first_of, has_even, most_in, one_after, two_after, uneven_move, uneven_path}
-use Rattle.gs_game.specs.Refusals.{Refusal, betting_refusal, card_refusal, copies_refusal, deal_refusal, deals_refusal, even_refusal, first_refusal, lines_refusal, no_even_from, own_cards, private_refusal, public_cards, put_refusal, ranking_refusal, ranks, rounds_refusal, signals_from, signals_refusal, uneven_from, uneven_refusal, weight_refusal}
+use Rattle.gs_game.specs.Refusals.{Refusal, betting_refusal, card_refusal, copies_refusal, deal_refusal, deals_refusal, even_refusal, first_refusal}
+use Rattle.gs_game.specs.Refusals.{lines_refusal, no_even_from, own_card_total, private_refusal, public_card_total, put_refusal, ranking_refusal, ranks}
+use Rattle.gs_game.specs.Refusals.{rounds_refusal, signals_from, signals_refusal, uneven_from, uneven_refusal, weight_refusal}
 use Rattle.gs_game.specs.Refusals.{rounds, no_private, no_even, uneven, too_many_signals}
 use Rattle.gs_model.specs.{Betting.{Bet, Moves, act, fold, even, none, move}, Deals.{deals}, Frame.{frame_of, total_weight, trees_of}}
 use Rattle.gs_model.specs.{Game.{Game, round_at, round_count}, Numbering.{greatest}, Signals.{signals}, Walk.{walk}}
@@ -142,22 +144,22 @@ private_fine : (g : Game) → 0 < (round_at g 1).private → private_refusal g �
 unfolding private_refusal
 private_fine g h = let e = ne_eqb ((round_at g 1).private) 0 (λ z. omega arith) in rw e refl
 
-ranking_kept : (g : Game) → ranking_refusal g ≡ None → ranks g.ranking (own_cards g.rounds) (own_cards g.rounds + public_cards g.rounds) ≡ true
+ranking_kept : (g : Game) → ranking_refusal g ≡ None → ranks g.ranking (own_card_total g.rounds) (own_card_total g.rounds + public_card_total g.rounds) ≡ true
 unfolding ranking_refusal
-ranking_kept g h = unless_true (ranks g.ranking (own_cards g.rounds) (own_cards g.rounds + public_cards g.rounds)) _ h
+ranking_kept g h = unless_true (ranks g.ranking (own_card_total g.rounds) (own_card_total g.rounds + public_card_total g.rounds)) _ h
 
-ranking_fine : (g : Game) → ranks g.ranking (own_cards g.rounds) (own_cards g.rounds + public_cards g.rounds) ≡ true → ranking_refusal g ≡ None
+ranking_fine : (g : Game) → ranks g.ranking (own_card_total g.rounds) (own_card_total g.rounds + public_card_total g.rounds) ≡ true → ranking_refusal g ≡ None
 unfolding ranking_refusal
 ranking_fine g h = rw h refl
 
-copies_kept : (g : Game) → copies_refusal g ≡ None → 2 * own_cards g.rounds + public_cards g.rounds ≤ sum g.copies
+copies_kept : (g : Game) → copies_refusal g ≡ None → 2 * own_card_total g.rounds + public_card_total g.rounds ≤ sum g.copies
 unfolding copies_refusal
 copies_kept g h =
-    let need = 2 * own_cards g.rounds + public_cards g.rounds in ltb-false (sum g.copies) need (unless_false (nat_lt (sum g.copies) need) _ h)
+    let need = 2 * own_card_total g.rounds + public_card_total g.rounds in ltb-false (sum g.copies) need (unless_false (nat_lt (sum g.copies) need) _ h)
 
-copies_fine : (g : Game) → 2 * own_cards g.rounds + public_cards g.rounds ≤ sum g.copies → copies_refusal g ≡ None
+copies_fine : (g : Game) → 2 * own_card_total g.rounds + public_card_total g.rounds ≤ sum g.copies → copies_refusal g ≡ None
 unfolding copies_refusal
-copies_fine g h = let e = not_less (sum g.copies) (2 * own_cards g.rounds + public_cards g.rounds) h in rw e refl
+copies_fine g h = let e = not_less (sum g.copies) (2 * own_card_total g.rounds + public_card_total g.rounds) h in rw e refl
 
 put_kept : (g : Game) → put_refusal g ≡ None → most_in (trees_of g) g.ante g.ante * greatest g.bonus ≤ 4096
 unfolding put_refusal

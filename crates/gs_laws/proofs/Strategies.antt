@@ -3,7 +3,7 @@ use Rattle.std.proofs.Common.{◌≡◌, ℕ, ◌+◌, ◌^◌, ◌<◌, ◌≤�
 use Rattle.std.proofs.lemmas.List.{get_or_default}
 use Rattle.std.specs.Option.{ok_or}
 use Rattle.serde_json.specs.{Data.{Data}, Find.{as_str}}
-use Rattle.gs_file.specs.{Faults.{Fault as GameFault}, JsonLaws.{IsTold}, JsonReading.{json_game_at}, Reading.{FileGame, read_at, rules_of}}
+use Rattle.gs_file.specs.{Faults.{Fault as GameFault}, JsonLaws.{IsTold}, JsonReading.{json_game_at}, Reading.{FileGame, read_at, file_rules}}
 use Rattle.gs_file.specs.{declared.version.Version.{Version}, declared.version.Version.TheVariants.{Two}}
 use Rattle.gs_filter.proofs.ClassLaws.{greatest_within}
 use Rattle.gs_frac.specs.{declared.fault.FracFault.{FracFault}, Texts.{fraction_of}}
@@ -13,11 +13,14 @@ use Rattle.gs_model.proofs.{Push.{le_greatest}, Ranges.{in_range}, Walked.{walke
 use Rattle.gs_model.proofs.{Gather.{known_from, firsts_from, plan_by}, Alike.{keeps_from}}
 use Rattle.gs_model.specs.{Classes.{ClassLists, list_of}, Frame.{Frame, last_round}, FrameFacts.{InRange, IsWalked}, Game.{IsPlayable}, Plans.{IsRawPlan}}
 use Rattle.gs_seq.specs.declared.plan.Plan.{Plan}
-use Rattle.gs_settle.specs.Texts.{IsTextOf}
+use Rattle.gs_settle.specs.Texts.{IsSettledText}
 use Rattle.gs_strategy.specs.Checks.{AreClasses, After, IsCanonical, IsClassFault, IsPlanFault, Reads, ReadsClasses, ReadsNumbers, ReadsParts, ReadsPlans, ReadsSecond, Unless}
 use Rattle.gs_strategy.specs.{Confirmed.{raw_plan}, Faults.{Fault, classes, fraction as no_fraction, plan, shape}, Laws.{AreFractions, AreWeights, IsStrategy}}
-use Rattle.gs_strategy.specs.Reading.{Whole, classes_at, fraction_at, game_at, json_at, numbers_at, of_fraction, of_game, parts_at, version_at, weights_at}
-use Rattle.gs_strategy.specs.{Texts.{strategy_data, strategy_text}, Values.{FractionParts, IsFractionOf, IsPlanOf, Numbers, Strategy, Weights, frame_in}}
+use Rattle.gs_strategy.specs.Reading.{Whole, class_lists_at, fraction_at, stored_game_at, json_at, numbers_at, of_fraction, of_game, parts_at}
+use Rattle.gs_strategy.specs.Reading.{stored_version_at}
+use Rattle.gs_strategy.specs.Reading.{weights_at}
+use Rattle.gs_strategy.specs.Texts.{strategy_data, strategy_text}
+use Rattle.gs_strategy.specs.Values.{FractionParts, IsFractionOf, ArePlanWeights, Numbers, Strategy, Weights, file_frame}
 use Rattle.gs_strategy.specs.declared.fault.FilePart.{FilePart}
 use Rattle.gs_strategy.proofs.OneText.{classes_are, game_is, json_is, numbers_are, parts_are, parts_of, version_is, weights_are}
 use Rattle.gs_strategy.specs.declared.fault.FilePart.TheVariants as part
@@ -29,7 +32,7 @@ use Rattle.gs_laws.proofs.{Dealt.{few_signals, told_dealt, told_playable}, Fract
 -- the class numbers of a told game have 32 bits
 few_classes : (version : Version) (g : FileGame) (lists : ClassLists) → IsTold version g → AreClasses g lists → All (λ list. All (λ n. n < 2 ^ 32) list) lists
 few_classes version g lists t c r ds lr k d l =
-    let f = frame_in g in
+    let f = file_frame g in
     let same : get_or lists r ds ≡ list_of lists (r + 1) = get_or_default lists r ds [] lr ∙ ap (λ (i : ℕ). get_or lists i []) (omega arith) in
     let long = ap (λ (xs : List ℕ). length xs) same in
     let count = c.rounds in
@@ -44,30 +47,30 @@ few_classes version g lists t c r ds lr k d l =
       le_greatest (list_of lists (r + 1)) k inside,
       greatest_within (list_of lists (r + 1)) (c.numbered (r + 1) some top),
       c.lengths (r + 1) some top,
-      few_signals (rules_of g) t.lawful (r + 1) some top,
+      few_signals (file_rules g) t.lawful (r + 1) some top,
     )
 
-few_weights : (f : Frame) (player : ℕ) (g : FileGame) (lists : ClassLists) (w : Weights) → f ≡ frame_in g → InRange (frame_in g) → IsWalked (frame_in g) player
-    → AreClasses g lists → IsPlanOf g lists player w → AreWeights w
+few_weights : (f : Frame) (player : ℕ) (g : FileGame) (lists : ClassLists) (w : Weights) → f ≡ file_frame g → InRange (file_frame g) → IsWalked (file_frame g) player
+    → AreClasses g lists → ArePlanWeights g lists player w → AreWeights w
 few_weights f player g lists w e r walked c p =
     let total = p.plan.total_in.1 in
     record {
       total = omega arith;
       weights = λ k d l. (let here = get_or_default w.weights k d 0 l in
-          let within = weights_within (frame_in g) lists player w.total w.weights r walked c p k l in omega (arith, here, within));
+          let within = weights_within (file_frame g) lists player w.total w.weights r walked c p k l in omega (arith, here, within));
     }
 
-pub strategy_is : (version : Version) (s : Strategy) → IsTold version s.game → AreClasses s.game s.classes → IsPlanOf s.game s.classes 1 s.one
-    → IsPlanOf s.game s.classes 2 s.two → AreFractions s.numbers → IsStrategy version s
+pub strategy_is : (version : Version) (s : Strategy) → IsTold version s.game → AreClasses s.game s.classes → ArePlanWeights s.game s.classes 1 s.one
+    → ArePlanWeights s.game s.classes 2 s.two → AreFractions s.numbers → IsStrategy version s
 strategy_is version s t c one two n =
     let p = told_playable version s.game t in
-    let g = rules_of s.game in
+    let g = file_rules s.game in
     record {
       written = record {
         game = t;
         classes = few_classes version s.game s.classes t c;
-        one = few_weights (frame_in s.game) 1 s.game s.classes s.one refl (in_range g p) (walked_one g p) c one;
-        two = few_weights (frame_in s.game) 2 s.game s.classes s.two refl (in_range g p) (walked_two g p) c two;
+        one = few_weights (file_frame s.game) 1 s.game s.classes s.one refl (in_range g p) (walked_one g p) c one;
+        two = few_weights (file_frame s.game) 2 s.game s.classes s.two refl (in_range g p) (walked_two g p) c two;
         numbers = n;
       };
       classes = c;
@@ -118,15 +121,15 @@ numbers_ok parts n e =
 
 parts_read : (version : Version) (parts : Whole) (s : Strategy) → ReadsParts version parts (Ok s) → IsStrategy version s
 parts_read version parts s h =
-    let (g, eg, h1) = then_ok (game_at version parts.game) (λ g. Then (classes_at parts.classes) (λ lists. ReadsClasses parts g lists)) s h in
-    let (lists, el, h2) = then_ok (classes_at parts.classes) (λ lists. ReadsClasses parts g lists) s h1 in
+    let (g, eg, h1) = then_ok (stored_game_at version parts.game) (λ g. Then (class_lists_at parts.classes) (λ lists. ReadsClasses parts g lists)) s h in
+    let (lists, el, h2) = then_ok (class_lists_at parts.classes) (λ lists. ReadsClasses parts g lists) s h1 in
     let (c, h3) = unless_ok (AreClasses g lists) (IsClassFault g lists) classes (ReadsPlans parts g lists) s h2 in
     let (one, eo, h4) = then_ok (weights_at part.Player1 parts.player1) (λ one.
-    Unless (IsPlanOf g lists 1 one) (IsPlanFault g lists 1 one) (plan 1) (ReadsSecond parts g lists one)) s h3 in
-    let (first, h5) = unless_ok (IsPlanOf g lists 1 one) (IsPlanFault g lists 1 one) (plan 1) (ReadsSecond parts g lists one) s h4 in
+    Unless (ArePlanWeights g lists 1 one) (IsPlanFault g lists 1 one) (plan 1) (ReadsSecond parts g lists one)) s h3 in
+    let (first, h5) = unless_ok (ArePlanWeights g lists 1 one) (IsPlanFault g lists 1 one) (plan 1) (ReadsSecond parts g lists one) s h4 in
     let (two, et, h6) = then_ok (weights_at part.Player2 parts.player2) (λ two.
-    Unless (IsPlanOf g lists 2 two) (IsPlanFault g lists 2 two) (plan 2) (ReadsNumbers parts g lists one two)) s h5 in
-    let (second, h7) = unless_ok (IsPlanOf g lists 2 two) (IsPlanFault g lists 2 two) (plan 2) (ReadsNumbers parts g lists one two) s h6 in
+    Unless (ArePlanWeights g lists 2 two) (IsPlanFault g lists 2 two) (plan 2) (ReadsNumbers parts g lists one two)) s h5 in
+    let (second, h7) = unless_ok (ArePlanWeights g lists 2 two) (IsPlanFault g lists 2 two) (plan 2) (ReadsNumbers parts g lists one two) s h6 in
     let (n, en, h8) = then_ok (numbers_at parts) (λ numbers r. r ≡ Ok (record { game = g; classes = lists; one = one; two = two; numbers = numbers })) s h7 in
     let t : Strategy = record { game = g; classes = lists; one = one; two = two; numbers = n } in
     let told = json_told version parts.game g (game_ok (json_game_at version parts.game) g eg) in
@@ -135,7 +138,7 @@ parts_read version parts s h =
 pub reads_strategy : (bytes : List ℕ) (s : Strategy) → Reads bytes (Ok s) → (version : Version) × IsStrategy version s × (bytes ≡ strategy_text version s)
 reads_strategy bytes s h =
     let (d, ed, h1) = then_ok (json_at bytes) _ s h in
-    let (version, ev, h2) = then_ok (version_at d) _ s h1 in
+    let (version, ev, h2) = then_ok (stored_version_at d) _ s h1 in
     let (parts, ep, h3) = then_ok (parts_at d) _ s h2 in
     let (t, et, h4) = then_ok h3.0 (IsCanonical version bytes) s h3.2 in
     let read : ReadsParts version parts (Ok t) = subst (ReadsParts version parts) et h3.1 in
@@ -150,15 +153,15 @@ reads_strategy bytes s h =
 
 -- ---- raw plans
 
-raw : (g : FileGame) (s : Strategy) (player : ℕ) (w : Weights) → s.game ≡ g → IsPlayable (rules_of g) → IsWalked (frame_in g) player
-    → AreClasses s.game s.classes → IsPlanOf s.game s.classes player w → IsRawPlan (frame_in g) player (raw_plan s w)
+raw : (g : FileGame) (s : Strategy) (player : ℕ) (w : Weights) → s.game ≡ g → IsPlayable (file_rules g) → IsWalked (file_frame g) player
+    → AreClasses s.game s.classes → ArePlanWeights s.game s.classes player w → IsRawPlan (file_frame g) player (raw_plan s w)
 raw g s player w e p walked c its =
-    subst (λ (h : FileGame). IsPlayable (rules_of h) → IsWalked (frame_in h) player → IsRawPlan (frame_in h) player (raw_plan s w)) e here p walked
+    subst (λ (h : FileGame). IsPlayable (file_rules h) → IsWalked (file_frame h) player → IsRawPlan (file_frame h) player (raw_plan s w)) e here p walked
   where
-    here : IsPlayable (rules_of s.game) → IsWalked (frame_in s.game) player → IsRawPlan (frame_in s.game) player (raw_plan s w)
+    here : IsPlayable (file_rules s.game) → IsWalked (file_frame s.game) player → IsRawPlan (file_frame s.game) player (raw_plan s w)
     here p walked =
-        let f = frame_in s.game in
-        let r = in_range (rules_of s.game) p in
+        let f = file_frame s.game in
+        let r = in_range (file_rules s.game) p in
         lift_is_raw_plan f (is_table f r) s.classes (keeps_from f s.classes c.filter) (firsts_from f s.classes c) player (known_from f player r walked) _
         walked.point_in (plan_by f s.classes player _ walked c its.plan)
 
@@ -167,8 +170,8 @@ strategies_raw v w one two h k e =
     let dealt = told_dealt v one.game h.written.game in
     let p = dealt.playable in
     record {
-      first = raw one.game one 1 one.one refl p (walked_one (rules_of one.game) p) h.classes h.first;
-      second = raw one.game two 2 two.two (sym e) p (walked_two (rules_of one.game) p) k.classes k.second;
+      first = raw one.game one 1 one.one refl p (walked_one (file_rules one.game) p) h.classes h.first;
+      second = raw one.game two 2 two.two (sym e) p (walked_two (file_rules one.game) p) k.classes k.second;
       deals = dealt.deals;
     }
 
@@ -181,14 +184,14 @@ read_raw first second one two h k e =
 -- ---- what is printed
 
 pub printed_strategy : (bytes : List ℕ) (g : FileGame) (lists : ClassLists) (one two : Plan) (text : List ℕ) → read_at bytes ≡ Ok g
-    → (t : IsTextOf g lists one two text) → IsStrategy Two t.strategy
+    → (t : IsSettledText g lists one two text) → IsStrategy Two t.strategy
 printed_strategy bytes g lists one two text e t =
     let n = t.confirmed.numbers in
     strategy_is Two t.strategy (subst (IsTold Two) (sym t.game) (file_told bytes g e)) t.are_classes t.first_is t.second_is
     (record { value = n.value; gap1 = n.gap1; gap2 = n.gap2 })
 
 pub printed_raw : (bytes : List ℕ) (g : FileGame) (lists : ClassLists) (one two : Plan) (text : List ℕ) → read_at bytes ≡ Ok g
-    → (t : IsTextOf g lists one two text) → AreRawPlans t.strategy t.strategy
+    → (t : IsSettledText g lists one two text) → AreRawPlans t.strategy t.strategy
 printed_raw bytes g lists one two text e t =
     let h = printed_strategy bytes g lists one two text e t in strategies_raw Two Two t.strategy t.strategy h h refl
 
@@ -212,19 +215,19 @@ text_is_read version s h =
     (numbers_are version s w.numbers) refl in
     let second : ReadsSecond parts g lists s.one read =
     then_is (weights_at part.Player2 parts.player2) s.two (λ two.
-    Unless (IsPlanOf g lists 2 two) (IsPlanFault g lists 2 two) (plan 2) (ReadsNumbers parts g lists s.one two)) read (weights_are part.Player2 s.two)
+    Unless (ArePlanWeights g lists 2 two) (IsPlanFault g lists 2 two) (plan 2) (ReadsNumbers parts g lists s.one two)) read (weights_are part.Player2 s.two)
     (inl (h.second, numbers)) in
     let first : ReadsPlans parts g lists read =
     then_is (weights_at part.Player1 parts.player1) s.one (λ one.
-    Unless (IsPlanOf g lists 1 one) (IsPlanFault g lists 1 one) (plan 1) (ReadsSecond parts g lists one)) read (weights_are part.Player1 s.one)
+    Unless (ArePlanWeights g lists 1 one) (IsPlanFault g lists 1 one) (plan 1) (ReadsSecond parts g lists one)) read (weights_are part.Player1 s.one)
     (inl (h.first, second)) in
     let classed : ReadsClasses parts g lists read = inl (h.classes, first) in
     let all : ReadsParts version parts read =
-    then_is (game_at version parts.game) g (λ g. Then (classes_at parts.classes) (λ lists. ReadsClasses parts g lists)) read (game_is version s w)
-    (then_is (classes_at parts.classes) lists (λ lists. ReadsClasses parts g lists) read (classes_are lists w.classes) classed) in
+    then_is (stored_game_at version parts.game) g (λ g. Then (class_lists_at parts.classes) (λ lists. ReadsClasses parts g lists)) read (game_is version s w)
+    (then_is (class_lists_at parts.classes) lists (λ lists. ReadsClasses parts g lists) read (classes_are lists w.classes) classed) in
     let canonical : IsCanonical version bytes s read = inl (refl, refl) in
-    then_is (json_at bytes) d (λ d. Then (version_at d) (λ version. Then (parts_at d) (λ parts. After (ReadsParts version parts) (IsCanonical version bytes))))
+    then_is (json_at bytes) d (λ d. Then (stored_version_at d) (λ version. Then (parts_at d) (λ parts. After (ReadsParts version parts) (IsCanonical version bytes))))
     read (json_is version s w)
-    (then_is (version_at d) version (λ version. Then (parts_at d) (λ parts. After (ReadsParts version parts) (IsCanonical version bytes))) read
+    (then_is (stored_version_at d) version (λ version. Then (parts_at d) (λ parts. After (ReadsParts version parts) (IsCanonical version bytes))) read
     (version_is version s)
     (then_is (parts_at d) parts (λ parts. After (ReadsParts version parts) (IsCanonical version bytes)) read (parts_are version s) (read, all, canonical)))

@@ -7,11 +7,14 @@ use Rattle.gs_json.specs.Steps.{◌>>=◌}
 use Rattle.gs_bet.proofs.LimitLaws.{limit_is}
 use Rattle.gs_bet.specs.Grammar.{is_tree}
 use Rattle.gs_card.proofs.DeckLaws.{sound}
-use Rattle.gs_card.specs.{DeckFaults.{fault_of as deck_fault_of}, Decks.{DeckValue, IsDeck, deck_of}, declared.faults.DeckFault.{DeckFault}}
+use Rattle.gs_card.specs.{DeckFaults.{fault_of as deck_fault_of}, Decks.{DeckValue, IsDeck, deck_of_texts}, declared.faults.DeckFault.{DeckFault}}
 use Rattle.gs_game.specs.Refusals.{Refusal}
 use Rattle.gs_model.specs.{Betting.{Bet}, Game.{Round as Rules, Ranking}, Outcome.{IsBonus, categories}}
 use Rattle.gs_file.specs.{Faults.{bad_version, deck, game, range}, JsonLaws.{IsRoundTold, IsTold, TellsBonus}, JsonReading.{json_game_at, table_at}, Keys.{top}}
-use Rattle.gs_file.specs.Reading.{FileGame, Limit_of, Play, Round, Stated, Top, TopValues, Tree_text, bonus_at, bonus_numbers, bonus_value, copies_value, counted, deck_at, deck_made, game_at, parsed_at, ranking_at, read_at, round_at, round_built, round_within, stated_at, text_at, typed_at, unless_refused, values_at, version_at, version_of}
+use Rattle.gs_file.specs.Reading.{FileGame, Limit_of, Play, Round, Stated, Top, TopValues, Tree_text, bonus_at, bonus_numbers, bonus_value, copies_value}
+use Rattle.gs_file.specs.Reading.{counted, deck_at, deck_made, game_at, parsed_at, ranking_at, read_at, round_table_at, round_built, round_within}
+use Rattle.gs_file.specs.Reading.{stated_fields_at}
+use Rattle.gs_file.specs.Reading.{utf8_text, typed_at, unless_refused, values_at, version_at, version_of}
 use Rattle.gs_file.specs.{States.{OneByOne}, Tables.{each, only, required, tables_in, text, text_or_empty, whole_number, within}, Keys.{top_keys}}
 use Rattle.gs_file.specs.{declared.form.Form.{Form}, declared.form.Form.TheVariants.{File, Json}, declared.version.Version.{Version}}
 use Rattle.gs_file.specs.declared.version.Version.TheVariants.{One, Two}
@@ -161,11 +164,11 @@ record IsStated (form : Form) (t : Top) (s : Stated) : Type 0 where
   high : s.ante ≤ 4096
   rounds : (rs : List (Round ℤ)) × OneByOne RoundIn s.rounds rs
 
-stated_ok : (form : Form) (t : Top) (s : Stated) → stated_at form t ≡ Ok s → IsStated form t s
-unfolding stated_at
+stated_ok : (form : Form) (t : Top) (s : Stated) → stated_fields_at form t ≡ Ok s → IsStated form t s
+unfolding stated_fields_at
 stated_ok form t s e =
     let (u, ec, e1) = after (counted t.rounds) _ s e in
-    let (rs, er, e2) = after (each (round_at form) 1 t.rounds) _ s e1 in
+    let (rs, er, e2) = after (each (round_table_at form) 1 t.rounds) _ s e1 in
     let (ranking, ek, e3) = after (ranking_at t.ranking) _ s e2 in
     let (bonus, eb, e4) = after (bonus_at ranking t.bonus) _ s e3 in
     let (ante, ea, e5) = after (within (top key.Ante) 1 4096 t.ante) _ s e4 in
@@ -192,11 +195,11 @@ unfolding game_at
 game_told form version table g f e =
     let (v, ev, e1) = after (values_at form table) _ g e in
     let (t, et, e2) = after (typed_at v) _ g e1 in
-    let (s, es, e3) = after (stated_at form t) _ g e2 in
+    let (s, es, e3) = after (stated_fields_at form t) _ g e2 in
     let (cards, ec, e4) = after (deck_at t.ranks t.suits t.copies) _ g e3 in
     let (bs, eb, e5) = after (each round_built 1 s.rounds) _ g e4 in
     let (no_rule, same) = lawful_ok (record { deck = cards; ranking = s.ranking; bonus = s.bonus; ante = s.ante; rounds = bs }) _ g e5 in
-    let (no_fault, same_deck) = deck_ok (deck_of t.ranks t.suits t.copies) (deck_fault_of t.ranks t.suits t.copies) cards ec in
+    let (no_fault, same_deck) = deck_ok (deck_of_texts t.ranks t.suits t.copies) (deck_fault_of t.ranks t.suits t.copies) cards ec in
     let hs = stated_ok form t s es in
     let made = each_ok round_built RoundMade (λ n w b. round_made_ok n w b) 1 s.rounds bs eb in
     let (rs, ranged) = hs.rounds in
@@ -215,7 +218,7 @@ game_told form version table g f e =
 pub file_told : (bytes : List ℕ) (g : FileGame) → read_at bytes ≡ Ok g → IsTold Two g
 unfolding read_at
 file_told bytes g e =
-    let (words, et, e1) = after (text_at bytes) _ g e in
+    let (words, et, e1) = after (utf8_text bytes) _ g e in
     let (table, ep, e2) = after (parsed_at words) _ g e1 in
     game_told File Two table g refl e2
 

@@ -5,7 +5,7 @@ use Rattle.gs_file.specs.{Reading.{FileGame, read_at}, declared.version.Version.
 use Rattle.gs_model.specs.{Classes.{ClassLists}, Frame.{Frame, total_weight}, Payoff.{IsHandValue, hand_weight}, Plans.{Plan as RawPlan}, Verdict.{IsVerdict}}
 use Rattle.gs_reply.specs.{Refusals.{Refusal}, Replies.{Reply, Prints}, VerdictText.{verdict_text}}
 use Rattle.gs_seq.specs.declared.plan.Plan.{Plan}
-use Rattle.gs_settle.specs.Texts.{IsTextOf}
+use Rattle.gs_settle.specs.Texts.{IsSettledText}
 use Rattle.gs_strategy.specs.{Confirmed.{IsConfirmed, over}, Laws.{AreFractions, IsStrategy}, Texts.{strategy_text}}
 use Rattle.gs_strategy.specs.Values.{FractionParts, IsFractionOf, Numbers, Strategy}
 
@@ -33,4 +33,4 @@ ConfirmedAreEvaluated = (version : Version) (s : Strategy) (reply : Reply) → I
 -- for the text of a strategy that `solve` or `play` prints, `evaluate` prints the three numbers, and has no other reply
 abbrev pub PrintedAreEvaluated : Type 0
 PrintedAreEvaluated = (bytes : List ℕ) (g : FileGame) (lists : ClassLists) (one two : Plan) (text : List ℕ) (reply : Reply) → read_at bytes ≡ Ok g
-    → (t : IsTextOf g lists one two text) → Evaluates text reply → reply ≡ Prints (verdict_text t.strategy.numbers)
+    → (t : IsSettledText g lists one two text) → Evaluates text reply → reply ≡ Prints (verdict_text t.strategy.numbers)

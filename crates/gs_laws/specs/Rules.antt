@@ -1,6 +1,6 @@
 -- The eleven rules of a game, without an order and without refusals.
 use Rattle.std.specs.Prelude.{◌≡◌, ℕ, ◌+◌, ◌*◌, ◌<◌, ◌≤◌, List, [], ◌∷◌, None, true, length, sum}
-use Rattle.gs_game.specs.{Money.{has_even, most_in, one_after, two_after}, Refusals.{first_refusal, own_cards, public_cards, ranks}}
+use Rattle.gs_game.specs.{Money.{has_even, most_in, one_after, two_after}, Refusals.{first_refusal, own_card_total, public_card_total, ranks}}
 use Rattle.gs_model.specs.{Betting.{Bet, Moves, act, fold, even, none, move}, Deals.{deals}, Frame.{frame_of, total_weight, trees_of}}
 use Rattle.gs_model.specs.{Game.{Game, round_at, round_count}, Numbering.{greatest}, Signals.{signals}, Walk.{walk}}
 
@@ -33,8 +33,8 @@ pub record KeepsRules (g : Game) : Type 0 where
   -- on cards: 1 to 4 rounds; a private card in round 1; hands that the ranking ranks; and at least as many cards as are dealt
   pub rounds : (1 ≤ round_count g) × (round_count g ≤ 4)
   pub private : 0 < (round_at g 1).private
-  pub ranking : ranks g.ranking (own_cards g.rounds) (own_cards g.rounds + public_cards g.rounds) ≡ true
-  pub copies : 2 * own_cards g.rounds + public_cards g.rounds ≤ sum g.copies
+  pub ranking : ranks g.ranking (own_card_total g.rounds) (own_card_total g.rounds + public_card_total g.rounds) ≡ true
+  pub copies : 2 * own_card_total g.rounds + public_card_total g.rounds ≤ sum g.copies
   -- on betting: a way into each next round, equal money there, and bounds on what an end pays and on the number of ends
   pub evens : GoOn (trees_of g)
   pub level : EachLevel (trees_of g)

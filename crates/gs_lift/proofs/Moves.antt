@@ -4,7 +4,7 @@ use Rattle.gs_game.specs.{Seen.{OwnPoint, arrow_of, own_point, point_of}, declar
 use Rattle.gs_game.specs.{declared.positions.Point.{Point as StoredPoint}, declared.valid.ValidGame.{ValidGame}}
 use Rattle.gs_lossless.specs.declared.checking.Lossless.{Lossless}
 use Rattle.gs_model.specs.{Frame.{Frame, move_count, point, point_count}, Positions.{Arrow}}
-use Rattle.gs_seq.specs.{Abstracts.{frame_of}, Games.{frame_in}, declared.form.Abstract.{Abstract}}
+use Rattle.gs_seq.specs.{Abstracts.{abstract_frame}, Games.{frame_in}, declared.form.Abstract.{Abstract}}
 use Rattle.gs_seq.proofs.{FewMoves.{AreSmall, few_moves, moves_few}, Points.{length-points, point_reads}, Choices.{none_there}}
 use Rattle.gs_tree.specs.declared.signals.Signals.{Signals}
 use Rattle.gs_lift.proofs.Held.{game_held}
@@ -41,19 +41,19 @@ small_at (x ∷ xs) (suc m) d h l = small_at xs m d h.1 (omega arith)
 
 -- the moves of a point as the program reads them
 pub record Moves (a : Abstract) (q : ℕ) (moves : List StoredArrow) : Type 0 where
-  pub long : length moves ≡ move_count (frame_of a) q
+  pub long : length moves ≡ move_count (abstract_frame a) q
   pub few : length moves ≤ 26
   pub small : AreSmall (map (λ (m : StoredArrow). m.letter) moves)
-  pub letters : map (λ (m : StoredArrow). m.letter) moves ≡ map (λ (m : Arrow). m.letter) (point (frame_of a) q).moves
+  pub letters : map (λ (m : StoredArrow). m.letter) moves ≡ map (λ (m : Arrow). m.letter) (point (abstract_frame a) q).moves
 
 pub moves_at : (a : Abstract) (lossless : Lossless) (signals : Signals) (game : ValidGame) (ps : List StoredPoint) (p : StoredPoint) (q : ℕ)
     → lossless ≡ a.lossless.now → signals ≡ lossless.signals.now → game ≡ signals.game.now
-    → map point_of ps ≡ map own_point (frame_in game).points → p ≡ get_or ps q p → q < point_count (frame_of a) → Moves a q p.moves.items
+    → map point_of ps ≡ map own_point (frame_in game).points → p ≡ get_or ps q p → q < point_count (abstract_frame a) → Moves a q p.moves.items
 moves_at a lossless signals game ps p q form held played points is l =
     let g = a.lossless.now.signals.now.game.now in
     let e = game_held a lossless signals game form held played in
     let seen : map point_of ps ≡ map own_point (frame_in g).points = points ∙ ap (λ (v : ValidGame). map own_point (frame_in v).points) e in
     let r = point_reads g ps q p seen l is in
     let h = few_moves g q l in
-    let letters = letters_read (frame_of a) q p (moves_read g ps q p seen l is) in
+    let letters = letters_read (abstract_frame a) q p (moves_read g ps q p seen l is) in
     record { long = r.moves; few = omega (arith, r.moves, (moves_few g q l).few); small = subst AreSmall (sym letters) h.small; letters = letters }

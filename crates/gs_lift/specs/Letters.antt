@@ -3,5 +3,5 @@ use Rattle.std.specs.{Prelude.{ℕ, ◌<◌, List}, List.{All}}
 use Rattle.gs_frac.specs.declared.value.Fraction.{Fraction}
 
 -- each letter is an ASCII byte
-abbrev pub HasLetters : List (ℕ × Fraction) → Type 0
-HasLetters pairs = All (λ (p : ℕ × Fraction). p.0 < 128) pairs
+abbrev pub AreAsciiLetters : List (ℕ × Fraction) → Type 0
+AreAsciiLetters pairs = All (λ (p : ℕ × Fraction). p.0 < 128) pairs

@@ -12,44 +12,44 @@ abbrev pub signals_of : Abstract → Signals
 signals_of a = a.lossless.now.signals.now
 
 -- a text is the line of a point
-abbrev pub NamesPoint : ValidGame → List ℕ → ℕ → Type 0
-NamesPoint g line q = text_at (lines (trees_of (game_of g.game))) (at_point q) ≡ Some line
+abbrev pub IsLineOfPoint : ValidGame → List ℕ → ℕ → Type 0
+IsLineOfPoint g line q = text_at (lines (trees_of (game_of g.game))) (at_point q) ≡ Some line
 
 -- a text is the line of a point of a player
-pub record NamesOwnPoint (g : ValidGame) (player : ℕ) (line : List ℕ) (q : ℕ) : Type 0 where
+pub record IsLineOfOwnPoint (g : ValidGame) (player : ℕ) (line : List ℕ) (q : ℕ) : Type 0 where
   pub in_range : q < point_count (frame_in g)
-  pub named : NamesPoint g line q
+  pub named : IsLineOfPoint g line q
   pub own : player_at (frame_in g) q ≡ player
 
 -- a text is the text of raw signal `i` of a round
-pub record NamesSignal (s : Signals) (round : ℕ) (text : List ℕ) (i : ℕ) : Type 0 where
+pub record IsTextOfSignal (s : Signals) (round : ℕ) (text : List ℕ) (i : ℕ) : Type 0 where
   pub in_range : i < signal_count (frame_in s.game.now) round
   pub named : text ≡ signal_text (deck_of s) (signal_at (rules_of s) round i)
 
 -- a text is the text of a raw signal of some round
-abbrev pub NamesSomeSignal : Signals → List ℕ → Type 0
-NamesSomeSignal s text = (round : ℕ) × (0 < round) × (round ≤ last_round (frame_in s.game.now)) × (i : ℕ) × NamesSignal s round text i
+abbrev pub IsTextOfSomeSignal : Signals → List ℕ → Type 0
+IsTextOfSomeSignal s text = (round : ℕ) × (0 < round) × (round ≤ last_round (frame_in s.game.now)) × (i : ℕ) × IsTextOfSignal s round text i
 
 -- a line and a text name a point of a player and a raw signal of its round
-pub record IsSpot (s : Signals) (player : ℕ) (line text : List ℕ) (spot : Spot) : Type 0 where
-  pub point : NamesOwnPoint s.game.now player line spot.point
-  pub signal : NamesSignal s (round_of (frame_in s.game.now) (at_point spot.point)) text spot.signal
+pub record IsQuerySpot (s : Signals) (player : ℕ) (line text : List ℕ) (spot : Spot) : Type 0 where
+  pub point : IsLineOfOwnPoint s.game.now player line spot.point
+  pub signal : IsTextOfSignal s (round_of (frame_in s.game.now) (at_point spot.point)) text spot.signal
 
 -- the first rule that a line and a text break: no point has the line; the point is not the player's; no raw signal has the text;
 -- a raw signal has the text, but none of the point's round does
 abbrev pub IsFaultOf : Signals → ℕ → List ℕ → List ℕ → QueryFault → Type 0
-IsFaultOf s player line text Line = (q : ℕ) → NamesPoint s.game.now line q → ⊥
-IsFaultOf s player line text Player = (q : ℕ) × NamesPoint s.game.now line q × (player_at (frame_in s.game.now) q ≢ player)
-IsFaultOf s player line text Signal = (q : ℕ) × NamesOwnPoint s.game.now player line q × (NamesSomeSignal s text → ⊥)
+IsFaultOf s player line text Line = (q : ℕ) → IsLineOfPoint s.game.now line q → ⊥
+IsFaultOf s player line text Player = (q : ℕ) × IsLineOfPoint s.game.now line q × (player_at (frame_in s.game.now) q ≢ player)
+IsFaultOf s player line text Signal = (q : ℕ) × IsLineOfOwnPoint s.game.now player line q × (IsTextOfSomeSignal s text → ⊥)
 IsFaultOf s player line text Round =
-    (q : ℕ) × NamesOwnPoint s.game.now player line q × NamesSomeSignal s text
-    × ((i : ℕ) → NamesSignal s (round_of (frame_in s.game.now) (at_point q)) text i → ⊥)
+    (q : ℕ) × IsLineOfOwnPoint s.game.now player line q × IsTextOfSomeSignal s text
+    × ((i : ℕ) → IsTextOfSignal s (round_of (frame_in s.game.now) (at_point q)) text i → ⊥)
 
 -- ---- of private functions
 
 -- why a line names no point of a player
 abbrev pub IsPointFault : ValidGame → ℕ → List ℕ → QueryFault → Type 0
-IsPointFault g player line Line = (q : ℕ) → NamesPoint g line q → ⊥
-IsPointFault g player line Player = (q : ℕ) × NamesPoint g line q × (player_at (frame_in g) q ≢ player)
+IsPointFault g player line Line = (q : ℕ) → IsLineOfPoint g line q → ⊥
+IsPointFault g player line Player = (q : ℕ) × IsLineOfPoint g line q × (player_at (frame_in g) q ≢ player)
 IsPointFault g player line Signal = ⊥
 IsPointFault g player line Round = ⊥

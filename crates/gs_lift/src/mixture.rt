@@ -3,7 +3,7 @@
 ghost use Rattle.std.specs.Prelude.{◌≡◌, ◌<◌, ◌≤◌, length, vec_capacity};
 ghost use Rattle.gs_model.specs.{Frame.{player_at, point_count, round_of, signal_count}, Positions.{at_point}};
 ghost use Rattle.gs_lift.specs.Mixtures.{IsMixture};
-ghost use Rattle.gs_seq.specs.{Abstracts.{frame_of, lists_of}, Plans.{IsPlanOf, lifted}};
+ghost use Rattle.gs_seq.specs.{Abstracts.{abstract_frame, lists_of}, Plans.{IsPlanOf, lifted}};
 
 use crate::shares::{share, total_weight};
 use crate::spot::Spot;
@@ -24,17 +24,17 @@ pub struct Mixture {
 impl Model for Mixture {
     ghost use Rattle.std.specs.Prelude.{◌≤◌, ℕ, List, vec_capacity};
     ghost use Rattle.gs_frac.specs.declared.value.Fraction.{Fraction};
-    ghost use Rattle.gs_lift.specs.Letters.{HasLetters};
+    ghost use Rattle.gs_lift.specs.Letters.{AreAsciiLetters};
 
     ghost Value = { List (ℕ × Fraction) };
 
     ghost view = { λ m. m.pairs.items };
 
-    ghost invariant = { λ m. record { room : 26 ≤ vec_capacity m.pairs; letters : HasLetters m.pairs.items } };
+    ghost invariant = { λ m. record { room : 26 ≤ vec_capacity m.pairs; letters : AreAsciiLetters m.pairs.items } };
 }
 
 impl Mixture {
-    ghost use Rattle.gs_lift.specs.Letters.{HasLetters};
+    ghost use Rattle.gs_lift.specs.Letters.{AreAsciiLetters};
     ghost use Rattle.std.specs.Prelude.{◌≡◌, ◌<◌, [], ◌∷◌, ◌++◌, length, IfOk};
 
     /// Returns a mixture without moves, with room for 26.
@@ -49,7 +49,7 @@ impl Mixture {
     /// Returns the moves in order, each with its share.
     pub fn pairs(&self) -> &[(u8, Fraction)]
         ensures value { result.now ≡ self.now }
-        ensures letters { HasLetters self.now }
+        ensures letters { AreAsciiLetters self.now }
     {
         &self.pairs
     }
@@ -78,11 +78,11 @@ impl Mixture {
 /// The share is the move's weight at the signal's class over the sum of the weights of all moves there.
 /// If all these weights are 0, the first move has share 1 and the others 0.
 pub fn mix(a: &Abstract, plan: &Plan, spot: Spot, out: &mut Mixture)
-    requires plan { IsPlanOf (frame_of a.now) (lists_of a.now) plan.now.player plan.now }
-    requires point { spot.point < point_count (frame_of a.now) }
-    requires own { player_at (frame_of a.now) spot.point ≡ plan.now.player }
-    requires signal { spot.signal < signal_count (frame_of a.now) (round_of (frame_of a.now) (at_point spot.point)) }
-    ensures { IsMixture (frame_of a.now) (lifted (frame_of a.now) (lists_of a.now) plan.now) spot.point spot.signal out.new }
+    requires plan { IsPlanOf (abstract_frame a.now) (lists_of a.now) plan.now.player plan.now }
+    requires point { spot.point < point_count (abstract_frame a.now) }
+    requires own { player_at (abstract_frame a.now) spot.point ≡ plan.now.player }
+    requires signal { spot.signal < signal_count (abstract_frame a.now) (round_of (abstract_frame a.now) (at_point spot.point)) }
+    ensures { IsMixture (abstract_frame a.now) (lifted (abstract_frame a.now) (lists_of a.now) plan.now) spot.point spot.signal out.new }
 {
     let total = total_weight(a, plan, spot);
     let point = &a.lossless().signals().game().points()[spot.point as usize];

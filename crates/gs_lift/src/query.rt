@@ -1,7 +1,7 @@
 //! The spot that a line and a signal's text name.
 
 ghost use Rattle.std.specs.Prelude.{◌<◌, ◌≤◌, ◌↔◌, ℕ, IsTrue, MatchOption, MatchResult};
-ghost use Rattle.gs_lift.specs.Queries.{IsFaultOf, IsPointFault, IsSpot, NamesOwnPoint, NamesPoint, NamesSomeSignal, signals_of};
+ghost use Rattle.gs_lift.specs.Queries.{IsFaultOf, IsPointFault, IsQuerySpot, IsLineOfOwnPoint, IsLineOfPoint, IsTextOfSomeSignal, signals_of};
 
 use crate::fault::QueryFault;
 use crate::spot::Spot;
@@ -14,7 +14,7 @@ use gs_tree::Signals;
 pub fn locate(a: &Abstract, player: u8, line: &str, signal: &str) -> Result<Spot, QueryFault>
     requires some { 0 < player }
     requires two { player ≤ 2 }
-    ensures { MatchResult result (IsSpot (signals_of a.now) player line.now signal.now) (IsFaultOf (signals_of a.now) player line.now signal.now) }
+    ensures { MatchResult result (IsQuerySpot (signals_of a.now) player line.now signal.now) (IsFaultOf (signals_of a.now) player line.now signal.now) }
 {
     let signals = a.lossless().signals();
     let game = signals.game();
@@ -32,7 +32,7 @@ pub fn locate(a: &Abstract, player: u8, line: &str, signal: &str) -> Result<Spot
 
 /// Returns the point of a player that a line names. Errors: `Line` if no point has the line, `Player` if the point is the other player's.
 fn own_point(game: &ValidGame, player: u8, line: &str) -> Result<u32, QueryFault>
-    ensures { MatchResult result (NamesOwnPoint game.now player line.now) (IsPointFault game.now player line.now) }
+    ensures { MatchResult result (IsLineOfOwnPoint game.now player line.now) (IsPointFault game.now player line.now) }
 {
     let Some(point) = point_named(game, line) else {
         return Err(QueryFault::Line);
@@ -46,7 +46,7 @@ fn own_point(game: &ValidGame, player: u8, line: &str) -> Result<u32, QueryFault
 
 /// Returns the point that a line names.
 fn point_named(game: &ValidGame, line: &str) -> Option<u32>
-    ensures { MatchOption result ((q : ℕ) → NamesPoint game.now line.now q → ⊥) (NamesPoint game.now line.now) }
+    ensures { MatchOption result ((q : ℕ) → IsLineOfPoint game.now line.now q → ⊥) (IsLineOfPoint game.now line.now) }
 {
     match game.line_of(line)? {
         Target::Point(point) => Some(point),
@@ -56,7 +56,7 @@ fn point_named(game: &ValidGame, line: &str) -> Option<u32>
 
 /// Returns whether a text is the text of a raw signal of some round.
 fn is_signal(signals: &Signals, text: &str) -> bool
-    ensures { IsTrue result ↔ NamesSomeSignal signals.now text.now }
+    ensures { IsTrue result ↔ IsTextOfSomeSignal signals.now text.now }
 {
     for before in 0..signals.rounds() {
         if signals.index_of(before + 1, text).is_some() {

@@ -4,7 +4,7 @@ ghost use Rattle.std.specs.Prelude.{◌≡◌, ◌<◌, ◌^◌};
 ghost use Rattle.gs_model.specs.{Classes.{IsClass, class_of}, Frame.{move_count, player_at, point_count, round_of, signal_count}};
 ghost use Rattle.gs_model.specs.Positions.{at_point};
 ghost use Rattle.gs_lift.specs.Mixtures.{IsShareOf, total_number};
-ghost use Rattle.gs_seq.specs.{Abstracts.{frame_of, lists_of}, Plans.{IsPlanOf, lifted}};
+ghost use Rattle.gs_seq.specs.{Abstracts.{abstract_frame, lists_of}, Plans.{IsPlanOf, lifted}};
 
 use crate::spot::Spot;
 use gs_frac::Fraction;
@@ -12,10 +12,10 @@ use gs_seq::{Abstract, Plan};
 
 /// Returns the class of a raw signal of a point's round.
 fn class_at(a: &Abstract, point: u32, signal: u32) -> u32
-    requires point { point < point_count (frame_of a.now) }
-    requires signal { signal < signal_count (frame_of a.now) (round_of (frame_of a.now) (at_point point)) }
-    ensures value { result ≡ class_of (lists_of a.now) (round_of (frame_of a.now) (at_point point)) signal }
-    ensures class { IsClass (lists_of a.now) (round_of (frame_of a.now) (at_point point)) result }
+    requires point { point < point_count (abstract_frame a.now) }
+    requires signal { signal < signal_count (abstract_frame a.now) (round_of (abstract_frame a.now) (at_point point)) }
+    ensures value { result ≡ class_of (lists_of a.now) (round_of (abstract_frame a.now) (at_point point)) signal }
+    ensures class { IsClass (lists_of a.now) (round_of (abstract_frame a.now) (at_point point)) result }
 {
     let lossless = a.lossless();
     let classes = lossless.classes();
@@ -25,12 +25,12 @@ fn class_at(a: &Abstract, point: u32, signal: u32) -> u32
 
 /// Returns the weight of a move at a raw signal, in the raw plan that a plan over classes stands for: the weight at the signal's class.
 pub fn weight(a: &Abstract, plan: &Plan, point: u32, signal: u32, choice: u8) -> u64
-    requires plan { IsPlanOf (frame_of a.now) (lists_of a.now) plan.now.player plan.now }
-    requires point { point < point_count (frame_of a.now) }
-    requires own { player_at (frame_of a.now) point ≡ plan.now.player }
-    requires signal { signal < signal_count (frame_of a.now) (round_of (frame_of a.now) (at_point point)) }
-    requires choice { choice < move_count (frame_of a.now) point }
-    ensures { result ≡ (lifted (frame_of a.now) (lists_of a.now) plan.now).number point signal choice }
+    requires plan { IsPlanOf (abstract_frame a.now) (lists_of a.now) plan.now.player plan.now }
+    requires point { point < point_count (abstract_frame a.now) }
+    requires own { player_at (abstract_frame a.now) point ≡ plan.now.player }
+    requires signal { signal < signal_count (abstract_frame a.now) (round_of (abstract_frame a.now) (at_point point)) }
+    requires choice { choice < move_count (abstract_frame a.now) point }
+    ensures { result ≡ (lifted (abstract_frame a.now) (lists_of a.now) plan.now).number point signal choice }
 {
     let class = class_at(a, point, signal);
     plan.weights[a.slot(point, class, choice) as usize]
@@ -38,11 +38,11 @@ pub fn weight(a: &Abstract, plan: &Plan, point: u32, signal: u32, choice: u8) ->
 
 /// Returns the sum of the weights of all moves at a spot.
 pub(crate) fn total_weight(a: &Abstract, plan: &Plan, spot: Spot) -> u128
-    requires plan { IsPlanOf (frame_of a.now) (lists_of a.now) plan.now.player plan.now }
-    requires point { spot.point < point_count (frame_of a.now) }
-    requires own { player_at (frame_of a.now) spot.point ≡ plan.now.player }
-    requires signal { spot.signal < signal_count (frame_of a.now) (round_of (frame_of a.now) (at_point spot.point)) }
-    ensures value { result ≡ total_number (frame_of a.now) (lifted (frame_of a.now) (lists_of a.now) plan.now) spot.point spot.signal }
+    requires plan { IsPlanOf (abstract_frame a.now) (lists_of a.now) plan.now.player plan.now }
+    requires point { spot.point < point_count (abstract_frame a.now) }
+    requires own { player_at (abstract_frame a.now) spot.point ≡ plan.now.player }
+    requires signal { spot.signal < signal_count (abstract_frame a.now) (round_of (abstract_frame a.now) (at_point spot.point)) }
+    ensures value { result ≡ total_number (abstract_frame a.now) (lifted (abstract_frame a.now) (lists_of a.now) plan.now) spot.point spot.signal }
     ensures few { result < 2 ^ 127 }
 {
     let moves = a.lossless().signals().game().points()[spot.point as usize]
@@ -58,14 +58,14 @@ pub(crate) fn total_weight(a: &Abstract, plan: &Plan, spot: Spot) -> u128
 /// Returns the share of a move at a spot: its weight over `total`, the sum of the weights of all moves there.
 /// If the sum is 0, the first move has share 1 and the others 0.
 pub(crate) fn share(a: &Abstract, plan: &Plan, spot: Spot, choice: u8, total: u128) -> Fraction
-    requires plan { IsPlanOf (frame_of a.now) (lists_of a.now) plan.now.player plan.now }
-    requires point { spot.point < point_count (frame_of a.now) }
-    requires own { player_at (frame_of a.now) spot.point ≡ plan.now.player }
-    requires signal { spot.signal < signal_count (frame_of a.now) (round_of (frame_of a.now) (at_point spot.point)) }
-    requires choice { choice < move_count (frame_of a.now) spot.point }
-    requires total { total ≡ total_number (frame_of a.now) (lifted (frame_of a.now) (lists_of a.now) plan.now) spot.point spot.signal }
+    requires plan { IsPlanOf (abstract_frame a.now) (lists_of a.now) plan.now.player plan.now }
+    requires point { spot.point < point_count (abstract_frame a.now) }
+    requires own { player_at (abstract_frame a.now) spot.point ≡ plan.now.player }
+    requires signal { spot.signal < signal_count (abstract_frame a.now) (round_of (abstract_frame a.now) (at_point spot.point)) }
+    requires choice { choice < move_count (abstract_frame a.now) spot.point }
+    requires total { total ≡ total_number (abstract_frame a.now) (lifted (abstract_frame a.now) (lists_of a.now) plan.now) spot.point spot.signal }
     requires few { total < 2 ^ 127 }
-    ensures { IsShareOf (frame_of a.now) (lifted (frame_of a.now) (lists_of a.now) plan.now) spot.point spot.signal choice result }
+    ensures { IsShareOf (abstract_frame a.now) (lifted (abstract_frame a.now) (lists_of a.now) plan.now) spot.point spot.signal choice result }
 {
     if total == 0 {
         return Fraction::new(if choice == 0 { 1 } else { 0 }, 1);

@@ -8,7 +8,7 @@ use Rattle.gs_model.specs.{Classes.{ClassLists, class_of}, Deals.{Deal, deals}, 
 use Rattle.gs_model.specs.Game.{Game, IsPlayable, round_count}
 use Rattle.gs_model.proofs.Walked.{last_round_of}
 use Rattle.gs_tree.specs.Walk.{last_count}
-use Rattle.gs_lossless.specs.{Amounts.{Agree, AreSideFirsts, HasSide, amount, deal_part, key_count, keys_of}, Sums.{sum_at, weight_at}}
+use Rattle.gs_lossless.specs.{Amounts.{HaveEqualAmounts, AreSideFirsts, HasSide, amount, deal_part, key_count, keys_of}, Sums.{sum_at, weight_at}}
 use Rattle.gs_lossless.specs.{declared.parts.Part.{Part}, declared.sides.Side.{Side}, declared.sides.Side.TheVariants.{Deals, Children}}
 use Rattle.gs_lossless.proofs.{Descent.{count_last, run_start, tabled}, Weighed.{deals_amount}}
 
@@ -37,7 +37,7 @@ module _ (g : Game) (p : IsPlayable g) (lists : ClassLists) where
       ∙ ap (λ (l : List Part). sum_at l c o) (append-nil (at s) ∙ parts_seen keys (filter (λ (d : Deal). d.one == s) (deals g)))
 
   agree_alike : (s t : ℕ) → s < signal_count (frame_of g) (last_round (frame_of g)) → t < signal_count (frame_of g) (last_round (frame_of g))
-      → AreAlike g keys s t → Agree (frame_of g) lists Deals (last_round (frame_of g)) t s
+      → AreAlike g keys s t → HaveEqualAmounts (frame_of g) lists Deals (last_round (frame_of g)) t s
   agree_alike s t ls lt like c o =
       let moved : IsPermutation (map part (seen g keys s)) (map part (seen g keys t)) = IsPermutation-map part (seen g keys s) (seen g keys t) like.deals in
       amount_seen t lt c o ∙ sum_by-IsPermutation (weight_at c o) (map part (seen g keys s)) (map part (seen g keys t)) moved ∙ sym (amount_seen s ls c o)

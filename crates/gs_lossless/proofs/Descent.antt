@@ -2,7 +2,7 @@
 use Rattle.std.proofs.{Common.{◌≡◌, ℕ, zero, suc, ◌+◌, ◌-◌, ◌<◌, ◌≤◌, ◌^◌, List, length, get_or, sym, ap, ◌∙◌, subst, arith, ⊎_elim}, lemmas.Bool.{cases_lt}}
 use Rattle.std.proofs.{lemmas.List.Sums.{get_or-le-sum_by}, lemmas.List.{length-map, take_all}, lemmas.List.FromFn.{length-map-range_with_len}}
 use Rattle.std.specs.Prelude.{All, flat_map}
-use Rattle.gs_game.specs.{Games.{round_of}, Limits.{IsWithinLimits}}
+use Rattle.gs_game.specs.{Games.{round_rules}, Limits.{IsWithinLimits}}
 use Rattle.gs_game.proofs.Playable.{is_playable}
 use Rattle.gs_model.specs.{Frame.{ancestor, ancestor_up, at_round, frame_of, last_round, signal_count}, Deals.{Deal, deals}}
 use Rattle.gs_model.specs.{Game.{Game, IsPlayable, round_at, round_count}, Signals.{Signal, child_count, children, first_child, parents, signals}}
@@ -16,7 +16,7 @@ use Rattle.gs_lossless.specs.{Amounts.{HasSide, IsRunIn, key_count, keys_of}, de
 
 -- a game of signals can be played
 pub playable : (s : Signals) → IsPlayable (rules_of s)
-playable s = is_playable s.game.now.game (omega (arith, s.game.now.limits.some_round, length-map s.game.now.game.rounds.items round_of))
+playable s = is_playable s.game.now.game (omega (arith, s.game.now.limits.some_round, length-map s.game.now.game.rounds.items round_rules))
 
 pub tabled : (g : Game) → IsPlayable g → Tabled (frame_of g)
 tabled g p = is_table (frame_of g) (in_range g p)

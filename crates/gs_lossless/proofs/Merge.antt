@@ -7,7 +7,7 @@ use Rattle.std.proofs.lemmas.List.Sums.{sum_by-cons, sum_by-drop_more, sum_by-ta
 use Rattle.std.specs.{Prelude.{◌==◌, ◌&&◌}, Bool.{Decides}, Cmp.{IsTotalOrder}, List.{AllByRecursion, All}, List.Sorted.{IsSortedBy}}
 use Rattle.std.specs.{Ordering.{int_cmp, int_eq, is_lt, nat_cmp, ordering_then, ordering_reverse}, declared.cmp.Ordering.{Ordering}}
 use Rattle.std.specs.declared.cmp.Ordering.TheVariants.{Less, Equal, Greater}
-use Rattle.gs_lossless.specs.{Sums.{AreSumsOf, Rises, is_at, key_cmp, merged, put, put_last, sum_at, weight_at}, declared.parts.Part.{Part}}
+use Rattle.gs_lossless.specs.{Sums.{AreSumsOf, PartsRise, is_at, key_cmp, merged, put, put_last, sum_at, weight_at}, declared.parts.Part.{Part}}
 
 total : IsTotalOrder key_cmp
 total = then_total (on_total (λ (p : Part). p.class) nat_cmp_total) (on_total (λ (p : Part). p.outcome) int_cmp_total)
@@ -75,14 +75,14 @@ further p q [] e h = tt
 further p q (r ∷ rs) e h = (total.trans p q r e h.0, further p q rs e h.1)
 
 -- the first part of one list does not come before all of the other
-not_before : (x y : Part) (xs ys : List Part) → Rises (x ∷ xs) → Rises (y ∷ ys) → sum_at (x ∷ xs) x.class x.outcome ≡ sum_at (y ∷ ys) x.class x.outcome
+not_before : (x y : Part) (xs ys : List Part) → PartsRise (x ∷ xs) → PartsRise (y ∷ ys) → sum_at (x ∷ xs) x.class x.outcome ≡ sum_at (y ∷ ys) x.class x.outcome
     → key_cmp x y ≡ Less → ⊥
 not_before x y xs ys a b h e =
     let none = no_weight x (y ∷ ys) (e, further x y ys e b.1) in
     let own = first_weight x xs a.1 in
     omega (arith, h, own, a.0, none)
 
-heads : (x y : Part) (xs ys : List Part) → Rises (x ∷ xs) → Rises (y ∷ ys) → ((c : ℕ) (o : ℤ) → sum_at (x ∷ xs) c o ≡ sum_at (y ∷ ys) c o) → x ≡ y
+heads : (x y : Part) (xs ys : List Part) → PartsRise (x ∷ xs) → PartsRise (y ∷ ys) → ((c : ℕ) (o : ℤ) → sum_at (x ∷ xs) c o ≡ sum_at (y ∷ ys) c o) → x ≡ y
 heads x y xs ys a b h = by (key_cmp x y) refl
   where
     same : (x.class ≡ y.class) × (x.outcome ≡ y.outcome) → x ≡ y
@@ -96,7 +96,7 @@ heads x y xs ys a b h = by (key_cmp x y) refl
     by Greater e = absurd (not_before y x ys xs b a (sym (h y.class y.outcome)) (total.antisymm y x ∙ ap ordering_reverse e))
 
 -- sums that agree are one list
-pub one_list : (xs ys : List Part) → Rises xs → Rises ys → ((c : ℕ) (o : ℤ) → sum_at xs c o ≡ sum_at ys c o) → xs ≡ ys
+pub one_list : (xs ys : List Part) → PartsRise xs → PartsRise ys → ((c : ℕ) (o : ℤ) → sum_at xs c o ≡ sum_at ys c o) → xs ≡ ys
 one_list [] [] a b h = refl
 one_list [] (y ∷ ys) a b h = absurd (omega (arith, h y.class y.outcome, first_weight y ys b.1, b.0))
 one_list (x ∷ xs) [] a b h = absurd (omega (arith, h x.class x.outcome, first_weight x xs a.1, a.0))
@@ -172,7 +172,7 @@ head_below p first (q ∷ qs) h l =
     ∙ ap (λ n. is_lt (ordering_then (nat_cmp first.class p.class) (int_cmp n p.outcome))) h.1
     ∙ l
 
-rises_put : (p : Part) (qs : List Part) → 0 < p.weight → Rises qs → IsNotBelow p qs → Rises (put p qs)
+rises_put : (p : Part) (qs : List Part) → 0 < p.weight → PartsRise qs → IsNotBelow p qs → PartsRise (put p qs)
 rises_put p [] w a l = (w, tt, tt)
 rises_put p (q ∷ qs) w a l = by (is_at q p) refl
   where
@@ -181,11 +181,11 @@ rises_put p (q ∷ qs) w a l = by (is_at q p) refl
     before Equal n e = let k = tied p q e in absurd (true≢false (sym ((exact q p).1 (sym k.0, sym k.1)) ∙ n))
     before Greater n e = absurd (true≢false (ap is_lt (sym (ap ordering_reverse e)) ∙ ap is_lt (sym (total.antisymm q p)) ∙ l))
 
-    by : (b : Bool) → is_at q p ≡ b → Rises (cond b (record q { weight = q.weight + p.weight } ∷ qs) (p ∷ q ∷ qs))
+    by : (b : Bool) → is_at q p ≡ b → PartsRise (cond b (record q { weight = q.weight + p.weight } ∷ qs) (p ∷ q ∷ qs))
     by true e = (omega arith, a.1, a.2)
     by false e = let f = before (key_cmp p q) e refl in (w, (f, further p q qs f a.1), a)
 
-rises_merged : (ps : List Part) → IsSortedList ps → AllByRecursion (λ p. 0 < p.weight) ps → Rises (merged ps)
+rises_merged : (ps : List Part) → IsSortedList ps → AllByRecursion (λ p. 0 < p.weight) ps → PartsRise (merged ps)
 rises_merged [] s w = tt
 rises_merged (p ∷ []) s w = (w.0, tt, tt)
 rises_merged (p ∷ q ∷ ps) s w = rises_put p (merged (q ∷ ps)) w.0 (rises_merged (q ∷ ps) s.1 w.1)

@@ -4,7 +4,7 @@ use Rattle.std.specs.{Prelude.{All, ◌==◌}, List.{range_with_len}}
 use Rattle.gs_model.specs.{Classes.{ClassLists}, Deals.{deals}, Frame.{Frame, frame_of, last_round}, Game.{Game}, Signals.{child_count, first_child, signals}}
 use Rattle.gs_model.proofs.{SingleCards.{children_within}, Walked.{last_round_of}}
 use Rattle.gs_tree.specs.{Trees.{rules_of}, declared.signals.Signals.{Signals}}
-use Rattle.gs_lossless.specs.{Amounts.{AreAmounts, HasSide, IsRun, amount, child_part, deal_parts, keys_of}, Sums.{AreSumsOf, sum_at}}
+use Rattle.gs_lossless.specs.{Amounts.{AreAmounts, HasSide, IsRun, amount, counted_part, deal_parts, keys_of}, Sums.{AreSumsOf, sum_at}}
 use Rattle.gs_lossless.specs.{declared.parts.Part.{Part}, declared.sides.Side.{Side}, declared.sides.Side.TheVariants.{Deals, Children}}
 use Rattle.gs_lossless.proofs.{Descent.{child_run, playable}, Weighed.{children_amount, children_some, children_total, deals_amount, deals_some, deals_total}}
 
@@ -23,7 +23,7 @@ pub of_children : (s : Signals) (side : Side) (round x : ℕ) (keys : List ℕ) 
     → HasSide (frame_of (rules_of s)) side round
     → x < length (signals (rules_of s) round) → start ≡ first_child (rules_of s) round x
     → end ≡ first_child (rules_of s) round x + child_count (rules_of s) round x
-    → parts ≡ map (child_part keys) (range_with_len start (end - start)) → ArePartsOf (rules_of s) side round x keys parts
+    → parts ≡ map (counted_part keys) (range_with_len start (end - start)) → ArePartsOf (rules_of s) side round x keys parts
 of_children s Deals round x keys parts start end is h l from to e = absurd (cc)
 of_children s Children round x keys parts start end is h l from to e =
     let g = rules_of s in
@@ -31,7 +31,7 @@ of_children s Children round x keys parts start end is h l from to e =
     let n = child_count g round x in
     let run = child_run g (playable s) round x h.0 (omega (arith, h.1, last_round_of g)) l in
     let many : end - start ≡ n = omega (arith, from, to) in
-    let all = e ∙ ap (λ k. map (child_part keys) (range_with_len k (end - start))) from ∙ ap (λ k. map (child_part keys) (range_with_len first k)) many in
+    let all = e ∙ ap (λ k. map (counted_part keys) (range_with_len k (end - start))) from ∙ ap (λ k. map (counted_part keys) (range_with_len first k)) many in
     subst (ArePartsOf g Children round x keys) (sym all) (record {
       some = children_some keys first n;
       fits = omega (
@@ -40,7 +40,7 @@ of_children s Children round x keys parts start end is h l from to e =
         children_within g round x l,
         s.game.now.limits.signals_in (suc round) (omega (arith, h.1, last_round_of g)),
       );
-      amounts = λ lists e c o. ap (λ (ks : List ℕ). sum_at (map (child_part ks) (range_with_len first n)) c o) e
+      amounts = λ lists e c o. ap (λ (ks : List ℕ). sum_at (map (counted_part ks) (range_with_len first n)) c o) e
           ∙ children_amount g lists round x first n run c o;
     })
 

@@ -7,7 +7,7 @@ use Rattle.gs_filter.proofs.{ClassLaws.{single_are_classes}, TallyLaws.{first_me
 use Rattle.gs_model.specs.{Classes.{ClassLists, class_count, class_of, class_size, first_member, list_of}, Frame.{Frame, frame_of, last_round, signal_count}}
 use Rattle.gs_model.specs.{Game.{Game, round_count}, Lossless.{Alike, IsFirstUnlike, IsLossless}, Numbering.{IsNumbered}, Signals.{signals}}
 use Rattle.gs_model.proofs.{Ranges.{signal_count_is}, Walked.{last_round_of}}
-use Rattle.gs_lossless.specs.{Amounts.{Agree, AgreesWithFirst, AreAmounts, AreSideFirsts, HasSide}, Scans.{AgreeBelow, IsFirstApart, StoredBelow}}
+use Rattle.gs_lossless.specs.{Amounts.{HaveEqualAmounts, AgreesWithFirst, AreAmounts, AreSideFirsts, HasSide}, Scans.{AgreeBelow, IsFirstApart, StoredBelow}}
 use Rattle.gs_lossless.specs.{Stops.{AreAlikeBelow, IsChildrenApart, MatchUnlike}, declared.parts.Part.{Part}, declared.sides.Side.{Side}}
 use Rattle.gs_lossless.specs.declared.sides.Side.TheVariants.{Deals, Children}
 use Rattle.gs_lossless.proofs.{Descent.{list_long}, Settled.{agree_children, agree_deals, alike_from, first_le, not_lossless, over, singles}}
@@ -87,13 +87,13 @@ module _ (f : Frame) (lists : ClassLists) (side : Side) (round signal : ℕ) (fi
       absurd (omega (arith, le, own, e, under))
 
   pub stood_agrees : AgreeBelow f lists side round signal → AgreesWithFirst f lists side round signal
-  stood_agrees below = subst (λ (k : ℕ). Agree f lists side round (first_member lists round k) signal) (h.class signal l)
+  stood_agrees below = subst (λ (k : ℕ). HaveEqualAmounts f lists side round (first_member lists round k) signal) (h.class signal l)
       (λ c o. below (get_or firsts signal 0) under c o ∙ h.agree signal l c o)
 
 -- the first member agrees with itself
 pub agree_self : (f : Frame) (lists : ClassLists) (side : Side) (round signal : ℕ) → first_member lists round (class_of lists round signal) ≡ signal
     → AgreesWithFirst f lists side round signal
-agree_self f lists side round signal e = subst (λ x. Agree f lists side round x signal) (sym e) (λ c o. refl)
+agree_self f lists side round signal e = subst (λ x. HaveEqualAmounts f lists side round x signal) (sym e) (λ c o. refl)
 
 -- ---- rounds
 

@@ -10,7 +10,8 @@ use Rattle.gs_model.specs.{Frame.{Frame, last_round, signal_count}, FrameFacts.{
 use Rattle.gs_model.specs.Lossless.{Alike, IsFirstUnlike, IsLossless, children_in, weight_against, weight_with}
 use Rattle.gs_model.proofs.{Alike.{fair_everywhere, fair_from_outcomes, keeps_from}, Gather.{firsts_from}, Tables.{is_table}}
 use Rattle.gs_model.proofs.Unlike.{single_signals_are_lossless, unlike_is_not_lossless}
-use Rattle.gs_lossless.specs.{Amounts.{Agree, AgreesWithFirst, AreAmounts, amount}, Sums.{sum_at}, declared.parts.Part.{Part}, declared.sides.Side.{Side}}
+use Rattle.gs_lossless.specs.{Amounts.{HaveEqualAmounts, AgreesWithFirst, AreAmounts, amount}, Sums.{sum_at}, declared.parts.Part.{Part}}
+use Rattle.gs_lossless.specs.declared.sides.Side.{Side}
 use Rattle.gs_lossless.specs.declared.sides.Side.TheVariants.{Deals, Children}
 use Rattle.gs_lossless.proofs.Merge.{one_list}
 
@@ -61,7 +62,7 @@ first_le lists round s = first_before (list_of lists round) s
 -- ---- agreement and likeness
 
 module _ (f : Frame) (lists : ClassLists) (round s t : ℕ) where
-  pub alike_from : 0 < round → Agree f lists Deals round s t → (round < last_round f → Agree f lists Children round s t) → Alike f lists round s t
+  pub alike_from : 0 < round → HaveEqualAmounts f lists Deals round s t → (round < last_round f → HaveEqualAmounts f lists Children round s t) → Alike f lists round s t
   alike_from some h k = by (round == last_round f) refl
     where
       by : (b : Bool) → (round == last_round f) ≡ b → Alike f lists round s t
@@ -83,7 +84,7 @@ module _ (f : Frame) (lists : ClassLists) (round s t : ℕ) where
         children = λ l c. k l c (pos 0);
       }
 
-  pub agree_deals : Alike f lists round s t → Agree f lists Deals round s t
+  pub agree_deals : Alike f lists round s t → HaveEqualAmounts f lists Deals round s t
   agree_deals a = λ c o. by c o (round == last_round f) refl
     where
       by : (c : ℕ) (o : ℤ) (b : Bool) → (round == last_round f) ≡ b → cond b (weight_with f lists s c o)
@@ -92,7 +93,7 @@ module _ (f : Frame) (lists : ClassLists) (round s t : ℕ) where
       by c o true e = a.outcomes ((Decides-eqb round (last_round f)).0 e) c o
       by c o false e = ap (λ n. cond (int_eq (pos 0) o) n 0) (a.weights c)
 
-  pub agree_children : round < last_round f → Alike f lists round s t → Agree f lists Children round s t
+  pub agree_children : round < last_round f → Alike f lists round s t → HaveEqualAmounts f lists Children round s t
   agree_children l a = λ c o. ap (λ n. cond (int_eq (pos 0) o) n 0) (a.children l c)
 
 -- ---- lossless classes
@@ -172,9 +173,9 @@ singles f k = single_signals_are_lossless f (single_classes f.parents) (λ round
 -- ---- sums that agree
 
 pub agree_if_same : (f : Frame) (lists : ClassLists) (side : Side) (round s t : ℕ) (xs ys : List Part) → AreAmounts f lists side round s xs
-    → AreAmounts f lists side round t ys → xs ≡ ys → Agree f lists side round s t
+    → AreAmounts f lists side round t ys → xs ≡ ys → HaveEqualAmounts f lists side round s t
 agree_if_same f lists side round s t xs ys a b e c o = sym (a.sum c o) ∙ ap (λ (l : List Part). sum_at l c o) e ∙ b.sum c o
 
 pub same_if_agree : (f : Frame) (lists : ClassLists) (side : Side) (round s t : ℕ) (xs ys : List Part) → AreAmounts f lists side round s xs
-    → AreAmounts f lists side round t ys → Agree f lists side round s t → xs ≡ ys
+    → AreAmounts f lists side round t ys → HaveEqualAmounts f lists side round s t → xs ≡ ys
 same_if_agree f lists side round s t xs ys a b h = one_list xs ys a.rises b.rises (λ c o. a.sum c o ∙ h c o ∙ sym (b.sum c o))

@@ -9,7 +9,7 @@ use Rattle.gs_model.specs.{Classes.{ClassLists, class_of}, Deals.{Deal, deals}, 
 use Rattle.gs_model.specs.{Game.{Game, IsPlayable}, Lossless.{weight_against, weight_with}}
 use Rattle.gs_model.proofs.{Ranges.{deals_weigh, every-flat_map, in_range}, Sparse.{range_append}}
 use Rattle.gs_model.proofs.Basics.{false_from_not, every-map, every-range, cond_le, sum_by-map, sum-cond, every-any}
-use Rattle.gs_lossless.specs.{Amounts.{IsRun, IsRunIn, amount, child_part, deal_part, deal_parts, keys_of}, Sums.{sum_at, weight_at}}
+use Rattle.gs_lossless.specs.{Amounts.{IsRun, IsRunIn, amount, counted_part, deal_part, deal_parts, keys_of}, Sums.{sum_at, weight_at}}
 use Rattle.gs_lossless.specs.{declared.parts.Part.{Part}, declared.sides.Side.TheVariants.{Deals, Children}}
 
 -- ---- sums
@@ -183,7 +183,7 @@ met : (a b : Bool) (v : ℕ) → b ≡ true → cond a (cond b v 0) 0 ≡ cond a
 met a b v e = ap (λ t. cond a (cond t v 0) 0) e
 
 pub children_amount : (g : Game) (lists : ClassLists) (round s first n : ℕ) → IsRunIn (frame_of g) (round + 1) round s first (first + n) → (c : ℕ) (o : ℤ)
-    → sum_at (map (child_part (keys_of (frame_of g) lists Children round)) (range_with_len first n)) c o ≡ amount (frame_of g) lists Children round s c o
+    → sum_at (map (counted_part (keys_of (frame_of g) lists Children round)) (range_with_len first n)) c o ≡ amount (frame_of g) lists Children round s c o
 children_amount g lists round s first n run c o =
     let f = frame_of g in
     let keys = keys_of f lists Children round in
@@ -200,19 +200,19 @@ children_amount g lists round s first n run c o =
       (λ a. unmet (class_of lists (round + 1) x == c) (own x) 1
           (false_from_not (own x) (λ t. let i = run.inside x l ((exact x).0 t) in omega (arith, i.1, a)))),
     )) in
-    sum_by-map (weight_at c o) (child_part keys) (range_with_len first n)
+    sum_by-map (weight_at c o) (counted_part keys) (range_with_len first n)
     ∙ sum-cond (int_eq (pos 0) o) plain (range_with_len first n)
     ∙ ap (λ m. cond (int_eq (pos 0) o) m 0) (sym all)
 
-pub children_some : (keys : List ℕ) (first n : ℕ) → All (λ (q : Part). 0 < q.weight) (map (child_part keys) (range_with_len first n))
+pub children_some : (keys : List ℕ) (first n : ℕ) → All (λ (q : Part). 0 < q.weight) (map (counted_part keys) (range_with_len first n))
 children_some keys first n =
-    All-from_recursion (λ (q : Part). 0 < q.weight) (map (child_part keys) (range_with_len first n))
-    (every-map (λ (q : Part). 0 < q.weight) (child_part keys) (range_with_len first n) (every-any (λ _. 0 < 1) (λ _. omega arith) (range_with_len first n)))
+    All-from_recursion (λ (q : Part). 0 < q.weight) (map (counted_part keys) (range_with_len first n))
+    (every-map (λ (q : Part). 0 < q.weight) (counted_part keys) (range_with_len first n) (every-any (λ _. 0 < 1) (λ _. omega arith) (range_with_len first n)))
 
-pub children_total : (keys : List ℕ) (first n : ℕ) → sum_by (λ (q : Part). q.weight) (map (child_part keys) (range_with_len first n)) ≤ n
+pub children_total : (keys : List ℕ) (first n : ℕ) → sum_by (λ (q : Part). q.weight) (map (counted_part keys) (range_with_len first n)) ≤ n
 children_total keys first n =
-    let l = sum_by-le (λ (q : Part). q.weight) 1 (map (child_part keys) (range_with_len first n))
-    (All-from_recursion (λ (q : Part). q.weight ≤ 1) (map (child_part keys) (range_with_len first n))
-    (every-map (λ (q : Part). q.weight ≤ 1) (child_part keys) (range_with_len first n) (every-any (λ _. 1 ≤ 1) (λ _. omega arith) (range_with_len first n))))
+    let l = sum_by-le (λ (q : Part). q.weight) 1 (map (counted_part keys) (range_with_len first n))
+    (All-from_recursion (λ (q : Part). q.weight ≤ 1) (map (counted_part keys) (range_with_len first n))
+    (every-map (λ (q : Part). q.weight ≤ 1) (counted_part keys) (range_with_len first n) (every-any (λ _. 1 ≤ 1) (λ _. omega arith) (range_with_len first n))))
     in
-    omega (arith, l, length-map-range_with_len (child_part keys) first n)
+    omega (arith, l, length-map-range_with_len (counted_part keys) first n)

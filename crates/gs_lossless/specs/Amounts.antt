@@ -4,7 +4,8 @@ use Rattle.std.specs.{List.{range_with_len}, Ordering.{int_eq}}
 use Rattle.gs_model.specs.{Classes.{ClassLists, class_of, first_member, list_of}, Deals.{Deal}}
 use Rattle.gs_model.specs.{Frame.{Frame, ancestor, last_round, signal_count, signals_in, at_round}, Game.{Game, round_count}}
 use Rattle.gs_model.specs.{Lossless.{children_in, weight_against, weight_with}, Signals.{signals}}
-use Rattle.gs_lossless.specs.{declared.parts.Part.{Part}, declared.sides.Side.{Side}, declared.sides.Side.TheVariants.{Deals, Children}, Sums.{Rises, sum_at}}
+use Rattle.gs_lossless.specs.{declared.parts.Part.{Part}, declared.sides.Side.{Side}, declared.sides.Side.TheVariants.{Deals, Children}}
+use Rattle.gs_lossless.specs.Sums.{PartsRise, sum_at}
 
 -- what counts for a signal at a class and an outcome: the weight of its deals, or the number of its children.
 -- Only the deals of the last round are told apart by outcome; every other amount stands at outcome 0
@@ -14,23 +15,23 @@ amount f lists Deals round s c o =
 amount f lists Children round s c o = if int_eq (pos 0) o then children_in f lists round s c else 0
 
 -- two signals have equal amounts on one side, for every class and outcome
-abbrev pub Agree : Frame → ClassLists → Side → ℕ → ℕ → ℕ → Type 0
-Agree f lists side round s t = (c : ℕ) (o : ℤ) → amount f lists side round s c o ≡ amount f lists side round t c o
+abbrev pub HaveEqualAmounts : Frame → ClassLists → Side → ℕ → ℕ → ℕ → Type 0
+HaveEqualAmounts f lists side round s t = (c : ℕ) (o : ℤ) → amount f lists side round s c o ≡ amount f lists side round t c o
 
 -- a signal agrees with the first member of its class
 abbrev pub AgreesWithFirst : Frame → ClassLists → Side → ℕ → ℕ → Type 0
-AgreesWithFirst f lists side round s = Agree f lists side round (first_member lists round (class_of lists round s)) s
+AgreesWithFirst f lists side round s = HaveEqualAmounts f lists side round (first_member lists round (class_of lists round s)) s
 
 -- `firsts` gives each signal of a round a stand-in on one side: of its class, at the same or an earlier place, and with equal amounts
 pub record AreSideFirsts (f : Frame) (lists : ClassLists) (side : Side) (round : ℕ) (firsts : List ℕ) : Type 0 where
   pub long : length firsts ≡ signal_count f round
   pub before : (s : ℕ) → s < length firsts → get_or firsts s 0 ≤ s
   pub class : (s : ℕ) → s < length firsts → class_of lists round (get_or firsts s 0) ≡ class_of lists round s
-  pub agree : (s : ℕ) → s < length firsts → Agree f lists side round (get_or firsts s 0) s
+  pub agree : (s : ℕ) → s < length firsts → HaveEqualAmounts f lists side round (get_or firsts s 0) s
 
 -- the amounts of a signal on one side, as sums in ascending order of class and outcome
 pub record AreAmounts (f : Frame) (lists : ClassLists) (side : Side) (round s : ℕ) (sums : List Part) : Type 0 where
-  pub rises : Rises sums
+  pub rises : PartsRise sums
   pub sum : (c : ℕ) (o : ℤ) → sum_at sums c o ≡ amount f lists side round s c o
 
 -- the round has this side: every round has deals, and every round before the last has children
@@ -64,8 +65,8 @@ abbrev pub deal_part : List ℕ → Bool → Deal → Part
 deal_part keys by_outcome d = record { class = get_or keys d.two 0; outcome = if by_outcome then d.outcome else pos 0; weight = d.weight }
 
 -- a signal of the next round as a part: it counts once, at its class and outcome 0
-abbrev pub child_part : List ℕ → ℕ → Part
-child_part keys x = record { class = get_or keys x 0; outcome = pos 0; weight = 1 }
+abbrev pub counted_part : List ℕ → ℕ → Part
+counted_part keys x = record { class = get_or keys x 0; outcome = pos 0; weight = 1 }
 
 -- the parts of the deals of a run of last-round signals
 abbrev pub deal_parts : List Deal → List ℕ → Bool → ℕ → ℕ → List Part

@@ -20,13 +20,13 @@ abbrev pub key_cmp : Part → Part → Ordering
 key_cmp p q = ordering_then (nat_cmp p.class q.class) (int_cmp p.outcome q.outcome)
 
 -- every weight is above 0, and the parts are in ascending order, no two of them with the same class and outcome
-abbrev pub Rises : List Part → Type 0
-Rises [] = Unit {0}
-Rises (p ∷ ps) = (0 < p.weight) × AllByRecursion (λ q. key_cmp p q ≡ Less) ps × Rises ps
+abbrev pub PartsRise : List Part → Type 0
+PartsRise [] = Unit {0}
+PartsRise (p ∷ ps) = (0 < p.weight) × AllByRecursion (λ q. key_cmp p q ≡ Less) ps × PartsRise ps
 
 -- `sums` has the same totals as `parts`, in ascending order of class and outcome
 pub record AreSumsOf (parts sums : List Part) : Type 0 where
-  pub rises : Rises sums
+  pub rises : PartsRise sums
   pub sum : (c : ℕ) (o : ℤ) → sum_at sums c o ≡ sum_at parts c o
 
 -- puts a part before others, or adds its weight to the first of them if both have the same class and outcome

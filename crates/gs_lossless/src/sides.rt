@@ -4,7 +4,7 @@ ghost use Rattle.std.specs.{Prelude.{◌≡◌, ◌-◌, ◌++◌, ◌<◌, ◌�
 ghost use Rattle.gs_model.specs.{Classes.{ClassLists}, Deals.{Deal as Dealt, deals as all_deals}, Frame.{frame_of}};
 ghost use Rattle.gs_model.specs.Signals.{signals as signals_in};
 ghost use Rattle.gs_tree.specs.{Trees.{rules_of}, Walk.{last_count}};
-ghost use Rattle.gs_lossless.specs.Amounts.{AreAmounts, HasSide, child_part, deal_part, deal_parts as parts_between, key_count, keys_of};
+ghost use Rattle.gs_lossless.specs.Amounts.{AreAmounts, HasSide, counted_part, deal_part, deal_parts as parts_between, key_count, keys_of};
 
 use crate::parts::{Part, sums_of};
 use crate::runs::{Run, descendants};
@@ -77,7 +77,7 @@ fn run_parts(
 fn child_parts(alloc: Global, keys: &[u32], run: Run) -> Result<Vec<Part>, AllocError>
     requires ordered { run.first ≤ run.end }
     requires within { run.end ≤ length keys.now }
-    ensures { IfOk result (λ v. v.items ≡ map (child_part keys.now) (range_with_len run.first (run.end - run.first))) }
+    ensures { IfOk result (λ v. v.items ≡ map (counted_part keys.now) (range_with_len run.first (run.end - run.first))) }
 {
     let mut parts = Vec::with_capacity(alloc, (run.end - run.first) as usize)?;
     for child in run.first..run.end {

@@ -1,7 +1,7 @@
 //! Well-known games, and what the file of each states.
 
 ghost use Rattle.std.specs.Prelude.{◌≡◌, map};
-ghost use Rattle.gs_made.specs.Made.{ante_of, ranking_of, round_view, rounds_of};
+ghost use Rattle.gs_made.specs.Made.{ante_of, ranking_word, three_numbers, rounds_of};
 
 /// A well-known game.
 #[derive(Clone, Copy, Debug, PartialEq, Eq, Hash)]
@@ -62,7 +62,7 @@ static RHODE: [Round; 3] = [
 impl Kind {
     /// Returns the word for the ranking of hands.
     pub(crate) fn ranking(self) -> &'static str
-        ensures { result.now ≡ ranking_of self }
+        ensures { result.now ≡ ranking_word self }
     {
         match self {
             Kind::Kuhn => "high",
@@ -83,7 +83,7 @@ impl Kind {
 
     /// Returns the rounds in order.
     pub(crate) fn rounds(self) -> &'static [Round]
-        ensures { map round_view result.now ≡ rounds_of self }
+        ensures { map three_numbers result.now ≡ rounds_of self }
     {
         match self {
             Kind::Kuhn => &KUHN,

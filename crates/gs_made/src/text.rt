@@ -1,7 +1,7 @@
 //! The text of a made game.
 
 ghost use Rattle.std.specs.Prelude.{◌≡◌, ◌≤◌, ◌++◌, IfOk, OnOk, string_bytes, codes, take};
-ghost use Rattle.gs_made.specs.Made.{head_text, last, made_game as game_text, round_text, round_view};
+ghost use Rattle.gs_made.specs.Made.{head_text, last, made_game as game_text, round_block, three_numbers};
 
 use crate::kind::{Kind, Round};
 use std::alloc::{AllocError, Global};
@@ -46,7 +46,7 @@ fn head(
 // Adds the lines of a round to the text.
 #[tactic(auto, unfolding(crate::specs::Made::round_text))]
 fn push_round(text: &mut String, round: Round, cap: u8) -> Result<(), AllocError>
-    ensures { OnOk result (string_bytes text.new ≡ string_bytes text.old ++ round_text cap (round_view round)) }
+    ensures { OnOk result (string_bytes text.new ≡ string_bytes text.old ++ round_block cap (three_numbers round)) }
 {
     let private = round.private;
     let public = round.public;

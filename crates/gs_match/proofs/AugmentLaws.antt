@@ -1,7 +1,7 @@
 -- Changing a matching along a path.
 use Rattle.std.proofs.Common.{◌≡◌, ◌≢◌, ◌+◌, ◌<◌, ◌≤◌, ℕ, Bool, Option, Some, None, List, length, set, sym, ◌∙◌, ap, subst, arith, ⊎_elim}
 use Rattle.std.proofs.{lemmas.Bool.{cases_eq}, lemmas.List.{get_or-set_same, get_or-set_other, length-set}}
-use Rattle.gs_match.specs.{declared.search.Visit.{Visit}, Adjacency.{Near}, Search.{holder, IsMatchingBut, IsMatching, visit, IsTree, IsPath}}
+use Rattle.gs_match.specs.{declared.search.Visit.{Visit}, Adjacency.{Near}, Search.{holder, IsMatchingBut, IsMatching, visit, IsTree, IsAugmentingPath}}
 use Rattle.gs_match.proofs.SearchLaws.{held_in, held_not_last, same_some, none_some}
 
 -- the way back from a visit whose left node is to be given `right`: the visits before it hold what they held
@@ -14,7 +14,7 @@ pub record IsShift (adjacent : List (List ℕ)) (holders : List (Option ℕ)) (r
   pub apart : (j : ℕ) → 0 < j → j ≤ place → (visit visits j).right ≢ right
 
 pub shift_start : (adjacent : List (List ℕ)) (holders : List (Option ℕ)) (root : ℕ) (visits : List Visit) (place right : ℕ) → IsMatching adjacent holders root
-    → IsPath adjacent holders visits place right
+    → IsAugmentingPath adjacent holders visits place right
     → IsShift adjacent holders root visits place right
 shift_start adjacent holders root visits place right m p =
     let w = p.within in record {

@@ -1,7 +1,8 @@
 -- A turn over the neighbours of a visit's left node.
 use Rattle.std.proofs.Common.{◌≡◌, ◌+◌, ◌<◌, ◌++◌, ℕ, Bool, true, false, Option, Some, List, [], ◌∷◌, length, get_or, set, sym, ◌∙◌, ap, subst, arith, Vec, Global, below_more}
 use Rattle.std.proofs.lemmas.List.{get_or-map, get_or_default}
-use Rattle.gs_match.specs.{declared.search.Visit.{Visit}, Adjacency.{row_of, AreRowsIn, Near}, Search.{holder, IsMatching, visit, is_reached, IsTree, Extends}}
+use Rattle.gs_match.specs.{declared.search.Visit.{Visit}, Adjacency.{row_of, AreNeighboursBelow, Near}}
+use Rattle.gs_match.specs.Search.{holder, IsMatching, visit, is_reached, IsTree, Extends}
 use Rattle.gs_model.specs.Rows.{rows}
 use Rattle.gs_match.proofs.SearchLaws.{tree_more, extends_more, marked_more, mark_kept, extends_trans}
 
@@ -11,7 +12,7 @@ row_read vs i v l is = ap (λ (x : Vec ℕ Global). x.items) is ∙ sym (get_or-
 
 module _ (adjacent : List (Vec ℕ Global)) (holders : List (Option ℕ)) (visits0 : List Visit) (reached0 : List Bool) (place : ℕ) (w : Visit) (v : Vec ℕ Global)
     (row : List ℕ)
-    (place_in : place < length visits0) (rows_in : AreRowsIn (rows adjacent) (length holders)) (left_in : (visit visits0 place).left < length adjacent)
+    (place_in : place < length visits0) (rows_in : AreNeighboursBelow (rows adjacent) (length holders)) (left_in : (visit visits0 place).left < length adjacent)
     (m : IsMatching (rows adjacent) holders (visit visits0 0).left)
     (w_is : w ≡ get_or visits0 place w) (v_is : v ≡ get_or adjacent w.left v) (row_is : row ≡ v.items) where
   same_visit : w ≡ visit visits0 place

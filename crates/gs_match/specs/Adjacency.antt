@@ -23,5 +23,5 @@ pub record Near (adjacent : List (List ℕ)) (a b : ℕ) : Type 0 where
   pub here : get_or (row_of adjacent a) at 0 ≡ b
 
 -- every neighbour is a right node below `width`
-abbrev pub AreRowsIn : List (List ℕ) → ℕ → Type 0
-AreRowsIn adjacent width = (a k : ℕ) → k < length (row_of adjacent a) → get_or (row_of adjacent a) k 0 < width
+abbrev pub AreNeighboursBelow : List (List ℕ) → ℕ → Type 0
+AreNeighboursBelow adjacent width = (a k : ℕ) → k < length (row_of adjacent a) → get_or (row_of adjacent a) k 0 < width

@@ -62,7 +62,7 @@ IsRowEnd adjacent holders visits reached place None = (b : ℕ) → Near adjacen
 IsRowEnd adjacent holders visits reached place (Some b) = (holder holders b ≡ None) × (b < length holders) × Near adjacent (visit visits place).left b
 
 -- an augmenting path: visits that lead to the free right node `right`, a neighbour of the left node of the visit at `place`
-pub record IsPath (adjacent : List (List ℕ)) (holders : List (Option ℕ)) (visits : List Visit) (place right : ℕ) : Type 0 where
+pub record IsAugmentingPath (adjacent : List (List ℕ)) (holders : List (Option ℕ)) (visits : List Visit) (place right : ℕ) : Type 0 where
   pub reached : List Bool
   pub tree : IsTree adjacent holders visits reached
   pub within : place < length visits
@@ -78,7 +78,7 @@ pub record IsClosed (adjacent : List (List ℕ)) (holders : List (Option ℕ)) (
 
 -- what a search from the left node `root` found: a path to a free right node, or that all neighbours of all visited left nodes are reached
 abbrev pub IsFound : List (List ℕ) → List (Option ℕ) → ℕ → Found → Type 0
-IsFound adjacent holders root (Free visits place right) = ((visit visits.items 0).left ≡ root) × IsPath adjacent holders visits.items place right
+IsFound adjacent holders root (Free visits place right) = ((visit visits.items 0).left ≡ root) × IsAugmentingPath adjacent holders visits.items place right
 IsFound adjacent holders root (Closed visits) = ((visit visits.items 0).left ≡ root) × IsClosed adjacent holders visits.items
 
 -- a search from the left node `root` that reached all neighbours of all visited left nodes

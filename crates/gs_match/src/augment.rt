@@ -2,7 +2,7 @@
 
 ghost use Rattle.std.specs.Prelude.{◌+◌, ◌<◌, MatchOption, IfOk, length};
 ghost use Rattle.gs_model.specs.Rows.{rows};
-ghost use Rattle.gs_match.specs.{Adjacency.{AreRowsIn}, Search.{IsMatching, HasClosed}};
+ghost use Rattle.gs_match.specs.{Adjacency.{AreNeighboursBelow}, Search.{IsMatching, HasClosed}};
 
 use crate::search::{Found, Visit, search};
 use std::alloc::{AllocError, Global};
@@ -15,7 +15,7 @@ pub(crate) fn augment(
     holders: &mut [Option<u32>],
     root: u32,
 ) -> Result<Option<Vec<Visit>>, AllocError>
-    requires rows { AreRowsIn (rows adjacent.now) (length holders.old) }
+    requires rows { AreNeighboursBelow (rows adjacent.now) (length holders.old) }
     requires root { root < length adjacent.now }
     requires matching { IsMatching (rows adjacent.now) holders.old root }
     ensures { IfOk result (λ stuck. MatchOption stuck

@@ -2,7 +2,7 @@
 
 ghost use Rattle.std.specs.Prelude.{◌<◌, IfOk, length};
 ghost use Rattle.gs_model.specs.Rows.{rows};
-ghost use Rattle.gs_match.specs.{Adjacency.{AreRowsIn}, Search.{visit, IsMatching, IsTree, Extends, IsRowEnd, IsFound}};
+ghost use Rattle.gs_match.specs.{Adjacency.{AreNeighboursBelow}, Search.{visit, IsMatching, IsTree, Extends, IsRowEnd, IsFound}};
 
 use std::alloc::{AllocError, Global};
 
@@ -40,7 +40,7 @@ fn visit_row(
     place: usize,
 ) -> Result<Option<u32>, AllocError>
     requires place { place < length visits.old.items }
-    requires rows { AreRowsIn (rows adjacent.now) (length holders.now) }
+    requires rows { AreNeighboursBelow (rows adjacent.now) (length holders.now) }
     requires left { (visit visits.old.items place).left < length adjacent.now }
     requires matching { IsMatching (rows adjacent.now) holders.now (visit visits.old.items 0).left }
     requires tree { IsTree (rows adjacent.now) holders.now visits.old.items reached.old }
@@ -76,7 +76,7 @@ pub(crate) fn search(
     holders: &[Option<u32>],
     root: u32,
 ) -> Result<Found, AllocError>
-    requires rows { AreRowsIn (rows adjacent.now) (length holders.now) }
+    requires rows { AreNeighboursBelow (rows adjacent.now) (length holders.now) }
     requires root { root < length adjacent.now }
     requires matching { IsMatching (rows adjacent.now) holders.now root }
     ensures { IfOk result (IsFound (rows adjacent.now) holders.now root) }

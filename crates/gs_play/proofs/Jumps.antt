@@ -4,32 +4,32 @@ use Rattle.std.specs.Prelude.{◌==◌, if◌then◌else◌}
 use Rattle.gs_model.specs.{BestAnswers.{Values}, Classes.{ClassLists, IsClass, IsClasses, first_member}}
 use Rattle.gs_model.specs.{Frame.{Frame, last_step, move_count, other_player, player_at, point_count, round_of}, FrameFacts.{InRange, IsWalked}}
 use Rattle.gs_model.specs.{Lossless.{IsLossless}, Plans.{Plan, lift, number_before}, Play.{IsFictitiousPlay, IsPlanSum}, Positions.{at_point}}
-use Rattle.gs_totals.specs.{ClassTotals.{AreBestTotals, IsFollowed}, Jumps.{AreBeforeChange, tables_after}, PlanSums.{AreAlike, plus_times}}
+use Rattle.gs_totals.specs.{ClassTotals.{AreBestTotals, IsFollowed}, Jumps.{AreBeforeChange, tables_after}, PlanSums.{ArePlansAlike, plus_times}}
 use Rattle.gs_totals.proofs.{JumpLaws.{best_alike, choices_stay}, TotalAnswers.{chosen_is_best}}
 use Rattle.gs_play.specs.Staying.{AnswerStays}
 
-alike_itself : (f : Frame) (lists : ClassLists) (player : ℕ) (x : Plan) → AreAlike f lists player x x
+alike_itself : (f : Frame) (lists : ClassLists) (player : ℕ) (x : Plan) → ArePlansAlike f lists player x x
 alike_itself f lists player x = record { total = refl; numbers = λ q c m l own h lm. refl }
 
-one_more : (f : Frame) (lists : ClassLists) (player : ℕ) (x b z : Plan) (j : ℕ) → AreAlike f lists player z (plus_times x (suc j) b)
+one_more : (f : Frame) (lists : ClassLists) (player : ℕ) (x b z : Plan) (j : ℕ) → ArePlansAlike f lists player z (plus_times x (suc j) b)
     → IsPlanSum f lists player (plus_times x j b) b z
 one_more f lists player x b z j a = record {
   total = omega (arith, a.total);
   numbers = λ q c m l own h lm. omega (arith, a.numbers q c m l own h lm);
 }
 
-first_more : (f : Frame) (lists : ClassLists) (player : ℕ) (x b z : Plan) → AreAlike f lists player z (plus_times x 1 b) → IsPlanSum f lists player x b z
+first_more : (f : Frame) (lists : ClassLists) (player : ℕ) (x b z : Plan) → ArePlansAlike f lists player z (plus_times x 1 b) → IsPlanSum f lists player x b z
 first_more f lists player x b z a = record {
   total = omega (arith, a.total);
   numbers = λ q c m l own h lm. omega (arith, a.numbers q c m l own h lm);
 }
 
-alike_first : (f : Frame) (lists : ClassLists) (player : ℕ) (x b : Plan) → AreAlike f lists player x (plus_times x 0 b)
+alike_first : (f : Frame) (lists : ClassLists) (player : ℕ) (x b : Plan) → ArePlansAlike f lists player x (plus_times x 0 b)
 alike_first f lists player x b = record { total = omega arith; numbers = λ q c m l own h lm. omega arith }
 
 module _ (f : Frame) (lists : ClassLists) (n times : ℕ) (x y bx by : Plan) (played : IsFictitiousPlay f lists n x y)
     (first : AnswerStays f lists 1 y by bx times) (second : AnswerStays f lists 2 x bx by times) where
-  jumps : (j : ℕ) (x' y' : Plan) → suc j ≤ times → AreAlike f lists 1 x' (plus_times x (suc j) bx) → AreAlike f lists 2 y' (plus_times y (suc j) by)
+  jumps : (j : ℕ) (x' y' : Plan) → suc j ≤ times → ArePlansAlike f lists 1 x' (plus_times x (suc j) bx) → ArePlansAlike f lists 2 y' (plus_times y (suc j) by)
       → IsFictitiousPlay f lists (n + suc j) x' y'
   jumps zero x' y' l a b =
       let e : suc n ≡ n + 1 = omega arith in
@@ -62,7 +62,7 @@ module _ (f : Frame) (lists : ClassLists) (n times : ℕ) (x y bx by : Plan) (pl
       )
 
   -- so many turns at once
-  pub jump : (x' y' : Plan) → 0 < times → AreAlike f lists 1 x' (plus_times x times bx) → AreAlike f lists 2 y' (plus_times y times by)
+  pub jump : (x' y' : Plan) → 0 < times → ArePlansAlike f lists 1 x' (plus_times x times bx) → ArePlansAlike f lists 2 y' (plus_times y times by)
       → IsFictitiousPlay f lists (n + times) x' y'
   jump x' y' some a b = by_last times refl
     where
@@ -70,8 +70,8 @@ module _ (f : Frame) (lists : ClassLists) (n times : ℕ) (x y bx by : Plan) (pl
       by_last zero e = absurd (omega arith)
       by_last (suc j) e =
           subst (λ t. IsFictitiousPlay f lists (n + t) x' y') e
-          (jumps j x' y' (omega arith) (subst (λ t. AreAlike f lists 1 x' (plus_times x t bx)) (sym e) a)
-          (subst (λ t. AreAlike f lists 2 y' (plus_times y t by)) (sym e) b))
+          (jumps j x' y' (omega arith) (subst (λ t. ArePlansAlike f lists 1 x' (plus_times x t bx)) (sym e) a)
+          (subst (λ t. ArePlansAlike f lists 2 y' (plus_times y t by)) (sym e) b))
 
 -- an answer that puts all on the best moves stays as long as no choice changes
 pub answer_stays : (f : Frame) → InRange f → (lists : ClassLists) → IsClasses f.parents lists → IsLossless f lists → (player : ℕ) → IsWalked f player
@@ -100,8 +100,8 @@ pub answer_stays_once : (f : Frame) → InRange f → (lists : ClassLists) → I
 answer_stays_once f r lists k lossless player w other y more answer v move best one puts =
     λ t z soon alike.
     let none : t ≡ 0 = omega arith in
-    let now = subst (λ n. AreAlike f lists (other_player player) z (plus_times y n more)) none alike in
-    let same : AreAlike f lists (other_player player) z y = record {
+    let now = subst (λ n. ArePlansAlike f lists (other_player player) z (plus_times y n more)) none alike in
+    let same : ArePlansAlike f lists (other_player player) z y = record {
       total = omega (arith, now.total);
       numbers =
           λ q c m l own h lm. omega (arith, now.numbers q c m l own h lm);

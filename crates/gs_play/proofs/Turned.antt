@@ -7,7 +7,7 @@ use Rattle.gs_model.specs.{FrameFacts.{InRange, IsInside, IsWalked}, Lossless.{I
 use Rattle.gs_model.specs.Positions.{Target, at_end, at_point}
 use Rattle.gs_seq.specs.{Payoffs.{end_sum}, Slots.{plan_of, slot_of}}
 use Rattle.gs_best.specs.Puts.{ArePutBefore}
-use Rattle.gs_totals.specs.{ClassTotals.{AreBestTotals, IsFollowed}, Jumps.{AreBeforeChange, tables_after}, PlanSums.{AreAlike, plus_times}}
+use Rattle.gs_totals.specs.{ClassTotals.{AreBestTotals, IsFollowed}, Jumps.{AreBeforeChange, tables_after}, PlanSums.{ArePlansAlike, plus_times}}
 use Rattle.gs_totals.specs.Places.{AreEndLines, AreEndSums, ArePointLines, end_start, totals_of}
 use Rattle.gs_totals.proofs.{JumpLaws.{best_alike, best_same, choices_stay}, SumLaws.{end_plus, kept_alike}}
 use Rattle.gs_play.specs.Staying.{AnswerStays}
@@ -65,7 +65,7 @@ put_stays_once f r lists k lossless player w other y more total weights v move b
 -- what ends pay against the other's new plan
 pub paid_on : (f : Frame) → InRange f → (lists : ClassLists) → IsClasses f.parents lists → (player : ℕ) → IsWalked f (other_player player)
     → (y b z : Plan) (times : ℕ) (old steps new : List ℤ)
-    → AreEndSums f lists player y old → AreEndSums f lists player b steps → AreAlike f lists (other_player player) z (plus_times y times b)
+    → AreEndSums f lists player y old → AreEndSums f lists player b steps → ArePlansAlike f lists (other_player player) z (plus_times y times b)
     → AreEndLines f lists old steps times new → AreEndSums f lists player z new
 paid_on f r lists k player w y b z times old steps new paid added alike lines e c le lc =
     let at = end_start f lists e + (c - 1) in
@@ -88,7 +88,7 @@ pub best_on : (f : Frame) → InRange f → (lists : ClassLists) → IsClasses f
     → (y b z : Plan) (times lasts : ℕ) (old steps new : List ℤ) (move : ℕ → ℕ → ℕ)
     → AreBestTotals f lists player y (totals_of f lists player y old) move → IsFollowed f lists player b (totals_of f lists player b steps) move
     → AreBeforeChange f lists player (totals_of f lists player y old) (totals_of f lists player b steps) move lasts → times < lasts
-    → AreAlike f lists (other_player player) z (plus_times y times b) → ArePointLines f lists old steps times new
+    → ArePlansAlike f lists (other_player player) z (plus_times y times b) → ArePointLines f lists old steps times new
     → AreBestTotals f lists player z (totals_of f lists player z new) move
 best_on f r lists k player w other y b z times lasts old steps new move best rise within soon alike lines =
     let v = totals_of f lists player y old in

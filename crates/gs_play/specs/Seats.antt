@@ -7,7 +7,7 @@ use Rattle.gs_totals.specs.{ClassTotals.{AreBestTotals, IsFollowed}, Places.{Are
 use Rattle.gs_play.specs.declared.seats.Seat.{Seat}
 
 -- there is room for a player's totals and choices, and the player has an answer of total 1
-pub record HasRoom (f : Frame) (lists : ClassLists) (player : ℕ) (s : Seat) : Type 0 where
+pub record HasSeatRoom (f : Frame) (lists : ClassLists) (player : ℕ) (s : Seat) : Type 0 where
   pub answer : IsPlanOf f lists player s.answer
   pub one : s.answer.total ≡ 1
   pub next : length s.next.items ≡ slot_count f lists player
@@ -16,14 +16,14 @@ pub record HasRoom (f : Frame) (lists : ClassLists) (player : ℕ) (s : Seat) : 
 
 -- what a player holds before the first turn: the plan takes the first move everywhere, and no answer is known
 pub record IsAtStart (f : Frame) (lists : ClassLists) (player : ℕ) (s : Seat) : Type 0 where
-  pub room : HasRoom f lists player s
+  pub room : HasSeatRoom f lists player s
   pub plan : IsPlanOf f lists player s.plan
   pub first : IsFirstMoves f lists player (class_plan f lists s.plan)
   pub unanswered : s.is_answered ≡ false
 
 -- there is room, and the totals have what ends pay a player against the other's plan y
 pub record IsSeat (f : Frame) (lists : ClassLists) (player : ℕ) (y : ModelPlan) (s : Seat) : Type 0 where
-  pub room : HasRoom f lists player s
+  pub room : HasSeatRoom f lists player s
   pub paid : AreEndSums f lists player y s.totals.ends.items
 
 -- the seat has the player's best totals against y, and the answer that puts all weight on the moves that they choose

@@ -2,13 +2,13 @@
 
 ghost use Rattle.std.specs.Prelude.{◌≡◌, ◌↔◌, IsTrue, false, ◌+◌, ◌<◌, ◌≤◌, ◌^◌, IfOk, length};
 ghost use Rattle.gs_model.specs.Frame.{other_player, point_count};
-ghost use Rattle.gs_seq.specs.{Abstracts.{frame_of, lists_of}, Plans.{IsPlanOf, class_plan}, Slots.{plan_of, slot_count}};
+ghost use Rattle.gs_seq.specs.{Abstracts.{abstract_frame, lists_of}, Plans.{IsPlanOf, class_plan}, Slots.{plan_of, slot_count}};
 ghost use Rattle.gs_best.specs.{Puts.{ArePutBefore}, Tables.{AreInMoves, start_of}};
-ghost use Rattle.gs_totals.specs.{ClassTotals.{AreBestTotals}, PlanSums.{AreAlike, plus_times}};
+ghost use Rattle.gs_totals.specs.{ClassTotals.{AreBestTotals}, PlanSums.{ArePlansAlike, plus_times}};
 ghost use Rattle.gs_totals.specs.Places.{AreEndLines, AreEndSums, ArePointLines, AreSmallPoints, AreSmallRows};
 ghost use Rattle.gs_totals.specs.Room.{HasRows, HasScratch};
-ghost use Rattle.gs_totals.specs.Roles.{ArePaid, IsOthers, frame_in, lists_in, moves_in, plan_in, totals_in};
-ghost use Rattle.gs_play.specs.{Seats.{HasAnswered, HasRises, HasRoom, IsAtStart, IsSeat}, Staying.{AnswerStays, ChoicesStay}};
+ghost use Rattle.gs_totals.specs.Roles.{ArePaid, IsOthers, role_frame, role_lists, moves_in, role_plan, totals_in};
+ghost use Rattle.gs_play.specs.{Seats.{HasAnswered, HasRises, HasSeatRoom, IsAtStart, IsSeat}, Staying.{AnswerStays, ChoicesStay}};
 
 use crate::adding::add_times;
 use gs_seq::{Abstract, Plan};
@@ -36,7 +36,7 @@ pub(crate) struct Seat {
 pub(crate) fn seat_of(alloc: Global, form: &Abstract, player: u8) -> Result<Seat, AllocError>
     requires some { 0 < player }
     requires two { player ≤ 2 }
-    ensures { IfOk result (IsAtStart (frame_of form.now) (lists_of form.now) player) }
+    ensures { IfOk result (IsAtStart (abstract_frame form.now) (lists_of form.now) player) }
 {
     let plan = form.first_plan(alloc, player)?;
     let answer = form.first_plan(alloc, player)?;
@@ -56,10 +56,10 @@ pub(crate) fn seat_of(alloc: Global, form: &Abstract, player: u8) -> Result<Seat
 /// Sets the ends of `totals` to what they pay a player against a plan of the other's.
 pub(crate) fn read_pay(role: &Role<'_>, other: &Plan, totals: &mut Totals, scratch: &mut Scratch)
     requires other { IsOthers role.now other.now }
-    requires rows { HasRows (frame_in role.now) (lists_in role.now) totals.old }
-    requires scratch { HasScratch (frame_in role.now) (lists_in role.now) scratch.old }
-    ensures scratch { HasScratch (frame_in role.now) (lists_in role.now) scratch.new }
-    ensures rows { HasRows (frame_in role.now) (lists_in role.now) totals.new }
+    requires rows { HasRows (role_frame role.now) (role_lists role.now) totals.old }
+    requires scratch { HasScratch (role_frame role.now) (role_lists role.now) scratch.old }
+    ensures scratch { HasScratch (role_frame role.now) (role_lists role.now) scratch.new }
+    ensures rows { HasRows (role_frame role.now) (role_lists role.now) totals.new }
     ensures paid { ArePaid role.now other.now totals.new }
 {
     let ledger = Ledger { role: *role, other };
@@ -75,18 +75,18 @@ fn find(
     other: &Plan,
     scratch: &mut Scratch,
 )
-    requires rows { HasRows (frame_in role.now) (lists_in role.now) totals.old }
+    requires rows { HasRows (role_frame role.now) (role_lists role.now) totals.old }
     requires paid { ArePaid role.now other.now totals.old }
-    requires picks { start_of (frame_in role.now) (lists_in role.now) (point_count (frame_in role.now)) ≤ length picks.old }
-    requires long { length weights.old ≡ slot_count (frame_in role.now) (lists_in role.now) role.now.player }
+    requires picks { start_of (role_frame role.now) (role_lists role.now) (point_count (role_frame role.now)) ≤ length picks.old }
+    requires long { length weights.old ≡ slot_count (role_frame role.now) (role_lists role.now) role.now.player }
     requires other { IsOthers role.now other.now }
-    requires scratch { HasScratch (frame_in role.now) (lists_in role.now) scratch.old }
-    ensures scratch { HasScratch (frame_in role.now) (lists_in role.now) scratch.new }
-    ensures rows { HasRows (frame_in role.now) (lists_in role.now) totals.new }
+    requires scratch { HasScratch (role_frame role.now) (role_lists role.now) scratch.old }
+    ensures scratch { HasScratch (role_frame role.now) (role_lists role.now) scratch.new }
+    ensures rows { HasRows (role_frame role.now) (role_lists role.now) totals.new }
     ensures paid { totals.new.ends ≡ totals.old.ends }
     ensures best { let k = role.now in
-        AreBestTotals (frame_in k) (lists_in k) k.player (plan_in k other.now) (totals_in k other.now totals.new.points.items) (moves_in k picks.new) }
-    ensures puts { let k = role.now in ArePutBefore (frame_in k) (lists_in k) k.player (moves_in k picks.new) weights.new (point_count (frame_in k)) }
+        AreBestTotals (role_frame k) (role_lists k) k.player (role_plan k other.now) (totals_in k other.now totals.new.points.items) (moves_in k picks.new) }
+    ensures puts { let k = role.now in ArePutBefore (role_frame k) (role_lists k) k.player (moves_in k picks.new) weights.new (point_count (role_frame k)) }
 {
     let ledger = Ledger { role: *role, other };
     fill(&ledger, totals, picks, scratch);
@@ -102,12 +102,12 @@ fn is_same(first: &[u64], second: &[u64]) -> bool
 
 /// Finds a player's best answer to the other's plan. Returns whether it is the former answer.
 fn answer_anew(role: &Role<'_>, seat: &mut Seat, other: &Plan, scratch: &mut Scratch) -> bool
-    requires seat { IsSeat (frame_in role.now) (lists_in role.now) role.now.player (plan_in role.now other.now) seat.old }
+    requires seat { IsSeat (role_frame role.now) (role_lists role.now) role.now.player (role_plan role.now other.now) seat.old }
     requires other { IsOthers role.now other.now }
-    requires scratch { HasScratch (frame_in role.now) (lists_in role.now) scratch.old }
-    ensures scratch { HasScratch (frame_in role.now) (lists_in role.now) scratch.new }
-    ensures seat { IsSeat (frame_in role.now) (lists_in role.now) role.now.player (plan_in role.now other.now) seat.new }
-    ensures answered { HasAnswered (frame_in role.now) (lists_in role.now) role.now.player (plan_in role.now other.now) seat.new }
+    requires scratch { HasScratch (role_frame role.now) (role_lists role.now) scratch.old }
+    ensures scratch { HasScratch (role_frame role.now) (role_lists role.now) scratch.new }
+    ensures seat { IsSeat (role_frame role.now) (role_lists role.now) role.now.player (role_plan role.now other.now) seat.new }
+    ensures answered { HasAnswered (role_frame role.now) (role_lists role.now) role.now.player (role_plan role.now other.now) seat.new }
     ensures plan { seat.new.plan ≡ seat.old.plan }
     ensures next { seat.new.next.items ≡ seat.old.answer.weights.items }
     ensures same { IsTrue result ↔ (seat.new.answer.weights.items ≡ seat.old.answer.weights.items) }
@@ -126,14 +126,14 @@ fn answer_anew(role: &Role<'_>, seat: &mut Seat, other: &Plan, scratch: &mut Scr
 
 /// Finds a player's best answer to the other's plan, unless it is known. Returns whether it is the former answer.
 pub(crate) fn answer(role: &Role<'_>, seat: &mut Seat, other: &Plan, scratch: &mut Scratch) -> bool
-    requires seat { IsSeat (frame_in role.now) (lists_in role.now) role.now.player (plan_in role.now other.now) seat.old }
+    requires seat { IsSeat (role_frame role.now) (role_lists role.now) role.now.player (role_plan role.now other.now) seat.old }
     requires known { let k = role.now in
-        IsTrue seat.old.is_answered → HasAnswered (frame_in k) (lists_in k) k.player (plan_in k other.now) seat.old }
+        IsTrue seat.old.is_answered → HasAnswered (role_frame k) (role_lists k) k.player (role_plan k other.now) seat.old }
     requires other { IsOthers role.now other.now }
-    requires scratch { HasScratch (frame_in role.now) (lists_in role.now) scratch.old }
-    ensures scratch { HasScratch (frame_in role.now) (lists_in role.now) scratch.new }
-    ensures seat { IsSeat (frame_in role.now) (lists_in role.now) role.now.player (plan_in role.now other.now) seat.new }
-    ensures answered { HasAnswered (frame_in role.now) (lists_in role.now) role.now.player (plan_in role.now other.now) seat.new }
+    requires scratch { HasScratch (role_frame role.now) (role_lists role.now) scratch.old }
+    ensures scratch { HasScratch (role_frame role.now) (role_lists role.now) scratch.new }
+    ensures seat { IsSeat (role_frame role.now) (role_lists role.now) role.now.player (role_plan role.now other.now) seat.new }
+    ensures answered { HasAnswered (role_frame role.now) (role_lists role.now) role.now.player (role_plan role.now other.now) seat.new }
     ensures plan { seat.new.plan ≡ seat.old.plan }
     ensures same { IsTrue result → seat.new.answer.weights.items ≡ seat.old.answer.weights.items }
     ensures next { result ≡ false → seat.new.next.items ≡ seat.old.answer.weights.items }
@@ -147,14 +147,14 @@ pub(crate) fn answer(role: &Role<'_>, seat: &mut Seat, other: &Plan, scratch: &m
 /// Sets what the other's answer pays a player each turn, unless it is the other's former answer.
 fn renew(role: &Role<'_>, same: bool, other: &Seat, steps: &mut Totals, scratch: &mut Scratch)
     requires more { IsOthers role.now other.now.answer }
-    requires before { length other.now.next.items ≡ slot_count (frame_in role.now) (lists_in role.now) (other_player role.now.player) }
-    requires rows { HasRows (frame_in role.now) (lists_in role.now) steps.old }
-    requires scratch { HasScratch (frame_in role.now) (lists_in role.now) scratch.old }
+    requires before { length other.now.next.items ≡ slot_count (role_frame role.now) (role_lists role.now) (other_player role.now.player) }
+    requires rows { HasRows (role_frame role.now) (role_lists role.now) steps.old }
+    requires scratch { HasScratch (role_frame role.now) (role_lists role.now) scratch.old }
     requires kept { IsTrue same → ArePaid role.now other.now.answer steps.old }
-    requires paid { let k = role.now in same ≡ false → AreEndSums (frame_in k) (lists_in k) k.player
-        (plan_of (frame_in k) (lists_in k) other.now.answer.total other.now.next.items) steps.old.ends.items }
-    ensures scratch { HasScratch (frame_in role.now) (lists_in role.now) scratch.new }
-    ensures rows { HasRows (frame_in role.now) (lists_in role.now) steps.new }
+    requires paid { let k = role.now in same ≡ false → AreEndSums (role_frame k) (role_lists k) k.player
+        (plan_of (role_frame k) (role_lists k) other.now.answer.total other.now.next.items) steps.old.ends.items }
+    ensures scratch { HasScratch (role_frame role.now) (role_lists role.now) scratch.new }
+    ensures rows { HasRows (role_frame role.now) (role_lists role.now) steps.new }
     ensures paid { ArePaid role.now other.now.answer steps.new }
 {
     if same {
@@ -169,15 +169,15 @@ fn renew(role: &Role<'_>, same: bool, other: &Seat, steps: &mut Totals, scratch:
 
 /// Finds what the other's answer adds to a player's totals each turn, as long as the player's choices stay.
 fn rise(role: &Role<'_>, seat: &Seat, more: &Plan, steps: &mut Totals, scratch: &mut Scratch)
-    requires room { HasRoom (frame_in role.now) (lists_in role.now) role.now.player seat.now }
-    requires moves { AreInMoves (frame_in role.now) (lists_in role.now) role.now.player (moves_in role.now seat.now.picks.items) }
+    requires room { HasSeatRoom (role_frame role.now) (role_lists role.now) role.now.player seat.now }
+    requires moves { AreInMoves (role_frame role.now) (role_lists role.now) role.now.player (moves_in role.now seat.now.picks.items) }
     requires more { IsOthers role.now more.now }
-    requires rows { HasRows (frame_in role.now) (lists_in role.now) steps.old }
+    requires rows { HasRows (role_frame role.now) (role_lists role.now) steps.old }
     requires paid { ArePaid role.now more.now steps.old }
-    requires scratch { HasScratch (frame_in role.now) (lists_in role.now) scratch.old }
-    ensures scratch { HasScratch (frame_in role.now) (lists_in role.now) scratch.new }
-    ensures rows { HasRows (frame_in role.now) (lists_in role.now) steps.new }
-    ensures rises { HasRises (frame_in role.now) (lists_in role.now) role.now.player (plan_in role.now more.now) seat.now.picks.items steps.new }
+    requires scratch { HasScratch (role_frame role.now) (role_lists role.now) scratch.old }
+    ensures scratch { HasScratch (role_frame role.now) (role_lists role.now) scratch.new }
+    ensures rows { HasRows (role_frame role.now) (role_lists role.now) steps.new }
+    ensures rises { HasRises (role_frame role.now) (role_lists role.now) role.now.player (role_plan role.now more.now) seat.now.picks.items steps.new }
 {
     let ledger = Ledger {
         role: *role,
@@ -195,14 +195,14 @@ fn lasts(
     scratch: &mut Scratch,
     times: u32,
 ) -> u32
-    requires seat { IsSeat (frame_in role.now) (lists_in role.now) role.now.player (plan_in role.now other.now.plan) seat.now }
-    requires answered { HasAnswered (frame_in role.now) (lists_in role.now) role.now.player (plan_in role.now other.now.plan) seat.now }
+    requires seat { IsSeat (role_frame role.now) (role_lists role.now) role.now.player (role_plan role.now other.now.plan) seat.now }
+    requires answered { HasAnswered (role_frame role.now) (role_lists role.now) role.now.player (role_plan role.now other.now.plan) seat.now }
     requires other { IsOthers role.now other.now.plan }
     requires more { IsOthers role.now other.now.answer }
-    requires rows { HasRows (frame_in role.now) (lists_in role.now) steps.now }
-    requires rises { let k = role.now in HasRises (frame_in k) (lists_in k) k.player (plan_in k other.now.answer) seat.now.picks.items steps.now }
-    requires scratch { HasScratch (frame_in role.now) (lists_in role.now) scratch.old }
-    ensures scratch { HasScratch (frame_in role.now) (lists_in role.now) scratch.new }
+    requires rows { HasRows (role_frame role.now) (role_lists role.now) steps.now }
+    requires rises { let k = role.now in HasRises (role_frame k) (role_lists k) k.player (role_plan k other.now.answer) seat.now.picks.items steps.now }
+    requires scratch { HasScratch (role_frame role.now) (role_lists role.now) scratch.old }
+    ensures scratch { HasScratch (role_frame role.now) (role_lists role.now) scratch.new }
     ensures lasts { ChoicesStay role.now seat.now other.now steps.now result }
     ensures most { result ≤ times }
     ensures some { 0 < times → 0 < result }
@@ -230,24 +230,24 @@ pub(crate) fn look_ahead(
     scratch: &mut Scratch,
     times: u32,
 ) -> u32
-    requires seat { IsSeat (frame_in role.now) (lists_in role.now) role.now.player (plan_in role.now other.now.plan) seat.now }
-    requires answered { HasAnswered (frame_in role.now) (lists_in role.now) role.now.player (plan_in role.now other.now.plan) seat.now }
+    requires seat { IsSeat (role_frame role.now) (role_lists role.now) role.now.player (role_plan role.now other.now.plan) seat.now }
+    requires answered { HasAnswered (role_frame role.now) (role_lists role.now) role.now.player (role_plan role.now other.now.plan) seat.now }
     requires other { IsOthers role.now other.now.plan }
     requires more { IsOthers role.now other.now.answer }
-    requires rows { HasRows (frame_in role.now) (lists_in role.now) steps.old }
-    requires scratch { HasScratch (frame_in role.now) (lists_in role.now) scratch.old }
-    requires before { length other.now.next.items ≡ slot_count (frame_in role.now) (lists_in role.now) (other_player role.now.player) }
+    requires rows { HasRows (role_frame role.now) (role_lists role.now) steps.old }
+    requires scratch { HasScratch (role_frame role.now) (role_lists role.now) scratch.old }
+    requires before { length other.now.next.items ≡ slot_count (role_frame role.now) (role_lists role.now) (other_player role.now.player) }
     requires kept { IsTrue same → ArePaid role.now other.now.answer steps.old }
-    requires paid { let k = role.now in same ≡ false → AreEndSums (frame_in k) (lists_in k) k.player
-        (plan_of (frame_in k) (lists_in k) other.now.answer.total other.now.next.items) steps.old.ends.items }
+    requires paid { let k = role.now in same ≡ false → AreEndSums (role_frame k) (role_lists k) k.player
+        (plan_of (role_frame k) (role_lists k) other.now.answer.total other.now.next.items) steps.old.ends.items }
     requires left { 0 < times }
-    ensures scratch { HasScratch (frame_in role.now) (lists_in role.now) scratch.new }
-    ensures rows { HasRows (frame_in role.now) (lists_in role.now) steps.new }
+    ensures scratch { HasScratch (role_frame role.now) (role_lists role.now) scratch.new }
+    ensures rows { HasRows (role_frame role.now) (role_lists role.now) steps.new }
     ensures paid { ArePaid role.now other.now.answer steps.new }
     ensures stays { let k = role.now in
-        AnswerStays (frame_in k) (lists_in k) k.player (plan_in k other.now.plan) (plan_in k other.now.answer) (plan_in k seat.now.answer) result }
+        AnswerStays (role_frame k) (role_lists k) k.player (role_plan k other.now.plan) (role_plan k other.now.answer) (role_plan k seat.now.answer) result }
     ensures rises { let k = role.now in
-        1 < result → HasRises (frame_in k) (lists_in k) k.player (plan_in k other.now.answer) seat.now.picks.items steps.new }
+        1 < result → HasRises (role_frame k) (role_lists k) k.player (role_plan k other.now.answer) seat.now.picks.items steps.new }
     ensures lasts { 1 < result → ChoicesStay role.now seat.now other.now steps.new result }
     ensures most { result ≤ times }
     ensures some { 0 < result }
@@ -263,28 +263,29 @@ pub(crate) fn look_ahead(
 /// Adds a player's answer to the plan `times` times, and to the totals what the other's answer adds each time. If the choices last for more turns,
 /// the next answer is known.
 pub(crate) fn move_on(role: &Role<'_>, seat: &mut Seat, steps: &Totals, times: u32, lasts: u32)
-    requires room { HasRoom (frame_in role.now) (lists_in role.now) role.now.player seat.old }
-    requires plan { IsPlanOf (frame_in role.now) (lists_in role.now) role.now.player seat.old.plan }
+    requires room { HasSeatRoom (role_frame role.now) (role_lists role.now) role.now.player seat.old }
+    requires plan { IsPlanOf (role_frame role.now) (role_lists role.now) role.now.player seat.old.plan }
     requires total { seat.old.plan.total + times ≤ 2 ^ 36 }
-    requires rows { HasRows (frame_in role.now) (lists_in role.now) steps.now }
-    requires small { AreSmallRows (frame_in role.now) (lists_in role.now) seat.old.totals.ends.items }
-    requires small_steps { AreSmallRows (frame_in role.now) (lists_in role.now) steps.now.ends.items }
-    requires small_points { times < lasts → AreSmallPoints (frame_in role.now) (lists_in role.now) seat.old.totals.points.items }
-    requires small_slopes { times < lasts → AreSmallPoints (frame_in role.now) (lists_in role.now) steps.now.points.items }
+    requires rows { HasRows (role_frame role.now) (role_lists role.now) steps.now }
+    requires small { AreSmallRows (role_frame role.now) (role_lists role.now) seat.old.totals.ends.items }
+    requires small_steps { AreSmallRows (role_frame role.now) (role_lists role.now) steps.now.ends.items }
+    requires small_points { times < lasts → AreSmallPoints (role_frame role.now) (role_lists role.now) seat.old.totals.points.items }
+    requires small_slopes { times < lasts → AreSmallPoints (role_frame role.now) (role_lists role.now) steps.now.points.items }
     requires few { times ≤ 2 ^ 20 }
-    ensures room { HasRoom (frame_in role.now) (lists_in role.now) role.now.player seat.new }
+    ensures room { HasSeatRoom (role_frame role.now) (role_lists role.now) role.now.player seat.new }
     ensures answer { seat.new.answer ≡ seat.old.answer }
     ensures picks { seat.new.picks ≡ seat.old.picks }
     ensures player { seat.new.plan.player ≡ seat.old.plan.player }
     ensures total { seat.new.plan.total ≡ seat.old.plan.total + times }
-    ensures long { length seat.new.plan.weights.items ≡ slot_count (frame_in role.now) (lists_in role.now) role.now.player }
+    ensures long { length seat.new.plan.weights.items ≡ slot_count (role_frame role.now) (role_lists role.now) role.now.player }
     ensures sum { let k = role.now in
-        AreAlike (frame_in k) (lists_in k) k.player (plan_in k seat.new.plan) (plus_times (plan_in k seat.old.plan) times (plan_in k seat.old.answer)) }
+        ArePlansAlike (role_frame k) (role_lists k) k.player (role_plan k seat.new.plan)
+        (plus_times (role_plan k seat.old.plan) times (role_plan k seat.old.answer)) }
     ensures lines { let k = role.now in
-        AreEndLines (frame_in k) (lists_in k) seat.old.totals.ends.items steps.now.ends.items times seat.new.totals.ends.items }
+        AreEndLines (role_frame k) (role_lists k) seat.old.totals.ends.items steps.now.ends.items times seat.new.totals.ends.items }
     ensures lasting { IsTrue seat.new.is_answered → times < lasts }
     ensures points { let k = role.now in times < lasts
-        → ArePointLines (frame_in k) (lists_in k) seat.old.totals.points.items steps.now.points.items times seat.new.totals.points.items }
+        → ArePointLines (role_frame k) (role_lists k) seat.old.totals.points.items steps.now.points.items times seat.new.totals.points.items }
 {
     advance(role.form, &mut seat.totals, steps, times, lasts);
     add_times(role.form, role.player, &mut seat.plan, &seat.answer, times);

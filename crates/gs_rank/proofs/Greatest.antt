@@ -3,7 +3,8 @@ use Rattle.std.proofs.Common.{◌≡◌, ◌≢◌, ℕ, ◌+◌, ◌-◌, ◌*�
 use Rattle.std.proofs.{Math.Bool.{or-true}, lemmas.Bool.{eqb-true, eq-eqb, and_parts, and_from, or_cases, cases_eq}}
 use Rattle.std.specs.Prelude.{◌==◌, ◌&&◌, ◌||◌, ◌⊎◌, nat_lt}
 use Rattle.gs_model.specs.{Game.{Three}, Outcome.{rank_of, suit_of, three_strength, category}}
-use Rattle.gs_rank.specs.ThreeCards.{Cards, Category, HighCard, OnePair, Flush, Straight, ThreeOfAKind, StraightFlush, number, Applies, IsPair, IsFlush, IsStraight, IsThreeOfAKind, IsGreatest}
+use Rattle.gs_rank.specs.ThreeCards.{Cards, Category, HighCard, OnePair, Flush, Straight, ThreeOfAKind, StraightFlush, category_number, Applies, IsPair}
+use Rattle.gs_rank.specs.ThreeCards.{IsFlush, IsStraight, IsThreeOfAKind, IsGreatest}
 
 -- the category by the tests: straight, flush, three of a kind, a high pair, a low pair
 abbrev chosen : Bool → Bool → Bool → Bool → Bool → ℕ
@@ -74,7 +75,7 @@ says StraightFlush s f e p q = s && f
 
 -- what is chosen applies, and what applies is no higher
 abbrev agrees : Category → Bool → Bool → Bool → Bool → Bool → Bool
-agrees c s f e p q = cond (number c == chosen s f e p q) (says c s f e p q) true && cond (says c s f e p q) (nat_lt (number c) (suc (chosen s f e p q))) true
+agrees c s f e p q = cond (category_number c == chosen s f e p q) (says c s f e p q) true && cond (says c s f e p q) (nat_lt (category_number c) (suc (chosen s f e p q))) true
 
 -- a test at both truth values
 abbrev each : (Bool → Bool) → Bool
@@ -94,21 +95,21 @@ all_agree ThreeOfAKind = refl
 all_agree StraightFlush = refl
 
 module _ (c : Category) (s f e p q : Bool) where
-  agree : (cond (number c == chosen s f e p q) (says c s f e p q) true ≡ true)
-      × (cond (says c s f e p q) (nat_lt (number c) (suc (chosen s f e p q))) true ≡ true)
+  agree : (cond (category_number c == chosen s f e p q) (says c s f e p q) true ≡ true)
+      × (cond (says c s f e p q) (nat_lt (category_number c) (suc (chosen s f e p q))) true ≡ true)
   agree =
       let a = at_each (λ s. each (λ f. each (λ e. each (λ p. each (λ q. agrees c s f e p q))))) (all_agree c) s in
       let b = at_each (λ f. each (λ e. each (λ p. each (λ q. agrees c s f e p q)))) a f in
       let d = at_each (λ e. each (λ p. each (λ q. agrees c s f e p q))) b e in
       let g = at_each (λ q. agrees c s f e p q) (at_each (λ p. each (λ q. agrees c s f e p q)) d p) q in
-      and_parts (cond (number c == chosen s f e p q) (says c s f e p q) true) (cond (says c s f e p q) (nat_lt (number c) (suc (chosen s f e p q))) true) g
+      and_parts (cond (category_number c == chosen s f e p q) (says c s f e p q) true) (cond (says c s f e p q) (nat_lt (category_number c) (suc (chosen s f e p q))) true) g
 
-  said : number c ≡ chosen s f e p q → says c s f e p q ≡ true
+  said : category_number c ≡ chosen s f e p q → says c s f e p q ≡ true
   said n = ap (λ t. cond t (says c s f e p q) true) (sym (eq-eqb _ _ n)) ∙ agree.0
 
-  most : says c s f e p q ≡ true → number c ≤ chosen s f e p q
+  most : says c s f e p q ≡ true → category_number c ≤ chosen s f e p q
   most h =
-      let l : nat_lt (number c) (suc (chosen s f e p q)) ≡ true = ap (λ t. cond t (nat_lt (number c) (suc (chosen s f e p q))) true) (sym h) ∙ agree.1 in
+      let l : nat_lt (category_number c) (suc (chosen s f e p q)) ≡ true = ap (λ t. cond t (nat_lt (category_number c) (suc (chosen s f e p q))) true) (sym h) ∙ agree.1 in
       grind (arith, l)
 
 -- the category is the greatest that applies
@@ -166,8 +167,8 @@ is_greatest suits h a b c =
         tells ThreeOfAKind a = three_back a
         tells StraightFlush a = and_from s f (straight_back a.0) (flush_back a.1)
 
-        applies : (c : Category) → number c ≡ chosen s f e p q → Applies suits h c
+        applies : (c : Category) → category_number c ≡ chosen s f e p q → Applies suits h c
         applies c n = told c (said c s f e p q n)
 
-        greatest : (c : Category) → Applies suits h c → number c ≤ chosen s f e p q
+        greatest : (c : Category) → Applies suits h c → category_number c ≤ chosen s f e p q
         greatest c a = most c s f e p q (tells c a)

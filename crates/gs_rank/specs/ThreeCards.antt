@@ -22,13 +22,13 @@ pub data Category : Type 0 where
   StraightFlush : Category
 
 -- the number of a category
-abbrev pub number : Category → ℕ
-number HighCard = 0
-number OnePair = 1
-number Flush = 2
-number Straight = 3
-number ThreeOfAKind = 4
-number StraightFlush = 5
+abbrev pub category_number : Category → ℕ
+category_number HighCard = 0
+category_number OnePair = 1
+category_number Flush = 2
+category_number Straight = 3
+category_number ThreeOfAKind = 4
+category_number StraightFlush = 5
 
 -- two of the cards have one rank
 abbrev pub IsPair : ℕ → Cards → Type 0
@@ -58,8 +58,8 @@ Applies suits h StraightFlush = IsStraight suits h × IsFlush suits h
 
 -- n is the number of the greatest category that applies
 pub record IsGreatest (suits : ℕ) (h : Cards) (n : ℕ) : Type 0 where
-  pub applies : (c : Category) → number c ≡ n → Applies suits h c
-  pub greatest : (c : Category) → Applies suits h c → number c ≤ n
+  pub applies : (c : Category) → category_number c ≡ n → Applies suits h c
+  pub greatest : (c : Category) → Applies suits h c → category_number c ≤ n
 
 -- the category of three cards is the greatest that applies, where ranks are below 64
 abbrev pub CategoriesAreGreatest : Type 0

@@ -8,32 +8,32 @@ use Rattle.gs_lossless.specs.declared.checking.Lossless.{Lossless}
 use Rattle.gs_model.specs.{Classes.{ClassLists}, Frame.{Frame}}
 use Rattle.gs_model.proofs.Ranges.{in_range}
 use Rattle.gs_best.specs.Judged.{parts}
-use Rattle.gs_seq.specs.{Abstracts.{frame_of, lists_of}, Games.{frame_in}, Plans.{IsPlanOf, lifted}, declared.form.Abstract.{Abstract}}
+use Rattle.gs_seq.specs.{Abstracts.{abstract_frame, lists_of}, Games.{frame_in}, Plans.{IsPlanOf, lifted}, declared.form.Abstract.{Abstract}}
 use Rattle.gs_seq.specs.declared.plan.Plan.{Plan}
 use Rattle.gs_tree.specs.declared.signals.Signals.{Signals}
 use Rattle.gs_seq.proofs.Points.{playable, walked}
 use Rattle.gs_raw.specs.{Answers.{AreHandValuesOf, IsJudgedOf, IsRawStopOf}, Lifts.{AreSame}, declared.stop.RawStop.{RawStop}}
 use Rattle.gs_raw.proofs.Same.{hand_same, verdict_same}
 
-same_frame : (a : Abstract) (l : Lossless) (s : Signals) → a.lossless.now ≡ l → l.signals.now ≡ s → frame_of a ≡ frame_in s.game.now
+same_frame : (a : Abstract) (l : Lossless) (s : Signals) → a.lossless.now ≡ l → l.signals.now ≡ s → abstract_frame a ≡ frame_in s.game.now
 same_frame a l s held signals = ap (λ (x : Lossless). frame_in x.signals.now.game.now) held ∙ ap (λ (x : Signals). frame_in x.game.now) signals
 
 -- what holds of two plans over single signals of the game holds of them over the form's classes
 pub record AreSpread (a : Abstract) (one two : Plan) : Type 0 where
-  pub singles : lists_of a ≡ single_classes (frame_of a).parents
-  pub one_plan : IsPlanOf (frame_of a) (lists_of a) 1 one
-  pub two_plan : IsPlanOf (frame_of a) (lists_of a) 2 two
+  pub singles : lists_of a ≡ single_classes (abstract_frame a).parents
+  pub one_plan : IsPlanOf (abstract_frame a) (lists_of a) 1 one
+  pub two_plan : IsPlanOf (abstract_frame a) (lists_of a) 2 two
 
 module _ (a : Abstract) (l : Lossless) (s : Signals) (alone : Filter) (held : a.lossless.now ≡ l) (signals : l.signals.now ≡ s)
     (classes : l.classes.now ≡ alone) (singles : alone.lists ≡ single_classes (frame_in s.game.now).parents) where
-  here : frame_of a ≡ frame_in s.game.now
+  here : abstract_frame a ≡ frame_in s.game.now
   here = same_frame a l s held signals
 
   lists_are : lists_of a ≡ single_classes (frame_in s.game.now).parents
   lists_are = ap (λ (x : Lossless). x.classes.now.lists) held ∙ ap (λ (x : Filter). x.lists) classes ∙ singles
 
   plan_over : (p : ℕ) (x : Plan) → IsPlanOf (frame_in s.game.now) (single_classes (frame_in s.game.now).parents) p x
-      → IsPlanOf (frame_of a) (lists_of a) p x
+      → IsPlanOf (abstract_frame a) (lists_of a) p x
   plan_over p x h = subst (λ (f : Frame). IsPlanOf f (lists_of a) p x) (sym here) (subst (λ ls. IsPlanOf (frame_in s.game.now) ls p x) (sym lists_are) h)
 
   pub are_spread : (one two : Plan) → IsPlanOf (frame_in s.game.now) (single_classes (frame_in s.game.now).parents) 1 one
@@ -50,7 +50,7 @@ module _ (a : Abstract) (l : Lossless) (s : Signals) (alone : Filter) (held : a.
       (lifted (frame_in s.game.now) first x))
       (same_two : AreSame (frame_in s.game.now) 2 (lifted (frame_in s.game.now) (single_classes (frame_in s.game.now).parents) two)
       (lifted (frame_in s.game.now) second y)) where
-    pub judged_alike : (v : Verdict) → IsJudgedOf (frame_of a) (lists_of a) one (lists_of a) two v → IsJudgedOf (frame_in s.game.now) first x second y v
+    pub judged_alike : (v : Verdict) → IsJudgedOf (abstract_frame a) (lists_of a) one (lists_of a) two v → IsJudgedOf (frame_in s.game.now) first x second y v
     judged_alike v h =
         let g = s.game.now in
         let f = frame_in g in
@@ -58,7 +58,7 @@ module _ (a : Abstract) (l : Lossless) (s : Signals) (alone : Filter) (held : a.
         (parts v.value) (parts v.gap1) (parts v.gap2) same_one same_two
         (subst (λ ls. IsJudgedOf f ls one ls two v) lists_are (subst (λ (f : Frame). IsJudgedOf f (lists_of a) one (lists_of a) two v) here h))
 
-    pub hands_alike : (v : List Fraction) → AreHandValuesOf (frame_of a) (lists_of a) one (lists_of a) two v
+    pub hands_alike : (v : List Fraction) → AreHandValuesOf (abstract_frame a) (lists_of a) one (lists_of a) two v
         → AreHandValuesOf (frame_in s.game.now) first x second y v
     hands_alike v h =
         let g = s.game.now in

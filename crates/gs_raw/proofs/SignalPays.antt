@@ -12,10 +12,10 @@ use Rattle.gs_model.specs.{Payoff.{number_at_end}, Plans.{IsClassPlan, Plan, lif
 use Rattle.gs_model.proofs.{Tables.{is_table}, Total.{mul_assoc_z, sum_z-mul, sum_z-same}, Basics.{product_le}}
 use Rattle.gs_best.proofs.{Chips.{IsModest}, Forms.{form_in_range, form_modest, form_walked, form_signals}, Rooms.{pos-product}}
 use Rattle.gs_frac.specs.declared.value.Fraction.{Fraction}
-use Rattle.gs_seq.specs.{Abstracts.{frame_of, lists_of}, Plans.{IsPlanOf, class_plan, lifted}, declared.form.Abstract.{Abstract}}
+use Rattle.gs_seq.specs.{Abstracts.{abstract_frame, lists_of}, Plans.{IsPlanOf, class_plan, lifted}, declared.form.Abstract.{Abstract}}
 use Rattle.gs_seq.specs.declared.plan.Plan.{Plan as StoredPlan}
 use Rattle.gs_seq.proofs.{Ends.{number_few}, RowFacts.{abs_all, sum-times}}
-use Rattle.gs_raw.specs.{Answers.{IsHandValueOf}, Hands.{deal_pays, hand_pays_at, number_of, signal_pays, signal_weighs, signals_pay, signals_weigh}}
+use Rattle.gs_raw.specs.{Answers.{IsHandValueOf}, Hands.{deal_pays, hand_pays_at, plan_number_at_end, signal_pays, signal_weighs, signals_pay, signals_weigh}}
 use Rattle.gs_raw.proofs.{Numbers.{abs_scaled}, Spread.{single_class, single_member}, Sums.{IsInRun, filter_le, filter_sum, run_sum, run_weight_le}}
 
 -- ---- one signal
@@ -84,7 +84,7 @@ module _ (f : Frame) (r : InRange f) (m : IsModest f) where
         let some = w1.end_round z lz in
         let top = w1.end_in z lz in
         let j = round_of f (at_end z) in
-        deal_small d.weight (number_of f 1 own z d.one) (number_of f 2 other z d.two) (payoff_to f 1 z d.outcome)
+        deal_small d.weight (plan_number_at_end f 1 own z d.one) (plan_number_at_end f 2 other z d.two) (payoff_to f 1 z d.outcome)
         (raw_few 1 w1 x px z (at_round f j d.one) lz (h.kept (last_round f) j d.one some top (r.ones k e l)))
         (raw_few 2 w2 y py z (at_round f j d.two) lz (h.kept (last_round f) j d.two some top (r.twos k e l)))
         (m.pays 1 z k e lz l)
@@ -137,33 +137,33 @@ module _ (f : Frame) (r : InRange f) (w : IsWalked f 1) (z s first end : ℕ) (l
 -- ---- of a game in sequence form over single signals
 
 -- the class of a signal, and that signal as its first member
-pub single_at : (a : Abstract) (lists : ClassLists) → lists ≡ single_classes (frame_of a).parents → (round s : ℕ) → 0 < round
-    → round ≤ last_round (frame_of a) → s < signal_count (frame_of a) round
+pub single_at : (a : Abstract) (lists : ClassLists) → lists ≡ single_classes (abstract_frame a).parents → (round s : ℕ) → 0 < round
+    → round ≤ last_round (abstract_frame a) → s < signal_count (abstract_frame a) round
     → (IsClass lists round (s + 1)) × (first_member lists round (s + 1) ≡ s)
 single_at a lists e round s some top ls =
-    let f = frame_of a in
+    let f = abstract_frame a in
     let here = single_class f round some top s ls in
     let member = single_member f round some top (s + 1) here in
     let is : first_member (single_classes f.parents) round (s + 1) ≡ s = omega (arith, member.1) in
     (subst (λ ls. IsClass ls round (s + 1)) (sym e) here, ap (λ ls. first_member ls round (s + 1)) e ∙ is)
 
 -- so is a signal of an end's round, and there are few
-pub single_end : (a : Abstract) → lists_of a ≡ single_classes (frame_of a).parents → (z s : ℕ) → z < end_count (frame_of a)
-    → s < signal_count (frame_of a) (round_of (frame_of a) (at_end z))
-    → IsClass (lists_of a) (round_of (frame_of a) (at_end z)) (s + 1) × (first_member (lists_of a) (round_of (frame_of a) (at_end z)) (s + 1) ≡ s)
+pub single_end : (a : Abstract) → lists_of a ≡ single_classes (abstract_frame a).parents → (z s : ℕ) → z < end_count (abstract_frame a)
+    → s < signal_count (abstract_frame a) (round_of (abstract_frame a) (at_end z))
+    → IsClass (lists_of a) (round_of (abstract_frame a) (at_end z)) (s + 1) × (first_member (lists_of a) (round_of (abstract_frame a) (at_end z)) (s + 1) ≡ s)
     × (s < 200000)
 single_end a e z s l ls =
     let w = form_walked a 1 (omega arith) (omega arith) in
-    let round = round_of (frame_of a) (at_end z) in
+    let round = round_of (abstract_frame a) (at_end z) in
     let h = single_at a (lists_of a) e round s (w.end_round z l) (w.end_in z l) ls in
     (h.0, h.1, omega (arith, ls, form_signals a round (w.end_round z l) (w.end_in z l)))
 
 -- what the deals of a signal pay is small beside what they weigh
-pub small_of : (a : Abstract) (lists : ClassLists) → lists ≡ single_classes (frame_of a).parents → (one two : StoredPlan) → IsPlanOf (frame_of a) lists 1 one
-    → IsPlanOf (frame_of a) lists 2 two → (z s : ℕ) → z < end_count (frame_of a)
-    → unsigned_abs (signal_pays (frame_of a) (lifted (frame_of a) lists one) (lifted (frame_of a) lists two) z s) ≤ (2 ^ 84) * signal_weighs (frame_of a) z s
+pub small_of : (a : Abstract) (lists : ClassLists) → lists ≡ single_classes (abstract_frame a).parents → (one two : StoredPlan) → IsPlanOf (abstract_frame a) lists 1 one
+    → IsPlanOf (abstract_frame a) lists 2 two → (z s : ℕ) → z < end_count (abstract_frame a)
+    → unsigned_abs (signal_pays (abstract_frame a) (lifted (abstract_frame a) lists one) (lifted (abstract_frame a) lists two) z s) ≤ (2 ^ 84) * signal_weighs (abstract_frame a) z s
 small_of a lists e one two p q z s lz =
-    let f = frame_of a in
+    let f = abstract_frame a in
     let singles = single_classes f.parents in
     let p' = subst (λ ls. IsPlanOf f ls 1 one) e p in
     let q' = subst (λ ls. IsPlanOf f ls 2 two) e q in

@@ -3,7 +3,7 @@
 ghost use Rattle.std.specs.Prelude.{◌≡◌, ◌-◌, ◌*◌, ◌<◌, ◌≤◌, ◌^◌, IfOk, unsigned_abs};
 ghost use Rattle.gs_filter.specs.Filter.{single_classes};
 ghost use Rattle.gs_model.specs.{Frame.{end_count, round_of, signal_count}, Payoff.{hand_payoff}, Positions.{at_end}};
-ghost use Rattle.gs_seq.specs.{Abstracts.{frame_of, lists_of}, Plans.{IsPlanOf, lifted}};
+ghost use Rattle.gs_seq.specs.{Abstracts.{abstract_frame, lists_of}, Plans.{IsPlanOf, lifted}};
 ghost use Rattle.gs_raw.specs.{Answers.{AreHandValuesOf, IsHandValueOf}, Hands.{hand_pays_at, signal_pays, signal_weighs, signals_pay}};
 
 use crate::hands::{hand_weight, paid_over};
@@ -19,18 +19,18 @@ pub(crate) struct Spread<'a> {
     pub(crate) form: &'a Abstract<'a>,
     pub(crate) one: &'a Plan,
     pub(crate) two: &'a Plan,
-    pub ghost singles: { lists_of form.now ≡ single_classes (frame_of form.now).parents },
-    pub ghost one_plan: { IsPlanOf (frame_of form.now) (lists_of form.now) 1 one.now },
-    pub ghost two_plan: { IsPlanOf (frame_of form.now) (lists_of form.now) 2 two.now },
+    pub ghost singles: { lists_of form.now ≡ single_classes (abstract_frame form.now).parents },
+    pub ghost one_plan: { IsPlanOf (abstract_frame form.now) (lists_of form.now) 1 one.now },
+    pub ghost two_plan: { IsPlanOf (abstract_frame form.now) (lists_of form.now) 2 two.now },
 }
 
 /// Returns what the deals of a signal of an end's round pay player 1 there.
 fn signal_gain(side: &Spread<'_>, end: u32, signal: u32) -> i128
-    requires end { end < end_count (frame_of side.now.form.now) }
-    requires signal { signal < signal_count (frame_of side.now.form.now) (round_of (frame_of side.now.form.now) (at_end end)) }
-    ensures value { let f = frame_of side.now.form.now in let lists = lists_of side.now.form.now in
+    requires end { end < end_count (abstract_frame side.now.form.now) }
+    requires signal { signal < signal_count (abstract_frame side.now.form.now) (round_of (abstract_frame side.now.form.now) (at_end end)) }
+    ensures value { let f = abstract_frame side.now.form.now in let lists = lists_of side.now.form.now in
         result ≡ signal_pays f (lifted f lists side.now.one.now) (lifted f lists side.now.two.now) end signal }
-    ensures few { unsigned_abs result ≤ (2 ^ 84) * signal_weighs (frame_of side.now.form.now) end signal }
+    ensures few { unsigned_abs result ≤ (2 ^ 84) * signal_weighs (abstract_frame side.now.form.now) end signal }
 {
     let number = side.form.number_at_end(side.one, end, signal + 1);
     let deviator = Deviator {
@@ -43,10 +43,10 @@ fn signal_gain(side: &Spread<'_>, end: u32, signal: u32) -> i128
 
 /// Returns what the deals of a run of signals of an end's round pay player 1 there.
 fn signals_gain(side: &Spread<'_>, end: u32, run: Run) -> i128
-    requires end { end < end_count (frame_of side.now.form.now) }
+    requires end { end < end_count (abstract_frame side.now.form.now) }
     requires ordered { run.first ≤ run.end }
-    requires within { run.end ≤ signal_count (frame_of side.now.form.now) (round_of (frame_of side.now.form.now) (at_end end)) }
-    ensures value { let f = frame_of side.now.form.now in let lists = lists_of side.now.form.now in
+    requires within { run.end ≤ signal_count (abstract_frame side.now.form.now) (round_of (abstract_frame side.now.form.now) (at_end end)) }
+    ensures value { let f = abstract_frame side.now.form.now in let lists = lists_of side.now.form.now in
         result ≡ signals_pay f (lifted f lists side.now.one.now) (lifted f lists side.now.two.now) run.first (run.end - run.first) end }
     ensures few { unsigned_abs result ≤ 2 ^ 110 }
 {
@@ -59,9 +59,9 @@ fn signals_gain(side: &Spread<'_>, end: u32, run: Run) -> i128
 
 /// Returns what the deals of a raw signal of round 1 pay player 1 at an end.
 fn end_gain(side: &Spread<'_>, end: u32, signal: u32) -> i128
-    requires end { end < end_count (frame_of side.now.form.now) }
-    requires signal { signal < signal_count (frame_of side.now.form.now) 1 }
-    ensures value { let f = frame_of side.now.form.now in let lists = lists_of side.now.form.now in
+    requires end { end < end_count (abstract_frame side.now.form.now) }
+    requires signal { signal < signal_count (abstract_frame side.now.form.now) 1 }
+    ensures value { let f = abstract_frame side.now.form.now in let lists = lists_of side.now.form.now in
         result ≡ hand_pays_at f (lifted f lists side.now.one.now) (lifted f lists side.now.two.now) signal end }
     ensures few { unsigned_abs result ≤ 2 ^ 110 }
 {
@@ -71,8 +71,8 @@ fn end_gain(side: &Spread<'_>, end: u32, signal: u32) -> i128
 
 /// Returns what the deals of a raw signal of round 1 pay player 1.
 fn all_gain(side: &Spread<'_>, signal: u32) -> i128
-    requires { signal < signal_count (frame_of side.now.form.now) 1 }
-    ensures value { let f = frame_of side.now.form.now in let lists = lists_of side.now.form.now in
+    requires { signal < signal_count (abstract_frame side.now.form.now) 1 }
+    ensures value { let f = abstract_frame side.now.form.now in let lists = lists_of side.now.form.now in
         result ≡ hand_payoff f (lifted f lists side.now.one.now) (lifted f lists side.now.two.now) signal }
     ensures few { unsigned_abs result < 2 ^ 127 }
 {
@@ -85,8 +85,8 @@ fn all_gain(side: &Spread<'_>, signal: u32) -> i128
 
 /// Returns what a raw signal of round 1 is worth to player 1.
 fn worth(side: &Spread<'_>, signal: u32) -> Fraction
-    requires { signal < signal_count (frame_of side.now.form.now) 1 }
-    ensures { let f = frame_of side.now.form.now in let lists = lists_of side.now.form.now in
+    requires { signal < signal_count (abstract_frame side.now.form.now) 1 }
+    ensures { let f = abstract_frame side.now.form.now in let lists = lists_of side.now.form.now in
         IsHandValueOf f lists side.now.one.now lists side.now.two.now signal result }
 {
     let signals = side.form.lossless().signals();
@@ -98,7 +98,7 @@ fn worth(side: &Spread<'_>, signal: u32) -> Fraction
 
 /// Returns what each raw signal of round 1 is worth to player 1, in order.
 pub(crate) fn worths(alloc: Global, side: &Spread<'_>) -> Result<Vec<Fraction>, AllocError>
-    ensures { let f = frame_of side.now.form.now in let lists = lists_of side.now.form.now in
+    ensures { let f = abstract_frame side.now.form.now in let lists = lists_of side.now.form.now in
         IfOk result (λ v. AreHandValuesOf f lists side.now.one.now lists side.now.two.now v.items) }
 {
     let count = signal_total(side.form, 1);

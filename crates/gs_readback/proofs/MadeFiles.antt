@@ -5,11 +5,11 @@ use Rattle.std.specs.{Prelude.{flat_map}, Fmt.{decimal}, Str.{IsAscii}}
 use Rattle.toml.specs.{Data.{Data, string, integer, array, table, Items, no_items, item, Members, no_members, member}, Parse.{lines, parse_document, skip_bom}}
 use Rattle.toml.specs.{Tables.{Document, Expression, no_nodes, define, at_key, along_dots, along_header, close}, Text.{IsLinesText}}
 use Rattle.toml.proofs.{ReadLines.{AllPrinted, read_lines, run}, Turns.{document_some}}
-use Rattle.gs_file.specs.{Reading.{rules_of}, JsonForm.{ranking_text}, States.{IsRound, OneByOne, StatesGame}, Tables.{list_of}}
+use Rattle.gs_file.specs.{Reading.{file_rules}, JsonForm.{ranking_text}, States.{IsRound, OneByOne, StatesGame}, Tables.{array_items}}
 use Rattle.gs_file.proofs.States.{states_is}
 use Rattle.gs_game.specs.Refusals.{first_refusal}
 use Rattle.gs_made.proofs.Ascii.{ascii}
-use Rattle.gs_made.specs.{Made.{ante_of, head_text, ranking_of, round_text, rounds_of}, declared.kind.Kind.{Kind}}
+use Rattle.gs_made.specs.{Made.{ante_of, head_text, ranking_word, round_block, rounds_of}, declared.kind.Kind.{Kind}}
 use Rattle.gs_made.specs.declared.kind.Kind.TheVariants.{Kuhn, Leduc, Rhode}
 use Rattle.gs_readback.specs.MadeGames.{MadeFilesAreReadBack, game_for, ranking_for, round_for}
 use Rattle.gs_readback.proofs.Texts.{IsInRange, head_lines, head_written, round_lines, round_written}
@@ -39,21 +39,21 @@ ante_in Kuhn = (omega arith, omega arith)
 ante_in Leduc = (omega arith, omega arith)
 ante_in Rhode = (omega arith, omega arith)
 
-ranking_is : (kind : Kind) → ranking_of kind ≡ ranking_text (ranking_for kind)
+ranking_is : (kind : Kind) → ranking_word kind ≡ ranking_text (ranking_for kind)
 ranking_is Kuhn = refl
 ranking_is Leduc = refl
 ranking_is Rhode = refl
 
 -- the lines of all rounds
 rounds_written : (cap : ℕ) (rs : List (ℕ × ℕ × ℕ)) → cap ≤ 8 → AllInRange rs
-    → IsLinesText false true (flat_map (round_lines cap) rs) (flat_map (round_text cap) rs)
+    → IsLinesText false true (flat_map (round_lines cap) rs) (flat_map (round_block cap) rs)
 rounds_written cap [] small few = refl
-rounds_written cap (r ∷ rs) small few = round_written cap r (flat_map (round_text cap) rs) (flat_map (round_lines cap) rs) small few.0
+rounds_written cap (r ∷ rs) small few = round_written cap r (flat_map (round_block cap) rs) (flat_map (round_lines cap) rs) small few.0
     (rounds_written cap rs small few.1)
 
 -- the lines of a made file
 abbrev file_lines : Kind → (ranks suits : List ℕ) → ℕ → List Expression
-file_lines kind ranks suits cap = head_lines ranks suits (ranking_of kind) (ante_of kind) ++ flat_map (round_lines cap) (rounds_of kind)
+file_lines kind ranks suits cap = head_lines ranks suits (ranking_word kind) (ante_of kind) ++ flat_map (round_lines cap) (rounds_of kind)
 
 -- the table of a round, and of the file
 abbrev round_table : ℕ → ℕ × ℕ × ℕ → Data
@@ -66,7 +66,7 @@ items_of cap (r ∷ rs) = item (round_table cap r) (items_of cap rs)
 
 abbrev file_table : Kind → (ranks suits : List ℕ) → ℕ → Members
 file_table kind ranks suits cap =
-    member (codes "ante") (integer (pos (ante_of kind))) (member (codes "ranking") (string (ranking_of kind)) (member (codes "ranks") (string ranks)
+    member (codes "ante") (integer (pos (ante_of kind))) (member (codes "ranking") (string (ranking_word kind)) (member (codes "ranks") (string ranks)
     (member (codes "round") (array (items_of cap (rounds_of kind))) (member (codes "suits") (string suits)
     (member (codes "version") (integer (pos 1)) no_members)))))
 
@@ -97,7 +97,7 @@ lines_printed kind ranks suits cap = (
 )
 
 abbrev file_text : Kind → (ranks suits : List ℕ) → ℕ → List ℕ
-file_text kind ranks suits cap = head_text ranks suits (ranking_of kind) (ante_of kind) ++ flat_map (round_text cap) (rounds_of kind)
+file_text kind ranks suits cap = head_text ranks suits (ranking_word kind) (ante_of kind) ++ flat_map (round_block cap) (rounds_of kind)
 
 no_mark : (kind : Kind) (ranks suits : List ℕ) (cap : ℕ) → skip_bom (file_text kind ranks suits cap) ≡ file_text kind ranks suits cap
 unfolding skip_bom head_text
@@ -115,7 +115,7 @@ parsed kind ranks suits cap pr ps small =
     let bytes = file_text kind ranks suits cap in
     let ante = ante_in kind in
     let rounds = rounds_written cap (rounds_of kind) small (in_range kind) in
-    let written = head_written ranks suits (ranking_of kind) (ante_of kind) (flat_map (round_text cap) (rounds_of kind))
+    let written = head_written ranks suits (ranking_word kind) (ante_of kind) (flat_map (round_block cap) (rounds_of kind))
     (flat_map (round_lines cap) (rounds_of kind)) pr ps (ranking_plain kind) (omega (arith, ante)) rounds in
     let read = read_lines false false es bytes bytes (no_nodes, []) (suc (length bytes)) written (lines_printed kind ranks suits cap) refl (omega arith) in
     let (doc, ran, same) = document_of (run (no_nodes, []) es) (file_table kind ranks suits cap) (defined kind ranks suits cap) in
@@ -126,8 +126,8 @@ parsed kind ranks suits cap pr ps small =
 joined : (xs ys zs : List ℕ) → IsAscii xs → IsAscii ys → IsAscii zs → IsAscii (xs ++ (ys ++ zs))
 joined xs ys zs a b c = IsAscii-append xs (ys ++ zs) a (IsAscii-append ys zs b c)
 
-round_ascii : (cap : ℕ) (r : ℕ × ℕ × ℕ) → cap ≤ 8 → IsInRange r → IsAscii (round_text cap r)
-unfolding round_text
+round_ascii : (cap : ℕ) (r : ℕ × ℕ × ℕ) → cap ≤ 8 → IsInRange r → IsAscii (round_block cap r)
+unfolding round_block
 round_ascii cap r small few =
     let t_cap = decimal cap ++ codes "\n" in
     let t_bet = decimal r.2 ++ (codes "\ncap = " ++ t_cap) in
@@ -140,12 +140,12 @@ round_ascii cap r small few =
     (ascii (codes "\nbet = ") refl) a_bet in
     let a_private : IsAscii t_private = joined (decimal r.0) (codes "\npublic = ") t_public (IsAscii-decimal r.0 (omega (arith, few.private)))
     (ascii (codes "\npublic = ") refl) a_public in
-    let same : codes "\n[[round]]\nprivate = " ++ t_private ≡ round_text cap r = simp append_assoc refl in
+    let same : codes "\n[[round]]\nprivate = " ++ t_private ≡ round_block cap r = simp append_assoc refl in
     subst IsAscii same (IsAscii-append (codes "\n[[round]]\nprivate = ") t_private (ascii (codes "\n[[round]]\nprivate = ") refl) a_private)
 
-rounds_ascii : (cap : ℕ) (rs : List (ℕ × ℕ × ℕ)) → cap ≤ 8 → AllInRange rs → IsAscii (flat_map (round_text cap) rs)
+rounds_ascii : (cap : ℕ) (rs : List (ℕ × ℕ × ℕ)) → cap ≤ 8 → AllInRange rs → IsAscii (flat_map (round_block cap) rs)
 rounds_ascii cap [] small few = ascii [] refl
-rounds_ascii cap (r ∷ rs) small few = IsAscii-append (round_text cap r) (flat_map (round_text cap) rs) (round_ascii cap r small few.0)
+rounds_ascii cap (r ∷ rs) small few = IsAscii-append (round_block cap r) (flat_map (round_block cap) rs) (round_ascii cap r small few.0)
     (rounds_ascii cap rs small few.1)
 
 head_ascii : (ranks suits ranking : List ℕ) (ante : ℕ) → IsPlain ranks → IsPlain suits → IsPlain ranking → ante ≤ 4096
@@ -164,7 +164,7 @@ head_ascii ranks suits ranking ante pr ps pk small =
     subst IsAscii same (IsAscii-append (codes "version = 1\nranks = \"") t_ranks (ascii (codes "version = 1\nranks = \"") refl) a_ranks)
 
 -- the table states the game
-rounds_state : (cap : ℕ) (rs : List (ℕ × ℕ × ℕ)) → cap ≤ 8 → AllInRange rs → OneByOne IsRound (map (round_for cap) rs) (list_of (items_of cap rs))
+rounds_state : (cap : ℕ) (rs : List (ℕ × ℕ × ℕ)) → cap ≤ 8 → AllInRange rs → OneByOne IsRound (map (round_for cap) rs) (array_items (items_of cap rs))
 rounds_state cap [] small few = tt
 rounds_state cap (r ∷ rs) small few =
     let here = few.0 in (
@@ -188,7 +188,7 @@ rounds_state cap (r ∷ rs) small few =
       rounds_state cap rs small few.1,
     )
 
-states : (kind : Kind) (n m cap : ℕ) → 1 ≤ n → n ≤ 13 → 1 ≤ m → m ≤ 4 → cap ≤ 8 → first_refusal (rules_of (game_for kind n m cap)) ≡ None
+states : (kind : Kind) (n m cap : ℕ) → 1 ≤ n → n ≤ 13 → 1 ≤ m → m ≤ 4 → cap ≤ 8 → first_refusal (file_rules (game_for kind n m cap)) ≡ None
     → StatesGame (game_for kind n m cap) (file_table kind (ranks_text n) (suits_text m) cap)
 states kind n m cap ln hn lm hm small keeps =
     let ranks = ranks_are n ln hn in
@@ -203,7 +203,7 @@ states kind n m cap ln hn lm hm small keeps =
         good = no_fault n m (ranks_text n) (suits_text m) ranks suits ln hn lm hm;
         made = refl;
       };
-      ranking = (string (ranking_of kind), refl, ap Some (ranking_is kind));
+      ranking = (string (ranking_word kind), refl, ap Some (ranking_is kind));
       bonus = inl (refl, (integer (pos 1), refl, (refl, omega arith, omega arith)), refl);
       ante = (integer (pos (ante_of kind)), refl, (refl, ante.0, ante.1));
       rounds = (array (items_of cap (rounds_of kind)), refl, (items_of cap (rounds_of kind), refl, rounds_state cap (rounds_of kind) small (in_range kind)));
@@ -216,8 +216,8 @@ read_back kind n m cap ln hn lm hm small keeps =
     let suits = suits_are m lm hm in
     let text = file_text kind (ranks_text n) (suits_text m) cap in
     let ante = ante_in kind in
-    let is_ascii = IsAscii-append (head_text (ranks_text n) (suits_text m) (ranking_of kind) (ante_of kind)) (flat_map (round_text cap) (rounds_of kind))
-    (head_ascii (ranks_text n) (suits_text m) (ranking_of kind) (ante_of kind) ranks.plain suits.plain (ranking_plain kind) ante.1)
+    let is_ascii = IsAscii-append (head_text (ranks_text n) (suits_text m) (ranking_word kind) (ante_of kind)) (flat_map (round_block cap) (rounds_of kind))
+    (head_ascii (ranks_text n) (suits_text m) (ranking_word kind) (ante_of kind) ranks.plain suits.plain (ranking_plain kind) ante.1)
     (rounds_ascii cap (rounds_of kind) small (in_range kind)) in
     let utf8 = is_utf8-from_IsUtf8 text (IsUtf8-from_ascii text is_ascii) in
     states_is text (game_for kind n m cap) (

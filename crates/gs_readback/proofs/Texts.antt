@@ -4,7 +4,7 @@ use Rattle.std.proofs.lemmas.Fmt.{decimal_digit}
 use Rattle.std.specs.Fmt.{decimal, signed_decimal}
 use Rattle.toml_writer.specs.Text.{key_text, string_text}
 use Rattle.toml.specs.{Data.{Data, string, integer}, Tables.{Expression, key_value, array_table}, Text.{IsLinesText, IsValueText}}
-use Rattle.gs_made.specs.Made.{head_text, round_text}
+use Rattle.gs_made.specs.Made.{head_text, round_block}
 use Rattle.gs_readback.proofs.Words.{IsPlain}
 
 -- a line of a key and a value, before others
@@ -58,8 +58,8 @@ abbrev pair : List ℕ → ℕ → Expression
 pair k n = (([], k), key_value (integer (pos n)))
 
 pub round_written : (cap : ℕ) (r : ℕ × ℕ × ℕ) (rest : List ℕ) (es : List Expression) → cap ≤ 8 → IsInRange r → IsLinesText false true es rest
-    → IsLinesText false true (round_lines cap r ++ es) (round_text cap r ++ rest)
-unfolding round_text key_text
+    → IsLinesText false true (round_lines cap r ++ es) (round_block cap r ++ rest)
+unfolding round_block key_text
 round_written cap r rest es small few more =
     let e_cap = pair (codes "cap") cap ∷ es in
     let e_bet = pair (codes "bet") r.2 ∷ e_cap in

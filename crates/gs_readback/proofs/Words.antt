@@ -6,7 +6,7 @@ use Rattle.toml_writer.specs.Text.{string_text, encoding_of, escaped, needs_esca
 use Rattle.gs_model.proofs.Few.{from_one_to_four}
 use Rattle.gs_card.specs.{DeckFaults.{fault_of}, Decks.{repeats}}
 use Rattle.gs_made.proofs.Ascii.{ascii}
-use Rattle.gs_made.specs.{Made.{last, ranking_of}, declared.kind.Kind.{Kind}, declared.kind.Kind.TheVariants.{Kuhn, Leduc, Rhode}}
+use Rattle.gs_made.specs.{Made.{last, ranking_word}, declared.kind.Kind.{Kind}, declared.kind.Kind.TheVariants.{Kuhn, Leduc, Rhode}}
 
 -- a word that is written between quotes as it is
 pub record IsPlain (word : List ℕ) : Type 0 where
@@ -90,7 +90,7 @@ suits_are n low high = from_one_to_four (λ k. AreLetters k (suits_text k))
     n low high
 
 -- the word of each ranking
-pub ranking_plain : (kind : Kind) → IsPlain (ranking_of kind)
+pub ranking_plain : (kind : Kind) → IsPlain (ranking_word kind)
 unfolding string_text encoding_of escaped needs_escape quotes_after
 ranking_plain Kuhn = record { written = refl; is_ascii = ascii (codes "high") refl }
 ranking_plain Leduc = record { written = refl; is_ascii = ascii (codes "pair") refl }

@@ -1,9 +1,9 @@
 -- Why a game over classes is refused: the classes are not lossless, or the game in sequence form is too large.
 use Rattle.std.specs.Prelude.{◌≡◌, ℕ, List}
-use Rattle.gs_file.specs.Reading.{FileGame, rules_of}
+use Rattle.gs_file.specs.Reading.{FileGame, file_rules}
 use Rattle.gs_model.specs.{Classes.{ClassLists}, Lossless.{IsFirstUnlike, IsLossless}, Signals.{signal_at}}
-use Rattle.gs_seq.specs.{Stops.{IsStopOf}, declared.stop.SeqStop.TheVariants.{TooManySequences, TooManyCells}}
-use Rattle.gs_strategy.specs.Values.{frame_in}
+use Rattle.gs_seq.specs.{Stops.{IsUsualStop}, declared.stop.SeqStop.TheVariants.{TooManySequences, TooManyCells}}
+use Rattle.gs_strategy.specs.Values.{file_frame}
 use Rattle.gs_tree.specs.Texts.{signal_text}
 use Rattle.gs_reply.specs.{Refusals.{Limit, Sequences, Cells, Table_numbers, Raw_cells, Unlike_pair, Too_large}, Replies.{Reply, Refuses}}
 
@@ -11,15 +11,15 @@ use Rattle.gs_reply.specs.{Refusals.{Limit, Sequences, Cells, Table_numbers, Raw
 pub record IsUnlikePair (g : FileGame) (lists : ClassLists) (round : ℕ) (one two : List ℕ) : Type 0 where
   pub first : ℕ
   pub second : ℕ
-  pub unlike : IsFirstUnlike (frame_in g) lists round first second
-  pub not_lossless : IsLossless (frame_in g) lists → ⊥
-  pub first_text : one ≡ signal_text g.deck (signal_at (rules_of g) round first)
-  pub second_text : two ≡ signal_text g.deck (signal_at (rules_of g) round second)
+  pub unlike : IsFirstUnlike (file_frame g) lists round first second
+  pub not_lossless : IsLossless (file_frame g) lists → ⊥
+  pub first_text : one ≡ signal_text g.deck (signal_at (file_rules g) round first)
+  pub second_text : two ≡ signal_text g.deck (signal_at (file_rules g) round second)
 
 -- the limit is the first that the game in sequence form passes
 abbrev pub Passes : FileGame → ClassLists → Limit → Type 0
-Passes g lists (Sequences player count) = IsStopOf (frame_in g) lists (TooManySequences player count)
-Passes g lists (Cells count) = IsStopOf (frame_in g) lists (TooManyCells count)
+Passes g lists (Sequences player count) = IsUsualStop (file_frame g) lists (TooManySequences player count)
+Passes g lists (Cells count) = IsUsualStop (file_frame g) lists (TooManyCells count)
 Passes g lists (Table_numbers count) = ⊥
 Passes g lists (Raw_cells count) = ⊥
 

@@ -4,8 +4,8 @@ ghost use Rattle.std.specs.{Prelude.{◌≡◌, ◌++◌, IfOk, codes}, Fmt.{dec
 ghost use Rattle.gs_file.specs.Reading.{FileGame};
 ghost use Rattle.gs_model.specs.Classes.{ClassLists};
 ghost use Rattle.gs_reply.specs.{Refusals.{Overflows, At_step, At_total, Many_pivots, Too_large, Sequences, Cells, Table_numbers, Raw_cells}, Replies.{Answers, Tells}, Troubles.{SaysLarge}};
-ghost use Rattle.gs_seq.specs.Stops.{IsStopOf};
-ghost use Rattle.gs_strategy.specs.Values.{frame_in};
+ghost use Rattle.gs_seq.specs.Stops.{IsUsualStop};
+ghost use Rattle.gs_strategy.specs.Values.{file_frame};
 
 use crate::answers::{Answer, Cause};
 use gs_seq::SeqStop;
@@ -84,7 +84,7 @@ pub fn many_cells(alloc: Global, count: u64) -> Result<Answer, AllocError>
 
 /// Returns the refusal of a game whose sequence form passes a limit.
 pub fn too_large(alloc: Global, stop: SeqStop) -> Result<Answer, AllocError>
-    ensures { IfOk result (λ a. (g : FileGame) (lists : ClassLists) → IsStopOf (frame_in g) lists stop → Answers (SaysLarge g lists) a) }
+    ensures { IfOk result (λ a. (g : FileGame) (lists : ClassLists) → IsUsualStop (file_frame g) lists stop → Answers (SaysLarge g lists) a) }
 {
     match stop {
         SeqStop::TooManySequences { player, count } => many_sequences(alloc, player, count),

@@ -6,7 +6,7 @@ use Rattle.gs_reply.specs.Refusals.{Refusal, Bad_game, Unlike_pair, Overflows, M
 use Rattle.gs_reply.specs.Replies.{Reply, Prints, Refuses}
 use Rattle.gs_words.specs.{Requests.{request_of}, Tasks.{Task, Solve}}
 use Rattle.gs_run.proofs.{Answered.{one_task}, Concluded.{concludes}, Meant.{means_of, solution_of}, Theorem.{asked_for}}
-use Rattle.gs_run.specs.{InMemory.{DoesInMemory, Fits, GivesReply, GivesSo}, Running.{long_line, most_bytes, usage_line}, Statuses.{status_of}}
+use Rattle.gs_run.specs.{InMemory.{DoesInMemory, FitsLimit, GivesReply, GivesOutcome}, Running.{long_line, most_bytes, usage_line}, Statuses.{status_of}}
 use Rattle.gs_run.specs.declared.status.Status.{Status}
 use Rattle.gs_run.specs.declared.status.Status.TheVariants as status
 
@@ -16,9 +16,9 @@ asks_none : (words : List (List ℕ)) (task : Task) → request_of words ≡ Som
 asks_none words task is none = let e : Some task ≡ None = sym is ∙ none in cc
 
 fits_not : (words : List (List ℕ)) (task other : Task) (input : List ℕ) → request_of words ≡ Some task → request_of words ≡ Some other → reads other ≡ true
-    → Fits (reads task) input → most_bytes < length input → ⊥
+    → FitsLimit (reads task) input → most_bytes < length input → ⊥
 fits_not words task other input is asked r fits long =
-    let few : length input ≤ most_bytes = subst (λ (b : Bool). Fits b input) (ap reads (one_task words task other is asked) ∙ r) fits in
+    let few : length input ≤ most_bytes = subst (λ (b : Bool). FitsLimit b input) (ap reads (one_task words task other is asked) ∙ r) fits in
     omega arith
 
 -- the status of a refusal is none of those that are no refusal of an input
@@ -70,7 +70,7 @@ says_of : (words : List (List ℕ)) (task other : Task) (input : List ℕ) (repl
     → Asks task input reply → Asks other input reply
 says_of words task other input reply is asked says = subst (λ (t : Task). Asks t input reply) (one_task words task other is asked) says
 
-printed : (words : List (List ℕ)) (input : List ℕ) (task : Task) (text : List ℕ) → request_of words ≡ Some task → Fits (reads task) input
+printed : (words : List (List ℕ)) (input : List ℕ) (task : Task) (text : List ℕ) → request_of words ≡ Some task → FitsLimit (reads task) input
     → Asks task input (Prints text) → DoesInMemory words input status.Ok text []
 printed words input task text is few says = record {
   takes_words = λ other a e. cc;
@@ -89,7 +89,7 @@ printed words input task text is few says = record {
       (answers_one other input (Prints text) reply (says_of words task other input (Prints text) is asked says) said) (refl, refl, refl);
 }
 
-refused : (words : List (List ℕ)) (input : List ℕ) (task : Task) (why : Refusal) → request_of words ≡ Some task → Fits (reads task) input
+refused : (words : List (List ℕ)) (input : List ℕ) (task : Task) (why : Refusal) → request_of words ≡ Some task → FitsLimit (reads task) input
     → Asks task input (Refuses why) → DoesInMemory words input (status_of (cause_of why)) [] (line_of why)
 refused words input task why is few says =
     let apart = is_refusal why in
@@ -118,13 +118,13 @@ given_as words input s t printed text told line a b c h =
     (subst (λ (x : List ℕ). DoesInMemory words input t x told) (sym b) (subst (λ (x : List ℕ). DoesInMemory words input t text x) (sym c) h))
 
 replied : (words : List (List ℕ)) (input : List ℕ) (s : Status) (printed_text told : List ℕ) (task : Task) (reply : Reply) → request_of words ≡ Some task
-    → Fits (reads task) input → Asks task input reply → GivesReply reply s printed_text told → DoesInMemory words input s printed_text told
+    → FitsLimit (reads task) input → Asks task input reply → GivesReply reply s printed_text told → DoesInMemory words input s printed_text told
 replied words input s out told task (Prints text) is few says gives =
     given_as words input s status.Ok out text told [] gives.0 gives.1 gives.2 (printed words input task text is few says)
 replied words input s out told task (Refuses why) is few says gives =
     given_as words input s (status_of (cause_of why)) out [] told (line_of why) gives.0 gives.1 gives.2 (refused words input task why is few says)
 
-pub does_in_memory : (words : List (List ℕ)) (input : List ℕ) (s : Status) (printed told : List ℕ) → GivesSo words input s printed told
+pub does_in_memory : (words : List (List ℕ)) (input : List ℕ) (s : Status) (printed told : List ℕ) → GivesOutcome words input s printed told
     → DoesInMemory words input s printed told
 does_in_memory words input s out told (inl h) = given_as words input s status.Usage out [] told usage_line h.1 h.2 h.3 (usage words input h.0)
 does_in_memory words input s out told (inr (task, is, inl h)) =

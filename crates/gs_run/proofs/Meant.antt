@@ -4,10 +4,11 @@ use Rattle.std.proofs.lemmas.Bool.{cases_Bool}
 use Rattle.gs_answer.specs.{Asking.{Asks}, Making.{Makes}}
 use Rattle.gs_certificate.specs.{Texts.{certificate_text}, Views.{certificate_view}}
 use Rattle.gs_certify.specs.{Certificates.{IsCertified, SaysCertified}, Verifying.{SaysVerified}}
-use Rattle.gs_compare.specs.{Commands.{OnRawCards, SaysDuel, SaysHands, SaysJudged}, Judging.{AreHands, hands_text, plan_in}}
+use Rattle.gs_compare.specs.{Commands.{OnRawCards, SaysDuel, SaysHands, SaysJudged}, Judging.{AreHandValues, hands_text, plan_in}}
 use Rattle.gs_confirm.specs.{Commands.{OfConfirmed, OfStrategy, SaysNumbers, SaysQueried, SaysUpgraded}, Queries.{IsQueried}}
 use Rattle.gs_file.proofs.States.{states_ok}
-use Rattle.gs_file.specs.{Faults.{Fault}, Reading.{FileGame, read_at, rules_of}, declared.version.Version.{Version}, declared.version.Version.TheVariants.{Two}}
+use Rattle.gs_file.specs.{Faults.{Fault}, Reading.{FileGame, read_at, file_rules}, declared.version.Version.{Version}}
+use Rattle.gs_file.specs.declared.version.Version.TheVariants.{Two}
 use Rattle.gs_group.specs.{Checking.{ChecksGame, IsChecked, IsGrouping}, Shrinking.{IsShrunk, ShrinksGame}}
 use Rattle.gs_json.specs.FirstLine.{first_line}
 use Rattle.gs_laws.proofs.{RawSequences.{hands_weigh}, Strategies.{printed_raw, printed_strategy, reads_strategy, strategies_raw}}
@@ -16,12 +17,13 @@ use Rattle.gs_model.specs.{Classes.{ClassLists}, Plans.{lift}, Play.{IsFictitiou
 use Rattle.gs_reply.specs.{Replies.{OfFile, OfRead, OfReading, Reply, Prints}, declared.strategies.Which.TheVariants.{Only, First, Second}}
 use Rattle.gs_reply.specs.VerdictText.{verdict_text}
 use Rattle.gs_seq.specs.{Slots.{plan_of}, declared.plan.Plan.{Plan}}
-use Rattle.gs_settle.specs.{Paths.{IsPathShown, ShowsPath}, Playing.{IsPlayed, Plays}, Settling.{OfGrouping}, Solving.{IsSolved, Solves}, Texts.{IsTextOf}}
+use Rattle.gs_settle.specs.{Paths.{IsPathShown, ShowsPath}, Playing.{IsPlayed, Plays}, Settling.{OfGrouping}, Solving.{IsSolved, Solves}, Texts.{IsSettledText}}
 use Rattle.gs_strategy.specs.{Checks.{ReadResult, Reads}, Confirmed.{IsConfirmed, over, raw_plan}, Laws.{IsStrategy}, Texts.{strategy_text}}
-use Rattle.gs_strategy.specs.{Values.{FractionParts, Numbers, Strategy, Weights, frame_in}, Views.{weights_of}}
+use Rattle.gs_strategy.specs.{Values.{FractionParts, Numbers, Strategy, Weights, file_frame}, Views.{weights_of}}
 use Rattle.gs_words.specs.Tasks.{Task, Shrink, Check, Make, Evaluate, Query, Upgrade, Judge, Duel, Certify, Verify, Solve, Play, Path}
 use Rattle.gs_words.specs.declared.request.Grouping.{Grouping}
-use Rattle.gs_run.specs.Meanings.{AreOnRawCards, IsDuelled, IsJudged, IsPlayedOut, IsStrategyFile, Means, OfCertifiedFile, OfGameFile, OfStrategyFile, OfTwoFiles, OverLossless, ShowsSolution}
+use Rattle.gs_run.specs.Meanings.{AreOnRawCards, IsDuelled, IsJudgedText, IsPlayedOut, IsStrategyFile, Means, OfCertifiedFile, OfGameFile, OfStrategyFile}
+use Rattle.gs_run.specs.Meanings.{OfTwoFiles, OverLossless, ShowsSolution}
 
 -- ---- texts
 
@@ -53,12 +55,12 @@ of_grouping grouping says g text (inr (lists, grouped, lossless, inr h)) =
 -- ---- printed strategies
 
 strategy_file : (grouping : Grouping) (says : Strategy → Type 0) (bytes : List ℕ) (g : FileGame) (lists : ClassLists) (one two : Plan) (text : List ℕ)
-    → read_at bytes ≡ Ok g → IsGrouping grouping (rules_of g) lists → (t : IsTextOf g lists one two text) → says t.strategy
+    → read_at bytes ≡ Ok g → IsGrouping grouping (file_rules g) lists → (t : IsSettledText g lists one two text) → says t.strategy
     → IsStrategyFile grouping says g text
 strategy_file grouping says bytes g lists one two text e grouped t h = record {
   strategy = t.strategy;
   game = t.game;
-  grouped = subst (λ (x : ClassLists). IsGrouping grouping (rules_of g) x) (sym t.classes) grouped;
+  grouped = subst (λ (x : ClassLists). IsGrouping grouping (file_rules g) x) (sym t.classes) grouped;
   is = printed_strategy bytes g lists one two text e t;
   raw = printed_raw bytes g lists one two text e t;
   confirmed = t.confirmed;
@@ -78,17 +80,17 @@ solved grouping bytes g text e h =
 
 -- the plans of the play are those of the strategy
 played_out : (turns : ℕ) (g : FileGame) (lists : ClassLists) (a b : Weights) (s : Strategy) → s.game ≡ g → s.classes ≡ lists → s.one ≡ a → s.two ≡ b
-    → IsFictitiousPlay (frame_in g) lists turns (plan_of (frame_in g) lists a.total a.weights) (plan_of (frame_in g) lists b.total b.weights)
+    → IsFictitiousPlay (file_frame g) lists turns (plan_of (file_frame g) lists a.total a.weights) (plan_of (file_frame g) lists b.total b.weights)
     → IsPlayedOut turns s
 played_out turns g lists a b s e1 e2 e3 e4 h =
-    subst (λ (x : FileGame). IsFictitiousPlay (frame_in x) s.classes turns (plan_of (frame_in x) s.classes s.one.total s.one.weights)
-    (plan_of (frame_in x) s.classes s.two.total s.two.weights)) (sym e1)
-    (subst (λ (x : ClassLists). IsFictitiousPlay (frame_in g) x turns (plan_of (frame_in g) x s.one.total s.one.weights)
-    (plan_of (frame_in g) x s.two.total s.two.weights)) (sym e2)
-    (subst (λ (x : Weights). IsFictitiousPlay (frame_in g) lists turns (plan_of (frame_in g) lists x.total x.weights)
-    (plan_of (frame_in g) lists s.two.total s.two.weights)) (sym e3)
-    (subst (λ (x : Weights). IsFictitiousPlay (frame_in g) lists turns (plan_of (frame_in g) lists a.total a.weights)
-    (plan_of (frame_in g) lists x.total x.weights)) (sym e4) h)))
+    subst (λ (x : FileGame). IsFictitiousPlay (file_frame x) s.classes turns (plan_of (file_frame x) s.classes s.one.total s.one.weights)
+    (plan_of (file_frame x) s.classes s.two.total s.two.weights)) (sym e1)
+    (subst (λ (x : ClassLists). IsFictitiousPlay (file_frame g) x turns (plan_of (file_frame g) x s.one.total s.one.weights)
+    (plan_of (file_frame g) x s.two.total s.two.weights)) (sym e2)
+    (subst (λ (x : Weights). IsFictitiousPlay (file_frame g) lists turns (plan_of (file_frame g) lists x.total x.weights)
+    (plan_of (file_frame g) lists s.two.total s.two.weights)) (sym e3)
+    (subst (λ (x : Weights). IsFictitiousPlay (file_frame g) lists turns (plan_of (file_frame g) lists a.total a.weights)
+    (plan_of (file_frame g) lists x.total x.weights)) (sym e4) h)))
 
 played : (turns : ℕ) (grouping : Grouping) (bytes : List ℕ) (g : FileGame) (text : List ℕ) → read_at bytes ≡ Ok g
     → OfGrouping grouping (Plays turns) g (Prints text) → IsStrategyFile grouping (IsPlayedOut turns) g text
@@ -142,18 +144,18 @@ on_raw_cards : (says : Numbers → Reply → Type 0) (one two : Strategy) (text 
 on_raw_cards says one two text same (inl h) =
     let n = h.1.0 in
     let j = h.1.1 in
-    let verdict = subst (λ (g : FileGame). IsVerdict (frame_in one.game) (raw_plan one one.one) (lift (frame_in g) two.classes (plan_in two two.two))
+    let verdict = subst (λ (g : FileGame). IsVerdict (file_frame one.game) (raw_plan one one.one) (lift (file_frame g) two.classes (plan_in two two.two))
     (over n.value) (over n.gap1) (over n.gap2)) same j.verdict in
     (n, record { few = h.0; fractions = record { value = j.value; gap1 = j.gap1; gap2 = j.gap2 }; verdict = verdict }, h.1.2)
 on_raw_cards says one two text same (inr h) = let bad = h.1 in cc
 
-judged : (s : Strategy) (text : List ℕ) → SaysJudged s (Prints text) → IsJudged s text
+judged : (s : Strategy) (text : List ℕ) → SaysJudged s (Prints text) → IsJudgedText s text
 judged s text h =
     let r = on_raw_cards (λ n reply. reply ≡ Prints (verdict_text n)) s s text refl h in
     (r.0, r.1, sym (text_is text (verdict_text r.0) r.2))
 
-of_judged : (bytes text : List ℕ) (read : ReadResult) → Reads bytes read → OfRead Only SaysJudged read (Prints text) → OfStrategyFile IsJudged bytes text
-of_judged bytes text (Ok s) reads h = of_strategy IsJudged bytes text s reads (judged s text h)
+of_judged : (bytes text : List ℕ) (read : ReadResult) → Reads bytes read → OfRead Only SaysJudged read (Prints text) → OfStrategyFile IsJudgedText bytes text
+of_judged bytes text (Ok s) reads h = of_strategy IsJudgedText bytes text s reads (judged s text h)
 of_judged bytes text (Err why) reads h = cc
 
 -- ---- two files
@@ -171,12 +173,12 @@ both_written : (bytes one two : List ℕ) → (first_line bytes).0 ≡ one → (
 both_written bytes one two a b = sym (joined bytes) ∙ (ap (λ (x : List ℕ). x ++ (first_line bytes).1) a ∙ ap (λ (y : List ℕ). one ++ y) b)
 
 abbrev hand_lines : Strategy → Numbers → List FractionParts → List ℕ
-hand_lines one n hands = verdict_text n ++ hands_text one.game.deck (rules_of one.game) hands
+hand_lines one n hands = verdict_text n ++ hands_text one.game.deck (file_rules one.game) hands
 
 duelled : (version : Version) (one two : Strategy) (text : List ℕ) → IsStrategy version one → one.game ≡ two.game → SaysHands one two (Prints text)
     → IsDuelled one two text
 duelled version one two text is same h =
-    let r = on_raw_cards (λ n reply. (hands : List FractionParts) × AreHands one two hands × (reply ≡ Prints (hand_lines one n hands))) one two text same h in
+    let r = on_raw_cards (λ n reply. (hands : List FractionParts) × AreHandValues one two hands × (reply ≡ Prints (hand_lines one n hands))) one two text same h in
     let dealt = λ (signal : ℕ). hands_weigh version one.game signal is.written.game in
     (r.0, r.1, dealt, (r.2.0, r.2.1, sym (text_is text (hand_lines one r.0 r.2.0) r.2.2)))
 

@@ -5,7 +5,7 @@ use Rattle.gs_certificate.specs.declared.certificate.Certificate.{Certificate}
 use Rattle.gs_certify.specs.{Certificates.{SaysCertified}, Verifying.{SaysChecked}}
 use Rattle.gs_compare.specs.Commands.{SaysDuel, SaysJudged}
 use Rattle.gs_confirm.specs.Commands.{OfConfirmed, SaysNumbers, SaysQueried, SaysUpgraded}
-use Rattle.gs_file.specs.{Reading.{FileGame, rules_of}, States.{FileStates}, declared.version.Version.{Version}}
+use Rattle.gs_file.specs.{Reading.{FileGame, file_rules}, States.{FileStates}, declared.version.Version.{Version}}
 use Rattle.gs_made.specs.Made.{made_game}
 use Rattle.gs_model.specs.{Classes.{ClassLists}, Frame.{frame_of}, Lossless.{IsLossless}, SignalClasses.{IsSignalClasses}}
 use Rattle.gs_reply.specs.{Refusals.{Refusal, cause_of}, Replies.{Reply, Prints, Refuses}}
@@ -29,8 +29,8 @@ EndsWell s = (s ≡ status.Ok) ⊎ (s ≡ status.Memory)
 -- the signal classes of the game are not lossless
 pub record AreUnlike (g : FileGame) : Type 0 where
   pub classes : ClassLists
-  pub are : IsSignalClasses (rules_of g) classes
-  pub not_lossless : IsLossless (frame_of (rules_of g)) classes → ⊥
+  pub are : IsSignalClasses (file_rules g) classes
+  pub not_lossless : IsLossless (frame_of (file_rules g)) classes → ⊥
 
 -- the run ends well or out of memory; or it refuses the game because its signal classes, which were asked for, are not lossless
 abbrev pub EndsChecked : Grouping → FileGame → Status → Type 0

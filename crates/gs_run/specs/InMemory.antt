@@ -8,9 +8,9 @@ use Rattle.gs_run.specs.declared.status.Status.{Status}
 use Rattle.gs_run.specs.declared.status.Status.TheVariants as status
 
 -- the input is within the limit, if the task reads one
-abbrev pub Fits : Bool → List ℕ → Type 0
-Fits true input = length input ≤ most_bytes
-Fits false input = Unit {0}
+abbrev pub FitsLimit : Bool → List ℕ → Type 0
+FitsLimit true input = length input ≤ most_bytes
+FitsLimit false input = Unit {0}
 
 -- the reply was given: at status 0 its text and no line, or at the status of the refusal its line and no text
 abbrev pub GivesReply : Reply → Status → List ℕ → List ℕ → Type 0
@@ -23,11 +23,11 @@ GivesAnswer task input s printed told = (reply : Reply) × Asks task input reply
 
 -- Words that are no request get the usage line. An input that is too long gets the line that refuses it. In all other cases the outcome is a reply that the
 -- task's definition gives for the input.
-abbrev pub GivesSo : List (List ℕ) → List ℕ → Status → List ℕ → List ℕ → Type 0
-GivesSo words input s printed told =
+abbrev pub GivesOutcome : List (List ℕ) → List ℕ → Status → List ℕ → List ℕ → Type 0
+GivesOutcome words input s printed told =
     ((request_of words ≡ None) × (s ≡ status.Usage) × (printed ≡ []) × (told ≡ usage_line))
     ⊎ Asked words (λ task. ((reads task ≡ true) × (most_bytes < length input) × (s ≡ status.TooLong) × (printed ≡ []) × (told ≡ long_line))
-    ⊎ (Fits (reads task) input × GivesAnswer task input s printed told))
+    ⊎ (FitsLimit (reads task) input × GivesAnswer task input s printed told))
 
 -- what the program does with words and bytes in memory: its status, what it prints to stdout and what it tells on stderr
 pub record DoesInMemory (words : List (List ℕ)) (input : List ℕ) (s : Status) (printed told : List ℕ) : Type 0 where
@@ -42,9 +42,10 @@ pub record DoesInMemory (words : List (List ℕ)) (input : List ℕ) (s : Status
   -- at every other status it prints nothing
   pub quiet : s ≢ status.Ok → printed ≡ []
   -- over valid input it ends as the table of endings says, and never out of memory
-  pub ends : (task : Task) → AskFor words task → Fits (reads task) input → Concludes task input s × (s ≢ status.Memory)
+  pub ends : (task : Task) → AskFor words task → FitsLimit (reads task) input → Concludes task input s × (s ≢ status.Memory)
   -- an input that is too long is refused
   pub too_long : (task : Task) → request_of words ≡ Some task → reads task ≡ true → most_bytes < length input
       → (s ≡ status.TooLong) × (printed ≡ []) × (told ≡ long_line)
   -- if the task's definition gives a reply for the input, the outcome is this reply
-  pub decided : (task : Task) (reply : Reply) → request_of words ≡ Some task → Fits (reads task) input → Asks task input reply → GivesReply reply s printed told
+  pub decided : (task : Task) (reply : Reply) → request_of words ≡ Some task → FitsLimit (reads task) input → Asks task input reply
+      → GivesReply reply s printed told

@@ -2,9 +2,9 @@
 use Rattle.std.specs.Prelude.{◌≡◌, ℕ, ◌<◌, ◌≤◌, ◌++◌, ◌∷◌, List, pos, Some, false, true, IsTrue}
 use Rattle.gs_certificate.specs.{Texts.{certificate_text}, Views.{certificate_view}, declared.certificate.Certificate.{Certificate}}
 use Rattle.gs_certify.specs.{Certificates.{IsCertified}, Verifying.{IsVerified}}
-use Rattle.gs_compare.specs.Judging.{AreHands, hands_text}
+use Rattle.gs_compare.specs.Judging.{AreHandValues, hands_text}
 use Rattle.gs_confirm.specs.Queries.{IsQueried}
-use Rattle.gs_file.specs.{Reading.{FileGame, rules_of}, States.{FileStates}, declared.version.Version.{Version}, declared.version.Version.TheVariants.{Two}}
+use Rattle.gs_file.specs.{Reading.{FileGame, file_rules}, States.{FileStates}, declared.version.Version.{Version}, declared.version.Version.TheVariants.{Two}}
 use Rattle.gs_group.specs.{Checking.{IsChecked, IsGrouping}, Shrinking.{IsShrunk}}
 use Rattle.gs_laws.specs.Lawful.{AreRawPlans}
 use Rattle.gs_made.specs.Made.{made_game}
@@ -14,7 +14,7 @@ use Rattle.gs_raw.specs.Cells.{raw_cell_count}
 use Rattle.gs_seq.specs.{Slots.{plan_of}, Stops.{IsSmall}}
 use Rattle.gs_settle.specs.{Paths.{IsPathShown}, Solving.{IsSolved}}
 use Rattle.gs_strategy.specs.{Confirmed.{IsConfirmed, over, raw_plan}, Laws.{AreFractions, IsStrategy}, Texts.{strategy_text}}
-use Rattle.gs_strategy.specs.Values.{FractionParts, Numbers, Strategy, frame_in}
+use Rattle.gs_strategy.specs.Values.{FractionParts, Numbers, Strategy, file_frame}
 use Rattle.gs_reply.specs.VerdictText.{verdict_text}
 use Rattle.gs_words.specs.{Commands.{entry_of}, Plain.{Given, are_plain, given_for, option_words}, Requests.{task_for}}
 use Rattle.gs_words.specs.Tasks.{Task, Shrink, Check, Make, Evaluate, Query, Upgrade, Judge, Duel, Certify, Verify, Solve, Play, Path}
@@ -45,7 +45,7 @@ pub record OfGameFile (says : FileGame → List ℕ → Type 0) (bytes text : Li
 pub record IsStrategyFile (grouping : Grouping) (says : Strategy → Type 0) (g : FileGame) (text : List ℕ) : Type 0 where
   pub strategy : Strategy
   pub game : strategy.game ≡ g
-  pub grouped : IsGrouping grouping (rules_of g) strategy.classes
+  pub grouped : IsGrouping grouping (file_rules g) strategy.classes
   pub is : IsStrategy Two strategy
   pub raw : AreRawPlans strategy strategy
   pub confirmed : IsConfirmed strategy
@@ -54,15 +54,15 @@ pub record IsStrategyFile (grouping : Grouping) (says : Strategy → Type 0) (g 
 
 -- the plans are those after this many turns of fictitious play
 abbrev pub IsPlayedOut : ℕ → Strategy → Type 0
-IsPlayedOut turns s = IsFictitiousPlay (frame_in s.game) s.classes turns (plan_of (frame_in s.game) s.classes s.one.total s.one.weights)
-    (plan_of (frame_in s.game) s.classes s.two.total s.two.weights)
+IsPlayedOut turns s = IsFictitiousPlay (file_frame s.game) s.classes turns (plan_of (file_frame s.game) s.classes s.one.total s.one.weights)
+    (plan_of (file_frame s.game) s.classes s.two.total s.two.weights)
 
 -- the classes of the grouping are lossless, the game over them keeps the limits, and `says` holds of the game, the classes and the text
 pub record OverLossless (grouping : Grouping) (says : FileGame → ClassLists → List ℕ → Type 0) (g : FileGame) (text : List ℕ) : Type 0 where
   pub classes : ClassLists
-  pub grouped : IsGrouping grouping (rules_of g) classes
-  pub lossless : IsLossless (frame_in g) classes
-  pub small : IsSmall (frame_in g) classes
+  pub grouped : IsGrouping grouping (file_rules g) classes
+  pub lossless : IsLossless (file_frame g) classes
+  pub small : IsSmall (file_frame g) classes
   pub said : says g classes text
 
 -- ---- strategy files
@@ -80,20 +80,20 @@ pub record OfStrategyFile (says : Strategy → List ℕ → Type 0) (bytes text 
 -- The numbers are the value and both gaps of player 1's plan of one strategy against player 2's of another, as reduced fractions. Each plan is over the
 -- classes of its own strategy. No raw plan of a player gains more than the gap, and some raw plan gains it. The game has at most 16,777,216 raw cells.
 pub record AreOnRawCards (one two : Strategy) (n : Numbers) : Type 0 where
-  pub few : raw_cell_count (frame_in one.game) ≤ 16777216
+  pub few : raw_cell_count (file_frame one.game) ≤ 16777216
   pub fractions : AreFractions n
-  pub verdict : IsVerdict (frame_in one.game) (raw_plan one one.one) (raw_plan two two.two) (over n.value) (over n.gap1) (over n.gap2)
+  pub verdict : IsVerdict (file_frame one.game) (raw_plan one one.one) (raw_plan two two.two) (over n.value) (over n.gap1) (over n.gap2)
 
 -- the text is the three lines of value and gaps of the strategy's own two plans
-abbrev pub IsJudged : Strategy → List ℕ → Type 0
-IsJudged s text = (n : Numbers) × AreOnRawCards s s n × (text ≡ verdict_text n)
+abbrev pub IsJudgedText : Strategy → List ℕ → Type 0
+IsJudgedText s text = (n : Numbers) × AreOnRawCards s s n × (text ≡ verdict_text n)
 
 -- The text gives the value and gaps of player 1's plan of the first strategy against player 2's of the second. Then it has a line for each raw signal of
 -- round 1 with its value to player 1. Each of these signals is dealt.
 abbrev pub IsDuelled : Strategy → Strategy → List ℕ → Type 0
 IsDuelled one two text = (n : Numbers) × AreOnRawCards one two n
-    × ((signal : ℕ) → signal < signal_count (frame_in one.game) 1 → 0 < hand_weight (frame_in one.game) signal)
-    × ((hands : List FractionParts) × AreHands one two hands × (text ≡ verdict_text n ++ hands_text one.game.deck (rules_of one.game) hands))
+    × ((signal : ℕ) → signal < signal_count (file_frame one.game) 1 → 0 < hand_weight (file_frame one.game) signal)
+    × ((hands : List FractionParts) × AreHandValues one two hands × (text ≡ verdict_text n ++ hands_text one.game.deck (file_rules one.game) hands))
 
 -- The bytes are two strategy files of one game, one after the other, each in version 1 or 2. Player 1's plan of the first and player 2's plan of the
 -- second stand for raw plans. And `says` holds of the two strategies and the text.
@@ -132,7 +132,7 @@ Means (Path grouping) = OfGameFile (OverLossless grouping IsPathShown)
 Means Evaluate = OfStrategyFile (λ s text. IsConfirmed s × (text ≡ verdict_text s.numbers))
 Means (Query player line signal) = OfStrategyFile (λ s text. IsConfirmed s × IsQueried s player line signal text)
 Means Upgrade = OfStrategyFile (λ s text. IsConfirmed s × (text ≡ strategy_text Two s))
-Means Judge = OfStrategyFile IsJudged
+Means Judge = OfStrategyFile IsJudgedText
 Means Duel = OfTwoFiles IsDuelled
 Means Certify = OfStrategyFile (λ s text. IsConfirmed s × IsCertified s text)
 Means Verify = OfCertifiedFile

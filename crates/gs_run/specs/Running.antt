@@ -61,8 +61,8 @@ abbrev pub Quiet : Ends → Ends → Type 0
 Quiet old new = (new.given ≡ old.given) × (new.write_faults ≡ old.write_faults)
 
 -- stderr received the line, or a prefix of it if a write failed
-abbrev pub Tells : Ends → Ends → List ℕ → Type 0
-Tells old new line = TellsTo old.told old.tell_faults new.told new.tell_faults line
+abbrev pub TellsLine : Ends → Ends → List ℕ → Type 0
+TellsLine old new line = TellsTo old.told old.tell_faults new.told new.tell_faults line
 
 -- nothing was written to stderr, and no write to it failed
 abbrev pub Silent : Ends → Ends → Type 0
@@ -80,7 +80,7 @@ pub record IsRefused (task : Task) (old new : Ends) (s : Status) : Type 0 where
   pub answered : IsAnswered task old new (Refuses why)
   pub status : status_of (cause_of why) ≡ s
   pub quiet : Quiet old new
-  pub told : Tells old new (line_of why)
+  pub told : TellsLine old new (line_of why)
 
 -- a prefix of the source was taken, at most one byte more than the limit; nothing was taken unless the words ask for a task that reads it
 pub record TookInput (words : List (List ℕ)) (old new : Ends) : Type 0 where
@@ -105,17 +105,17 @@ RunsTo words old new status.Ok =
     Asked words (λ task. ((text : List ℕ) × IsAnswered task old new (Prints text) × Appends old.given new.given text)
     × (new.write_faults ≡ old.write_faults) × Silent old new)
 RunsTo words old new status.Usage =
-    (request_of words ≡ None) × Unread old new × Quiet old new × Tells old new usage_line
+    (request_of words ≡ None) × Unread old new × Quiet old new × TellsLine old new usage_line
 RunsTo words old new status.ReadFault =
     Asked words (λ task. (reads task ≡ true) × (TookPrefix (most_bytes + 1) old.left new.left × Rose old.read_faults new.read_faults) × Quiet old new
-    × Tells old new (codes "read fault\n"))
+    × TellsLine old new (codes "read fault\n"))
 RunsTo words old new status.TooLong =
     Asked words (λ task. (reads task ≡ true) × ((bytes : List ℕ) × Consumes old.left new.left bytes × (length bytes ≡ most_bytes + 1))
-    × (new.read_faults ≡ old.read_faults) × Quiet old new × Tells old new long_line)
+    × (new.read_faults ≡ old.read_faults) × Quiet old new × TellsLine old new long_line)
 RunsTo words old new status.Memory =
-    TookInput words old new × (new.read_faults ≡ old.read_faults) × Quiet old new × Tells old new memory_line
+    TookInput words old new × (new.read_faults ≡ old.read_faults) × Quiet old new × TellsLine old new memory_line
 RunsTo words old new status.WriteFault =
     Asked words (λ task. ((text : List ℕ) × IsAnswered task old new (Prints text)
     × ((count : ℕ) × (count < length text) × Appends old.given new.given (take count text)))
-    × Rose old.write_faults new.write_faults × Tells old new (codes "write fault\n"))
+    × Rose old.write_faults new.write_faults × TellsLine old new (codes "write fault\n"))
 RunsTo words old new s = Asked words (λ task. IsRefused task old new s)

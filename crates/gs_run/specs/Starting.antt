@@ -1,7 +1,7 @@
 -- What the process does with its real stdin, stdout and stderr. No contract of std says what the words of the command line are, or which bytes a terminal,
 -- pipe or file gives and takes. So the words are some words here, and clauses about bytes say something only of ends that tell their bytes.
 use Rattle.std.specs.Prelude.{◌≡◌, ◌⊎◌, ℕ, List}
-use Rattle.gs_run.specs.{Running.{Ends, Quiet, RunsTo, Tells, Unread, memory_line, usage_line}, Statuses.{code_of}, Theorem.{Does}}
+use Rattle.gs_run.specs.{Running.{Ends, Quiet, RunsTo, TellsLine, Unread, memory_line, usage_line}, Statuses.{code_of}, Theorem.{Does}}
 use Rattle.gs_run.specs.declared.status.Status.{Status}
 use Rattle.gs_run.specs.declared.status.Status.TheVariants as status
 
@@ -9,7 +9,7 @@ use Rattle.gs_run.specs.declared.status.Status.TheVariants as status
 pub record OnlyTells (line : List ℕ) (old new : Ends) : Type 0 where
   pub unread : Unread old new
   pub quiet : Quiet old new
-  pub told : Tells old new line
+  pub told : TellsLine old new line
 
 -- a run over some words
 pub record RanOver (old new : Ends) (s : Status) : Type 0 where

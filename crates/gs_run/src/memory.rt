@@ -3,7 +3,7 @@
 ghost use Rattle.std.specs.Prelude.{◌≡◌, [], IfOk, map, string_bytes};
 ghost use Rattle.gs_answer.specs.Asking.{Asks};
 ghost use Rattle.gs_words.specs.Tasks.{IsInRange, task_of};
-ghost use Rattle.gs_run.specs.InMemory.{DoesInMemory, GivesAnswer, GivesSo};
+ghost use Rattle.gs_run.specs.InMemory.{DoesInMemory, GivesAnswer, GivesOutcome};
 
 use crate::runs::{LONG_LINE, MOST_BYTES, USAGE_LINE};
 use crate::status::Status;
@@ -56,7 +56,7 @@ fn answered(alloc: Global, request: Request, input: &[u8]) -> Result<Outcome, Al
 
 // Returns the outcome for the words and the input.
 fn given(alloc: Global, words: &[String], input: &[u8]) -> Result<Outcome, AllocError>
-    ensures { IfOk result (λ o. GivesSo (map string_bytes words.now) input.now o.status o.printed.items o.told.items) }
+    ensures { IfOk result (λ o. GivesOutcome (map string_bytes words.now) input.now o.status o.printed.items o.told.items) }
 {
     let request = match read_words(alloc, words) {
         Ok(request) => request,

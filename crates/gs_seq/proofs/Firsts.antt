@@ -6,13 +6,13 @@ use Rattle.gs_model.specs.Classes.{ClassLists, IsClass, IsClasses, class_count, 
 use Rattle.gs_model.specs.{Frame.{Frame, ancestor, last_step, move_count, player_at, point_count, round_of}, FrameFacts.{InRange, IsWalked}}
 use Rattle.gs_model.specs.{Plans.{IsClassPlan, lift, number_before}, Positions.{Step, at_point}}
 use Rattle.gs_model.proofs.{Gather.{class_in, member_in}, Tables.{is_table}}
-use Rattle.gs_seq.specs.{Firsts.{Agree, AreFirstBefore, IsClear, IsFirstAt}, Slots.{plan_of, slot_of, slots_at, slots_before}}
+use Rattle.gs_seq.specs.{Firsts.{AgreeBefore, AreFirstBefore, IsClear, IsFirstAt}, Slots.{plan_of, slot_of, slots_at, slots_before}}
 use Rattle.gs_seq.proofs.{Coming.{slot_before}, SlotLaws.{slots_le, slots_more}}
 
 pub slot_under : (c k m : ℕ) → 0 < c → m < k → (c - 1) * k + m < c * k
 slot_under c k m some l = let e : c ≡ suc (c - 1) = omega arith in omega (arith, ap (λ i. i * k) e, l)
 
-pub agree_less : (n m : ℕ) (xs ys : List ℕ) → m ≤ n → Agree n xs ys → Agree m xs ys
+pub agree_less : (n m : ℕ) (xs ys : List ℕ) → m ≤ n → AgreeBefore n xs ys → AgreeBefore m xs ys
 agree_less n m xs ys l h k lk = h k (omega arith)
 
 module _ (f : Frame) (r : InRange f) (lists : ClassLists) (k : IsClasses f.parents lists) (player : ℕ) (w : IsWalked f player) (q : ℕ) (l : q
@@ -23,7 +23,7 @@ module _ (f : Frame) (r : InRange f) (lists : ClassLists) (k : IsClasses f.paren
       (first_member lists (round_of f (at_point q)) c)
 
   -- what comes to a class rests on the weights at earlier points
-  pub came_kept : (xs ys : List ℕ) → Agree (slots_before f lists player q) xs ys → came_by ys ≡ came_by xs
+  pub came_kept : (xs ys : List ℕ) → AgreeBefore (slots_before f lists player q) xs ys → came_by ys ≡ came_by xs
   came_kept xs ys agree = by (last_step f player (at_point q)) refl
     where
       by : (o : Option Step) → last_step f player (at_point q) ≡ o
@@ -46,7 +46,7 @@ module _ (f : Frame) (r : InRange f) (lists : ClassLists) (k : IsClasses f.paren
           agree (slot_of f lists u.point above u.choice) (omega (arith, room, ap (λ p. slots_before f lists p u.point) his.0))
 
   -- weights that agree up to the next class keep the numbers of a class
-  pub first_kept : (n : ℕ) (xs ys : List ℕ) → 0 < move_count f q → slots_before f lists player q + c * move_count f q ≤ n → Agree n xs ys
+  pub first_kept : (n : ℕ) (xs ys : List ℕ) → 0 < move_count f q → slots_before f lists player q + c * move_count f q ≤ n → AgreeBefore n xs ys
       → IsFirstAt f lists player xs q c → IsFirstAt f lists player ys q c
   first_kept n xs ys some room agree first =
       let at : (m : ℕ) → m < move_count f q → slot_of f lists q c m < n =
@@ -62,7 +62,7 @@ module _ (f : Frame) (r : InRange f) (lists : ClassLists) (k : IsClasses f.paren
       → IsClear slot xs → IsFirstAt f lists player (set xs slot came) q c
   first_put xs slot came at room is clear =
       let place : slot_of f lists q c 0 ≡ slot = omega (arith, at, ap (λ p. slots_before f lists p q) own) in
-      let agree : Agree (slots_before f lists player q) xs (set xs slot came) = λ k lk. get_or-set_other xs slot k came 0 (omega (arith, at)) in
+      let agree : AgreeBefore (slots_before f lists player q) xs (set xs slot came) = λ k lk. get_or-set_other xs slot k came 0 (omega (arith, at)) in
       record {
         came = ap (λ n. get_or (set xs slot came) n 0) place ∙ get_or-set_same xs slot came 0 room ∙ is ∙ sym (came_kept xs (set xs slot came) agree);
         others = λ m lo hi.
@@ -108,7 +108,7 @@ slots_own f lists player q own =
 -- one more point of the player
 pub firsts_more : (f : Frame) (r : InRange f) (lists : ClassLists) (k : IsClasses f.parents lists) (player : ℕ) (w : IsWalked f player) (some : (p : ℕ)
     → p < point_count f → 0 < move_count f p) (q : ℕ) (xs ys : List ℕ)
-    → q < point_count f → AreFirstBefore f lists player xs q → Agree (slots_before f lists player q) xs ys
+    → q < point_count f → AreFirstBefore f lists player xs q → AgreeBefore (slots_before f lists player q) xs ys
     → ((c : ℕ) → IsClass lists (round_of f (at_point q)) c → IsFirstAt f lists player ys q c)
     → AreFirstBefore f lists player ys (q + 1)
 firsts_more f r lists k player w some q xs ys l firsts agree here p c lp own h = ⊎_elim

@@ -4,7 +4,7 @@ use Rattle.std.specs.Prelude.{◌⊎◌}
 use Rattle.gs_game.specs.{Games.{game_of}, Seen.{end_of}, declared.positions.End.{End as StoredEnd}, declared.valid.ValidGame.{ValidGame}}
 use Rattle.gs_model.specs.{Classes.{ClassLists, IsClasses}, Frame.{Frame, end_at, end_count, round_of}, FrameFacts.{InRange, IsWalked}, Positions.{at_end}}
 use Rattle.gs_model.proofs.Ranges.{in_range as in_range_of}
-use Rattle.gs_seq.specs.{Abstracts.{frame_of, lists_of}, Games.{frame_in}, declared.form.Abstract.{Abstract}}
+use Rattle.gs_seq.specs.{Abstracts.{abstract_frame, lists_of}, Games.{frame_in}, declared.form.Abstract.{Abstract}}
 use Rattle.gs_seq.proofs.{Ends.{end_reads, end_round}, Points.{playable, walked as walked_by}, Sizes.{AreModest, modest}}
 
 -- what holds of one frame and classes holds of the same
@@ -32,8 +32,8 @@ given g f lists same classes =
     (λ k. record { in_range = in_range_of (game_of g.game) (playable g); classes = k; modest = modest g; walked = walked_by g }) classes
 
 -- the same of a game in sequence form
-pub given_in : (a : Abstract) → IsClasses (frame_of a).parents (lists_of a) → AreGiven (frame_of a) (lists_of a)
-given_in a classes = given a.lossless.now.signals.now.game.now (frame_of a) (lists_of a) refl classes
+pub given_in : (a : Abstract) → IsClasses (abstract_frame a).parents (lists_of a) → AreGiven (abstract_frame a) (lists_of a)
+given_in a classes = given a.lossless.now.signals.now.game.now (abstract_frame a) (lists_of a) refl classes
 
 pub one_or_two : (player : ℕ) → 0 < player → player ≤ 2 → (player ≡ 1) ⊎ (player ≡ 2)
 one_or_two player some few = ⊎_elim (λ one. inl one) (λ other. inr (omega arith)) (cases_eq player 1)

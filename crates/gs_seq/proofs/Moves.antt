@@ -2,7 +2,7 @@
 use Rattle.std.proofs.Common.{◌≡◌, ℕ, ◌+◌, ◌-◌, ◌*◌, ◌<◌, ◌≤◌, ◌^◌, List, length, map, get_or, refl, sym, ap, ◌∙◌, subst, arith, ⊎_elim}
 use Rattle.gs_game.specs.{Seen.{own_point, point_of}, declared.positions.Point.{Point as StoredPoint}, declared.valid.ValidGame.{ValidGame}}
 use Rattle.gs_model.specs.{Classes.{ClassLists, IsClass}, Frame.{Frame, move_count, player_at, point_count, round_of}, Positions.{at_point}}
-use Rattle.gs_seq.specs.{Abstracts.{frame_of, lists_of}, Games.{frame_in}, Slots.{sequence_count, slot_of, slots_before}, Stops.{HasSequencesWithin}}
+use Rattle.gs_seq.specs.{Abstracts.{abstract_frame, lists_of}, Games.{frame_in}, Slots.{sequence_count, slot_of, slots_before}, Stops.{HasSequencesWithin}}
 use Rattle.gs_seq.specs.declared.form.Abstract.{Abstract}
 use Rattle.gs_seq.proofs.{Coming.{slot_before}, Points.{players, point_reads}}
 
@@ -36,11 +36,11 @@ slot_facts f lists q c m base moves l k lm b e few =
 
 -- the same of the values that the program has read
 pub slot_at : (a : Abstract) (game : ValidGame) (ps : List StoredPoint) (p : StoredPoint) (q c m base moves : ℕ) → game ≡ a.lossless.now.signals.now.game.now
-    → map point_of ps ≡ map own_point (frame_in game).points → p ≡ get_or ps q p → q < point_count (frame_of a)
-    → IsClass (lists_of a) (round_of (frame_of a) (at_point q)) c → m < move_count (frame_of a) q
-    → base ≡ get_or a.offsets.items q 0 → moves ≡ length p.moves.items → SlotFacts (frame_of a) (lists_of a) q c m base moves
+    → map point_of ps ≡ map own_point (frame_in game).points → p ≡ get_or ps q p → q < point_count (abstract_frame a)
+    → IsClass (lists_of a) (round_of (abstract_frame a) (at_point q)) c → m < move_count (abstract_frame a) q
+    → base ≡ get_or a.offsets.items q 0 → moves ≡ length p.moves.items → SlotFacts (abstract_frame a) (lists_of a) q c m base moves
 slot_at a game ps p q c m base moves e points is l k lm b n =
     let g = a.lossless.now.signals.now.game.now in
     let seen : map point_of ps ≡ map own_point (frame_in g).points = points ∙ ap (λ (v : ValidGame). map own_point (frame_in v).points) e in
     let r = point_reads g ps q p seen l is in
-    slot_facts (frame_of a) (lists_of a) q c m base moves l k lm (b ∙ a.placed.first q l) (n ∙ r.moves) (few_sequences g (lists_of a) q a.few l)
+    slot_facts (abstract_frame a) (lists_of a) q c m base moves l k lm (b ∙ a.placed.first q l) (n ∙ r.moves) (few_sequences g (lists_of a) q a.few l)

@@ -3,7 +3,7 @@ use Rattle.std.proofs.Common.{◌≡◌, ℕ, ◌+◌, ◌<◌, ◌≤◌, ◌^�
 use Rattle.std.proofs.{lemmas.Bool.{cases_eq}, lemmas.List.{get_or-map, length-map}, lemmas.List.FromFn.{length-range_with_len}}
 use Rattle.std.proofs.{lemmas.List.Sorted.{sum_by-IsPermutation}, lemmas.List.Sums.{sum_by-cons}}
 use Rattle.std.specs.{Prelude.{◌⊎◌, flat_map, option_map}, List.{range_with_len}}
-use Rattle.gs_game.specs.{Games.{game_of, plain_trees, round_of}, Seen.{OwnPoint, own_point, point_of, step_of}}
+use Rattle.gs_game.specs.{Games.{game_of, plain_trees, round_rules}, Seen.{OwnPoint, own_point, point_of, step_of}}
 use Rattle.gs_game.specs.{declared.positions.Point.{Point as StoredPoint}, declared.positions.Step.{Step as StoredStep}, declared.valid.ValidGame.{ValidGame}}
 use Rattle.gs_game.proofs.{Checked.{lines_follow}, Deciding.{trees_are}, EndLaws.{rounds_count}, Playable.{is_playable}}
 use Rattle.gs_model.specs.Frame.{Frame, end_count, last_round, last_step, leads_to, move_count, player_at, point, point_count, round_of as round_at}
@@ -28,7 +28,7 @@ from_own f q p e = record {
 }
 
 pub playable : (g : ValidGame) → IsPlayable (game_of g.game)
-playable g = is_playable g.game (omega (arith, g.limits.some_round, length-map g.game.rounds.items round_of))
+playable g = is_playable g.game (omega (arith, g.limits.some_round, length-map g.game.rounds.items round_rules))
 
 pub walked : (g : ValidGame) (player : ℕ) → 0 < player → player ≤ 2 → IsWalked (frame_in g) player
 walked g player some few = ⊎_elim
@@ -106,7 +106,7 @@ pub record AreFew (f : Frame) : Type 0 where
 
 pub few : (g : ValidGame) → AreFew (frame_in g)
 few g =
-    let h = lines_follow g.game g.accepted (omega (arith, g.limits.few_rounds, length-map g.game.rounds.items round_of)) in
+    let h = lines_follow g.game g.accepted (omega (arith, g.limits.few_rounds, length-map g.game.rounds.items round_rules)) in
     let c = rounds_count (plain_trees g.game.rounds.items) in
     let p = c.points_are (walk_start g.game.ante) in
     let e = c.ends_are (walk_start g.game.ante) in

@@ -6,7 +6,7 @@ use Rattle.std.specs.{Prelude.{◌==◌, ◌/◌, ◌*ℤ◌}, List.{AllByRecurs
 use Rattle.gs_filter.specs.Filter.{Filter}
 use Rattle.gs_game.specs.{Games.{game_of}, GoingOn.{StopsAfter, ways_on}, declared.valid.ValidGame.{ValidGame}}
 use Rattle.gs_game.proofs.{SomeWays.{some_ways}, StopLaws.{against_stopped, stops_later, stops_signals}}
-use Rattle.gs_lossless.specs.{Amounts.{AreAmounts}, Sums.{Rises, key_cmp, sum_at, weight_at}, declared.parts.Part.{Part}}
+use Rattle.gs_lossless.specs.{Amounts.{AreAmounts}, Sums.{PartsRise, key_cmp, sum_at, weight_at}, declared.parts.Part.{Part}}
 use Rattle.gs_lossless.specs.declared.sides.Side.TheVariants.{Deals}
 use Rattle.gs_lossless.proofs.Transfer.{amount_before_last}
 use Rattle.gs_model.specs.{Classes.{ClassLists, class_of, class_size, list_of}, Deals.{Deal}, Frame.{at_round, last_round, signal_count, total_weight}}
@@ -37,7 +37,7 @@ after_times : (w : ℕ) (p : Part) (ps : List Part) → AllByRecursion (λ q. ke
 after_times w p [] h = tt
 after_times w p (q ∷ qs) h = (h.0, after_times w p qs h.1)
 
-rises_times : (w : ℕ) → 0 < w → (ps : List Part) → Rises ps → Rises (map (times w) ps)
+rises_times : (w : ℕ) → 0 < w → (ps : List Part) → PartsRise ps → PartsRise (map (times w) ps)
 rises_times w some [] h = tt
 rises_times w some (p ∷ ps) h =
     let one : 1 ≤ w = omega arith in

@@ -5,7 +5,7 @@ use Rattle.std.specs.Prelude.{ℤ, pos, ◌+ℤ◌, ◌*ℤ◌, unsigned_abs}
 use Rattle.gs_model.specs.{Classes.{ClassLists, IsClass, IsClasses, classes_in}, Frame.{Frame, end_at, end_count, payoff_to, round_of}}
 use Rattle.gs_model.specs.{FrameFacts.{InRange, IsWalked}, Pairs.{pair_sum}, Positions.{End, at_end}, Sums.{sum_z}}
 use Rattle.gs_model.proofs.{Sparse.{sum_z-more}, Tables.{is_table}}
-use Rattle.gs_seq.specs.{Abstracts.{frame_of, lists_of}, Payoffs.{pair_pays}, Rows.{IsRow}, declared.form.Abstract.{Abstract}, declared.pair.Pair.{Pair}}
+use Rattle.gs_seq.specs.{Abstracts.{abstract_frame, lists_of}, Payoffs.{pair_pays}, Rows.{IsRow}, declared.form.Abstract.{Abstract}, declared.pair.Pair.{Pair}}
 use Rattle.gs_seq.proofs.EndSums.{class_few_weight, pays_few, prefix_small, product_few, row_sum, signed_few, weight_few}
 use Rattle.gs_seq.proofs.{Forms.{AreGiven, given_in, one_or_two}, RowFacts.{row_class}, Sizes.{AreModest}}
 
@@ -95,53 +95,53 @@ come_further v row left rest p sum part h t e = record { on = t.on; all = sum_tu
 
 -- what an end pays a player in the deals of a pair, times the number of the pair's second class
 abbrev pub paid : Abstract → ℕ → ℕ → (ℕ → ℕ) → Pair → ℤ
-paid a player z n p = pos (n p.two) *ℤ pair_pays player (end_at (frame_of a) z) p
+paid a player z n p = pos (n p.two) *ℤ pair_pays player (end_at (abstract_frame a) z) p
 
 pub paid_as : (player k m : ℕ) (e o : End) (p : Pair) → e ≡ o → k ≡ m → pos k *ℤ pair_pays player e p ≡ pos m *ℤ pair_pays player o p
 paid_as player k m e o p same is = ap (λ x. pos k *ℤ pair_pays player x p) same ∙ ap (λ n. pos n *ℤ pair_pays player o p) is
 
 -- a row of a game in sequence form, at an end and for a player
 pub record IsAlong (a : Abstract) (player z c : ℕ) (row : List Pair) : Type 0 where
-  pub classes : IsClasses (frame_of a).parents (lists_of a)
+  pub classes : IsClasses (abstract_frame a).parents (lists_of a)
   pub some : 0 < player
   pub two : player ≤ 2
-  pub inside : z < end_count (frame_of a)
-  pub is_row : IsRow (frame_of a) (lists_of a) (round_of (frame_of a) (at_end z)) c row
+  pub inside : z < end_count (abstract_frame a)
+  pub is_row : IsRow (abstract_frame a) (lists_of a) (round_of (abstract_frame a) (at_end z)) c row
 
 -- where the walk stands at a pair: what is known of it, and that the sum fits with what the end pays there, by numbers of classes that are not over the
 -- greatest total, and has come one pair further
 pub record IsHere (a : Abstract) (player z : ℕ) (row rest : List Pair) (p : Pair) (n : ℕ → ℕ) (sum : ℤ) : Type 0 where
-  pub known : IsKnown (frame_of a) (lists_of a) player z p
-  pub fits : (part : ℤ) → part ≡ paid a player z n p → ((e : ℕ) → IsClass (lists_of a) (round_of (frame_of a) (at_end z)) e → n e ≤ 2 ^ 36)
+  pub known : IsKnown (abstract_frame a) (lists_of a) player z p
+  pub fits : (part : ℤ) → part ≡ paid a player z n p → ((e : ℕ) → IsClass (lists_of a) (round_of (abstract_frame a) (at_end z)) e → n e ≤ 2 ^ 36)
       → unsigned_abs (sum +ℤ part) < 2 ^ 127
   pub further : (part next : ℤ) → part ≡ paid a player z n p → next ≡ sum +ℤ part → IsCome (paid a player z n) row rest next
 
 module _ (a : Abstract) (player z c : ℕ) (row : List Pair) (u : IsAlong a player z c row) (n : ℕ → ℕ) where
-  g : AreGiven (frame_of a) (lists_of a)
+  g : AreGiven (abstract_frame a) (lists_of a)
   g = given_in a u.classes
 
-  w : IsWalked (frame_of a) player
+  w : IsWalked (abstract_frame a) player
   w = g.walked player u.some u.two
 
-  sums_fit : ((e : ℕ) → IsClass (lists_of a) (round_of (frame_of a) (at_end z)) e → n e ≤ 2 ^ 36) → (i : ℕ) (s : ℤ)
+  sums_fit : ((e : ℕ) → IsClass (lists_of a) (round_of (abstract_frame a) (at_end z)) e → n e ≤ 2 ^ 36) → (i : ℕ) (s : ℤ)
       → s ≡ sum_z (paid a player z n) (take i row) → unsigned_abs s < 2 ^ 127
   sums_fit few i s is =
-      let size = prefix_small (frame_of a) g.in_range (lists_of a) g.classes player w g.modest z u.inside c row u.is_row n (2 ^ 36) few i in
-      let weight = class_few_weight (frame_of a) g.in_range (lists_of a) g.classes player w g.modest z u.inside c row u.is_row in
+      let size = prefix_small (abstract_frame a) g.in_range (lists_of a) g.classes player w g.modest z u.inside c row u.is_row n (2 ^ 36) few i in
+      let weight = class_few_weight (abstract_frame a) g.in_range (lists_of a) g.classes player w g.modest z u.inside c row u.is_row in
       omega (arith, size, product_few (2 ^ 36) _ (omega arith) weight, ap unsigned_abs is)
 
   pub here_in : (left rest : List Pair) (p : Pair) (sum : ℤ) → IsCome (paid a player z n) row left sum → left ≡ p ∷ rest → IsHere a player z row rest p n sum
   here_in left rest p sum h first =
       let t = turn row left rest p h.on first in
       record {
-        known = known (frame_of a) g.in_range (lists_of a) g.classes player w g.modest z u.inside c row u.is_row left rest p t;
+        known = known (abstract_frame a) g.in_range (lists_of a) g.classes player w g.modest z u.inside c row u.is_row left rest p t;
         fits = λ part e few. sums_fit few (passed row rest) (sum +ℤ part) (come_further (paid a player z n) row left rest p sum part h t e).all;
         further = λ part next e is. subst (IsCome (paid a player z n) row rest) (sym is) (come_further (paid a player z n) row left rest p sum part h t e);
       }
 
   pub sum_is_all : (left : List Pair) (s : ℤ) → IsCome (paid a player z n) row left s → left ≡ []
-      → s ≡ sum_z (λ e. pos (n e) *ℤ pair_sum (frame_of a) (lists_of a) (lists_of a) (round_of (frame_of a) (at_end z)) (payoff_to (frame_of a) player z) c e)
-      (classes_in (lists_of a) (round_of (frame_of a) (at_end z)))
+      → s ≡ sum_z (λ e. pos (n e) *ℤ pair_sum (abstract_frame a) (lists_of a) (lists_of a) (round_of (abstract_frame a) (at_end z)) (payoff_to (abstract_frame a) player z) c e)
+      (classes_in (lists_of a) (round_of (abstract_frame a) (at_end z)))
   sum_is_all left s h none =
       sum_ended (paid a player z n) row left none s h.all
-      ∙ row_sum (frame_of a) (lists_of a) player (one_or_two player u.some u.two) w z u.inside c row u.is_row g.in_range g.classes n
+      ∙ row_sum (abstract_frame a) (lists_of a) player (one_or_two player u.some u.two) w z u.inside c row u.is_row g.in_range g.classes n

@@ -3,8 +3,8 @@ use Rattle.gs_model.specs.{Classes.{ClassLists}, Frame.{Frame}}
 use Rattle.gs_seq.specs.{Games.{frame_in}, declared.form.Abstract.{Abstract}}
 
 -- the frame of the game
-abbrev pub frame_of : Abstract → Frame
-frame_of a = frame_in a.lossless.now.signals.now.game.now
+abbrev pub abstract_frame : Abstract → Frame
+abstract_frame a = frame_in a.lossless.now.signals.now.game.now
 
 -- the class lists
 abbrev pub lists_of : Abstract → ClassLists

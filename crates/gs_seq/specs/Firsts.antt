@@ -17,8 +17,8 @@ AreFirstBefore f lists player weights q = (p c : ℕ) → p < q → player_at f 
     → IsFirstAt f lists player weights p c
 
 -- two lists agree before the place `n`
-abbrev pub Agree : ℕ → List ℕ → List ℕ → Type 0
-Agree n xs ys = (k : ℕ) → k < n → slice_index ys k ≡ slice_index xs k
+abbrev pub AgreeBefore : ℕ → List ℕ → List ℕ → Type 0
+AgreeBefore n xs ys = (k : ℕ) → k < n → slice_index ys k ≡ slice_index xs k
 
 -- from the place `n` on all weights are 0
 abbrev pub IsClear : ℕ → List ℕ → Type 0

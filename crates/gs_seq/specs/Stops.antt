@@ -37,8 +37,8 @@ abbrev pub usual : Limits
 usual = record { sequences = 262144; cells = 4194304 }
 
 -- a stop at the usual limits
-abbrev pub IsStopOf : Frame → ClassLists → SeqStop → Type 0
-IsStopOf f lists e = IsStopAt usual f lists e
+abbrev pub IsUsualStop : Frame → ClassLists → SeqStop → Type 0
+IsUsualStop f lists e = IsStopAt usual f lists e
 
 -- the game is within the usual limits
 abbrev pub IsSmall : Frame → ClassLists → Type 0

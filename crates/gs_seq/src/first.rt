@@ -2,7 +2,7 @@
 
 ghost use Rattle.std.specs.Prelude.{◌≡◌, ◌+◌, ◌<◌, ◌≤◌, ℕ, IfOk, length};
 ghost use Rattle.gs_model.specs.{Classes.{IsClass}, Frame.{player_at, point_count, round_of}, Positions.{at_point}};
-ghost use Rattle.gs_seq.specs.{Firsts.{Agree, AreFirstBefore, IsClear, IsFirstAt}, Games.{frame_in}};
+ghost use Rattle.gs_seq.specs.{Firsts.{AgreeBefore, AreFirstBefore, IsClear, IsFirstAt}, Games.{frame_in}};
 ghost use Rattle.gs_seq.specs.Slots.{AreOffsets, slot_count as slots_in, slots_before};
 
 use crate::flows::coming;
@@ -29,7 +29,7 @@ fn put_first(
     requires own { player_at (frame_in game.now) point ≡ player }
     requires long { length weights.old ≡ slots_in (frame_in game.now) classes.now.lists player }
     requires clear { IsClear (slots_before (frame_in game.now) classes.now.lists player point) weights.old }
-    ensures kept { Agree (slots_before (frame_in game.now) classes.now.lists player point) weights.old weights.new }
+    ensures kept { AgreeBefore (slots_before (frame_in game.now) classes.now.lists player point) weights.old weights.new }
     ensures here { (c : ℕ) → IsClass classes.now.lists (round_of (frame_in game.now) (at_point point)) c
         → IsFirstAt (frame_in game.now) classes.now.lists player weights.new point c }
     ensures clear { IsClear (slots_before (frame_in game.now) classes.now.lists player (point + 1)) weights.new }
@@ -70,14 +70,15 @@ fn first_weights(
 
 impl<'a> Abstract<'a> {
     ghost use Rattle.gs_model.specs.Play.{IsFirstMoves};
-    ghost use Rattle.gs_seq.specs.{Abstracts.{frame_of, lists_of}, Firsts.{IsComing}, Plans.{IsPlanOf, class_plan}};
+    ghost use Rattle.gs_seq.specs.{Abstracts.{abstract_frame, lists_of}, Firsts.{IsComing}, Plans.{IsPlanOf, class_plan}};
 
     /// Returns a player's plan with total 1 that takes the first move everywhere.
     pub fn first_plan(&self, alloc: Global, player: u8) -> Result<Plan, AllocError>
         requires some { 0 < player }
         requires two { player ≤ 2 }
-        ensures plan { IfOk result (IsPlanOf (frame_of self.now) (lists_of self.now) player) }
-        ensures first { IfOk result (λ p. IsFirstMoves (frame_of self.now) (lists_of self.now) player (class_plan (frame_of self.now) (lists_of self.now) p)) }
+        ensures plan { IfOk result (IsPlanOf (abstract_frame self.now) (lists_of self.now) player) }
+        ensures first { IfOk result (λ p. IsFirstMoves (abstract_frame self.now) (lists_of self.now) player
+            (class_plan (abstract_frame self.now) (lists_of self.now) p)) }
     {
         let count = self.sequences(player) - 1;
         let weights = first_weights(
@@ -98,10 +99,10 @@ impl<'a> Abstract<'a> {
     /// Returns the weight that comes to a class of a point: the weight of the player's last step before the point, at the class above.
     /// If the player made no step, it is the total. Reads only weights of slots before the point.
     pub fn coming(&self, total: u64, weights: &[u64], point: u32, class: u32) -> u64
-        requires point { point < point_count (frame_of self.now) }
-        requires class { IsClass (lists_of self.now) (round_of (frame_of self.now) (at_point point)) class }
-        requires long { slots_before (frame_of self.now) (lists_of self.now) (player_at (frame_of self.now) point) point ≤ length weights.now }
-        ensures { IsComing (frame_of self.now) (lists_of self.now) total weights.now point class result }
+        requires point { point < point_count (abstract_frame self.now) }
+        requires class { IsClass (lists_of self.now) (round_of (abstract_frame self.now) (at_point point)) class }
+        requires long { slots_before (abstract_frame self.now) (lists_of self.now) (player_at (abstract_frame self.now) point) point ≤ length weights.now }
+        ensures { IsComing (abstract_frame self.now) (lists_of self.now) total weights.now point class result }
     {
         let game = self.game();
         let source = point_source(game, self.offsets(), point);

@@ -74,17 +74,17 @@ impl<'a> Abstract<'a> {
     ghost use Rattle.std.specs.Prelude.{◌+◌, IfOk, IfErr, IfSome, MatchOption};
     ghost use Rattle.gs_model.specs.{Classes.{IsClass, IsClasses}, Frame.{end_count, last_round, move_count, player_at, point_count, round_of}};
     ghost use Rattle.gs_model.specs.{Pairs.{class_number}, Positions.{at_end, at_point}};
-    ghost use Rattle.gs_seq.specs.{Abstracts.{frame_of, lists_of}, Cells.{IsPairAfter, MeetsNoneAfter}, Faults.{IsFaultOf}};
+    ghost use Rattle.gs_seq.specs.{Abstracts.{abstract_frame, lists_of}, Cells.{IsPairAfter, MeetsNoneAfter}, Faults.{IsFaultOf}};
     ghost use Rattle.gs_seq.specs.{Plans.{IsPlanOf, class_plan}, Rows.{IsRow, IsSingleIn}, Singles.{HasSumsOf}};
-    ghost use Rattle.gs_seq.specs.{Slots.{IsPlan, sequence_count, slot_of}, Stops.{IsSmall, IsStopAt, IsStopOf, IsWithin}};
+    ghost use Rattle.gs_seq.specs.{Slots.{IsPlan, sequence_count, slot_of}, Stops.{IsSmall, IsStopAt, IsUsualStop, IsWithin}};
     ghost use Rattle.gs_tree.specs.Trees.{rules_of};
 
     /// Returns the sequence form of a game with lossless classes, within the usual limits.
     /// Errors: the first limit that the game exceeds, or `Memory` if memory runs out.
     pub fn of(alloc: Global, lossless: &'a Lossless<'a>) -> Result<Abstract<'a>, SeqStop>
         ensures held { IfOk result (λ a. a.lossless.now ≡ lossless.entry.now) }
-        ensures small { IfOk result (λ a. IsSmall (frame_of a) (lists_of a)) }
-        ensures refused { IfErr result (IsStopOf (frame_in lossless.entry.now.signals.now.game.now) lossless.entry.now.classes.now.lists) }
+        ensures small { IfOk result (λ a. IsSmall (abstract_frame a) (lists_of a)) }
+        ensures refused { IfErr result (IsUsualStop (frame_in lossless.entry.now.signals.now.game.now) lossless.entry.now.classes.now.lists) }
     {
         Abstract::within(alloc, lossless, USUAL)
     }
@@ -98,7 +98,7 @@ impl<'a> Abstract<'a> {
     ) -> Result<Abstract<'a>, SeqStop>
         requires { most.sequences ≤ 2 ^ 30 }
         ensures held { IfOk result (λ a. a.lossless.now ≡ lossless.entry.now) }
-        ensures small { IfOk result (λ a. IsWithin most (frame_of a) (lists_of a)) }
+        ensures small { IfOk result (λ a. IsWithin most (abstract_frame a) (lists_of a)) }
         ensures refused { IfErr result (IsStopAt most (frame_in lossless.entry.now.signals.now.game.now) lossless.entry.now.classes.now.lists) }
     {
         let signals = lossless.signals();
@@ -131,8 +131,8 @@ impl<'a> Abstract<'a> {
 
     /// Returns the game.
     pub(crate) fn game(&self) -> &'a ValidGame
-        ensures held { frame_in result.now ≡ frame_of self.now }
-        ensures classes { IsClasses (frame_of self.now).parents (lists_of self.now) }
+        ensures held { frame_in result.now ≡ abstract_frame self.now }
+        ensures classes { IsClasses (abstract_frame self.now).parents (lists_of self.now) }
     {
         self.lossless.signals().game()
     }
@@ -140,14 +140,14 @@ impl<'a> Abstract<'a> {
     /// Returns the classes.
     pub(crate) fn classes(&self) -> &'a Classes
         ensures lists { result.now.lists ≡ lists_of self.now }
-        ensures parents { result.now.parents ≡ (frame_of self.now).parents }
+        ensures parents { result.now.parents ≡ (abstract_frame self.now).parents }
     {
         self.lossless.classes()
     }
 
     /// Returns the number of ends of the game.
     pub(crate) fn end_total(&self) -> u32
-        ensures { result ≡ end_count (frame_of self.now) }
+        ensures { result ≡ end_count (abstract_frame self.now) }
     {
         self.game().ends().len() as u32
     }
@@ -156,7 +156,7 @@ impl<'a> Abstract<'a> {
     pub fn sequences(&self, player: u8) -> u32
         requires some { 0 < player }
         requires two { player ≤ 2 }
-        ensures { result ≡ sequence_count (frame_of self.now) (lists_of self.now) player }
+        ensures { result ≡ sequence_count (abstract_frame self.now) (lists_of self.now) player }
     {
         if player == 1 {
             self.one + 1
@@ -167,11 +167,11 @@ impl<'a> Abstract<'a> {
 
     /// Returns the slot of a move at a point and a class: its place in the weights of the player who chooses there.
     pub fn slot(&self, point: u32, class: u32, choice: u8) -> u32
-        requires point { point < point_count (frame_of self.now) }
-        requires class { IsClass (lists_of self.now) (round_of (frame_of self.now) (at_point point)) class }
-        requires choice { choice < move_count (frame_of self.now) point }
-        ensures value { result ≡ slot_of (frame_of self.now) (lists_of self.now) point class choice }
-        ensures within { result + 1 < sequence_count (frame_of self.now) (lists_of self.now) (player_at (frame_of self.now) point) }
+        requires point { point < point_count (abstract_frame self.now) }
+        requires class { IsClass (lists_of self.now) (round_of (abstract_frame self.now) (at_point point)) class }
+        requires choice { choice < move_count (abstract_frame self.now) point }
+        ensures value { result ≡ slot_of (abstract_frame self.now) (lists_of self.now) point class choice }
+        ensures within { result + 1 < sequence_count (abstract_frame self.now) (lists_of self.now) (player_at (abstract_frame self.now) point) }
     {
         let moves = self.lossless.signals().game().points()[point as usize]
             .moves
@@ -182,9 +182,9 @@ impl<'a> Abstract<'a> {
     /// Returns the pairs of a class of player 1 in a round: one for each class of player 2 that it meets in some deal, in ascending order.
     pub fn pairs(&self, round: u8, one: u32) -> Pairs<'_>
         requires some { 0 < round }
-        requires top { round ≤ last_round (frame_of self.now) }
+        requires top { round ≤ last_round (abstract_frame self.now) }
         requires class { IsClass (lists_of self.now) round one }
-        ensures { IsRow (frame_of self.now) (lists_of self.now) round one result }
+        ensures { IsRow (abstract_frame self.now) (lists_of self.now) round one result }
     {
         if usize::from(round) <= self.rows.len() {
             let row = &self.rows[usize::from(round) - 1][one as usize - 1];
@@ -197,10 +197,10 @@ impl<'a> Abstract<'a> {
     /// Returns `None` if there is no such class.
     pub fn pair_after(&self, round: u8, one: u32, after: u32) -> Option<Pair>
         requires some { 0 < round }
-        requires top { round ≤ last_round (frame_of self.now) }
+        requires top { round ≤ last_round (abstract_frame self.now) }
         requires class { IsClass (lists_of self.now) round one }
-        ensures { MatchOption result (MeetsNoneAfter (frame_of self.now) (lists_of self.now) round one after)
-            (IsPairAfter (frame_of self.now) (lists_of self.now) round one after) }
+        ensures { MatchOption result (MeetsNoneAfter (abstract_frame self.now) (lists_of self.now) round one after)
+            (IsPairAfter (abstract_frame self.now) (lists_of self.now) round one after) }
     {
         first_after(self.pairs(round, one), after)
     }
@@ -208,8 +208,8 @@ impl<'a> Abstract<'a> {
     /// Returns the signals of a round along their boards, if it is the last round and its pairs are made from deals.
     pub(crate) fn order_in(&self, round: u8) -> Option<&BoardOrder<'a>>
         ensures signals { IfSome result (λ order. HasSumsOf (rules_of order.now.signals.now) (rules_of self.now.lossless.now.signals.now)) }
-        ensures last { IfSome result (λ order. round ≡ last_round (frame_of self.now)) }
-        ensures single { IfSome result (λ order. IsSingleIn (lists_of self.now) (last_round (frame_of self.now))) }
+        ensures last { IfSome result (λ order. round ≡ last_round (abstract_frame self.now)) }
+        ensures single { IfSome result (λ order. IsSingleIn (lists_of self.now) (last_round (abstract_frame self.now))) }
     {
         match &self.order {
             Some(order) if round == self.lossless.signals().rounds() => Some(order),
@@ -219,7 +219,7 @@ impl<'a> Abstract<'a> {
 
     /// Returns for each point the slot of its first class and first move.
     pub(crate) fn offsets(&self) -> &[u32]
-        ensures { AreOffsets (frame_of self.now) (lists_of self.now) result.now }
+        ensures { AreOffsets (abstract_frame self.now) (lists_of self.now) result.now }
     {
         &self.offsets
     }
@@ -229,11 +229,11 @@ impl<'a> Abstract<'a> {
     pub fn number_at_end(&self, plan: &Plan, end: u32, class: u32) -> u64
         requires some { 0 < plan.now.player }
         requires two { plan.now.player ≤ 2 }
-        requires plan { IsPlanOf (frame_of self.now) (lists_of self.now) plan.now.player plan.now }
-        requires end { end < end_count (frame_of self.now) }
-        requires class { IsClass (lists_of self.now) (round_of (frame_of self.now) (at_end end)) class }
-        ensures value { result ≡ class_number (frame_of self.now) (lists_of self.now) plan.now.player
-            (class_plan (frame_of self.now) (lists_of self.now) plan.now) end class }
+        requires plan { IsPlanOf (abstract_frame self.now) (lists_of self.now) plan.now.player plan.now }
+        requires end { end < end_count (abstract_frame self.now) }
+        requires class { IsClass (lists_of self.now) (round_of (abstract_frame self.now) (at_end end)) class }
+        ensures value { result ≡ class_number (abstract_frame self.now) (lists_of self.now) plan.now.player
+            (class_plan (abstract_frame self.now) (lists_of self.now) plan.now) end class }
         ensures within { result ≤ plan.now.total }
     {
         let game = self.game();
@@ -248,9 +248,9 @@ impl<'a> Abstract<'a> {
         ensures player { IfOk result (λ p. p.player ≡ player) }
         ensures total { IfOk result (λ p. p.total ≡ total) }
         ensures weights { IfOk result (λ p. p.weights.items ≡ weights.items) }
-        ensures plan { IfOk result (λ p. IsPlan (frame_of self.now) (lists_of self.now) player total weights.items) }
-        ensures own { IfOk result (IsPlanOf (frame_of self.now) (lists_of self.now) player) }
-        ensures refused { IfErr result (IsFaultOf (frame_of self.now) (lists_of self.now) player total weights.items) }
+        ensures plan { IfOk result (λ p. IsPlan (abstract_frame self.now) (lists_of self.now) player total weights.items) }
+        ensures own { IfOk result (IsPlanOf (abstract_frame self.now) (lists_of self.now) player) }
+        ensures refused { IfErr result (IsFaultOf (abstract_frame self.now) (lists_of self.now) player total weights.items) }
     {
         let classes = self.lossless.classes();
         let game = self.lossless.signals().game();

@@ -38,25 +38,25 @@ fn pays_at(player: u8, end: End) -> Pays
 impl<'a> Abstract<'a> {
     ghost use Rattle.std.specs.Prelude.{◌+◌, ℕ, get_or};
     ghost use Rattle.gs_model.specs.{Classes.{IsClass}, Frame.{end_at, end_count, last_round, other_player, round_of}, Positions.{at_end}};
-    ghost use Rattle.gs_seq.specs.{Abstracts.{frame_of, lists_of}, Payoffs.{AreFew, AreNumbersAt, end_classes, end_sum, number_sum}};
+    ghost use Rattle.gs_seq.specs.{Abstracts.{abstract_frame, lists_of}, Payoffs.{AreFew, AreNumbersAt, end_classes, end_sum, number_sum}};
     ghost use Rattle.gs_seq.specs.{Plans.{IsPlanOf, class_plan}, Rows.{IsRow, IsSingleIn}, Singles.{HasSumsOf}};
     ghost use Rattle.gs_tree.specs.Trees.{rules_of};
 
     /// Returns an end of the game, with its round.
     pub fn end_in(&self, end: u32) -> End
-        requires { end < end_count (frame_of self.now) }
-        ensures value { end_of result ≡ end_at (frame_of self.now) end }
-        ensures round { result.round ≡ round_of (frame_of self.now) (at_end end) }
+        requires { end < end_count (abstract_frame self.now) }
+        ensures value { end_of result ≡ end_at (abstract_frame self.now) end }
+        ensures round { result.round ≡ round_of (abstract_frame self.now) (at_end end) }
         ensures some { 0 < result.round }
-        ensures top { result.round ≤ last_round (frame_of self.now) }
+        ensures top { result.round ≤ last_round (abstract_frame self.now) }
     {
         self.game().ends()[end as usize]
     }
 
     /// Returns the number of classes of an end's round.
     pub(crate) fn class_total(&self, end: u32) -> u32
-        requires { end < end_count (frame_of self.now) }
-        ensures { result ≡ end_classes (frame_of self.now) (lists_of self.now) end }
+        requires { end < end_count (abstract_frame self.now) }
+        ensures { result ≡ end_classes (abstract_frame self.now) (lists_of self.now) end }
     {
         self.classes().classes(self.end_in(end).round)
     }
@@ -74,17 +74,17 @@ impl<'a> Abstract<'a> {
     )
         requires some { 0 < player }
         requires two { player ≤ 2 }
-        requires other { IsPlanOf (frame_of self.now) (lists_of self.now) (other_player player) other.now }
-        requires end { end < end_count (frame_of self.now) }
-        requires wide { end_classes (frame_of self.now) (lists_of self.now) end ≤ length numbers.old }
-        requires room { start + end_classes (frame_of self.now) (lists_of self.now) end ≤ length sums.old }
-        ensures here { let f = frame_of self.now in let lists = lists_of self.now in
+        requires other { IsPlanOf (abstract_frame self.now) (lists_of self.now) (other_player player) other.now }
+        requires end { end < end_count (abstract_frame self.now) }
+        requires wide { end_classes (abstract_frame self.now) (lists_of self.now) end ≤ length numbers.old }
+        requires room { start + end_classes (abstract_frame self.now) (lists_of self.now) end ≤ length sums.old }
+        ensures here { let f = abstract_frame self.now in let lists = lists_of self.now in
             (c : ℕ) → IsClass lists (round_of f (at_end end)) c → get_or sums.new (start + (c - 1)) (pos 0)
             ≡ end_sum f lists player (class_plan f lists other.now) end c }
         ensures before { (i : ℕ) → i < start → get_or sums.new i (pos 0) ≡ get_or sums.old i (pos 0) }
-        ensures behind { (i : ℕ) → start + end_classes (frame_of self.now) (lists_of self.now) end ≤ i
+        ensures behind { (i : ℕ) → start + end_classes (abstract_frame self.now) (lists_of self.now) end ≤ i
             → get_or sums.new i (pos 0) ≡ get_or sums.old i (pos 0) }
-        ensures numbers { let f = frame_of self.now in let lists = lists_of self.now in
+        ensures numbers { let f = abstract_frame self.now in let lists = lists_of self.now in
             AreNumbersAt f lists (other_player player) (class_plan f lists other.now) end numbers.new }
     {
         self.read_numbers(other, end, numbers);
@@ -106,16 +106,16 @@ impl<'a> Abstract<'a> {
     )
         requires some { 0 < player }
         requires two { player ≤ 2 }
-        requires end { end < end_count (frame_of self.now) }
-        requires last { round_of (frame_of self.now) (at_end end) ≡ last_round (frame_of self.now) }
-        requires single { IsSingleIn (lists_of self.now) (last_round (frame_of self.now)) }
+        requires end { end < end_count (abstract_frame self.now) }
+        requires last { round_of (abstract_frame self.now) (at_end end) ≡ last_round (abstract_frame self.now) }
+        requires single { IsSingleIn (lists_of self.now) (last_round (abstract_frame self.now)) }
         requires order { HasSumsOf (rules_of order.now.signals.now) (rules_of self.now.lossless.now.signals.now) }
-        requires wide { end_classes (frame_of self.now) (lists_of self.now) end ≤ length numbers.now }
-        requires room { start + end_classes (frame_of self.now) (lists_of self.now) end ≤ length sums.old }
-        ensures here { let f = frame_of self.now in let lists = lists_of self.now in
+        requires wide { end_classes (abstract_frame self.now) (lists_of self.now) end ≤ length numbers.now }
+        requires room { start + end_classes (abstract_frame self.now) (lists_of self.now) end ≤ length sums.old }
+        ensures here { let f = abstract_frame self.now in let lists = lists_of self.now in
             (c : ℕ) → IsClass lists (round_of f (at_end end)) c → get_or sums.new (start + (c - 1)) (pos 0) ≡ number_sum f lists player numbers.now end c }
         ensures before { (i : ℕ) → i < start → get_or sums.new i (pos 0) ≡ get_or sums.old i (pos 0) }
-        ensures behind { (i : ℕ) → start + end_classes (frame_of self.now) (lists_of self.now) end ≤ i
+        ensures behind { (i : ℕ) → start + end_classes (abstract_frame self.now) (lists_of self.now) end ≤ i
             → get_or sums.new i (pos 0) ≡ get_or sums.old i (pos 0) }
     {
         let stop = start + self.class_total(end) as usize;
@@ -127,12 +127,12 @@ impl<'a> Abstract<'a> {
     fn read_numbers(&self, plan: &Plan, end: u32, numbers: &mut [u64])
         requires some { 0 < plan.now.player }
         requires two { plan.now.player ≤ 2 }
-        requires plan { IsPlanOf (frame_of self.now) (lists_of self.now) plan.now.player plan.now }
-        requires end { end < end_count (frame_of self.now) }
-        requires wide { end_classes (frame_of self.now) (lists_of self.now) end ≤ length numbers.old }
-        ensures numbers { let f = frame_of self.now in let lists = lists_of self.now in
+        requires plan { IsPlanOf (abstract_frame self.now) (lists_of self.now) plan.now.player plan.now }
+        requires end { end < end_count (abstract_frame self.now) }
+        requires wide { end_classes (abstract_frame self.now) (lists_of self.now) end ≤ length numbers.old }
+        ensures numbers { let f = abstract_frame self.now in let lists = lists_of self.now in
             AreNumbersAt f lists plan.now.player (class_plan f lists plan.now) end numbers.new }
-        ensures few { AreFew (end_classes (frame_of self.now) (lists_of self.now) end) numbers.new }
+        ensures few { AreFew (end_classes (abstract_frame self.now) (lists_of self.now) end) numbers.new }
     {
         for before in 0..self.class_total(end) {
             numbers[before as usize] = self.number_at_end(plan, end, before + 1);
@@ -144,14 +144,14 @@ impl<'a> Abstract<'a> {
     fn pay_all(&self, player: u8, end: u32, numbers: &[u64], start: usize, sums: &mut [i128])
         requires some { 0 < player }
         requires two { player ≤ 2 }
-        requires end { end < end_count (frame_of self.now) }
-        requires wide { end_classes (frame_of self.now) (lists_of self.now) end ≤ length numbers.now }
-        requires few { AreFew (end_classes (frame_of self.now) (lists_of self.now) end) numbers.now }
-        requires room { start + end_classes (frame_of self.now) (lists_of self.now) end ≤ length sums.old }
-        ensures here { let f = frame_of self.now in let lists = lists_of self.now in
+        requires end { end < end_count (abstract_frame self.now) }
+        requires wide { end_classes (abstract_frame self.now) (lists_of self.now) end ≤ length numbers.now }
+        requires few { AreFew (end_classes (abstract_frame self.now) (lists_of self.now) end) numbers.now }
+        requires room { start + end_classes (abstract_frame self.now) (lists_of self.now) end ≤ length sums.old }
+        ensures here { let f = abstract_frame self.now in let lists = lists_of self.now in
             (c : ℕ) → IsClass lists (round_of f (at_end end)) c → get_or sums.new (start + (c - 1)) (pos 0) ≡ number_sum f lists player numbers.now end c }
         ensures before { (i : ℕ) → i < start → get_or sums.new i (pos 0) ≡ get_or sums.old i (pos 0) }
-        ensures behind { (i : ℕ) → start + end_classes (frame_of self.now) (lists_of self.now) end ≤ i
+        ensures behind { (i : ℕ) → start + end_classes (abstract_frame self.now) (lists_of self.now) end ≤ i
             → get_or sums.new i (pos 0) ≡ get_or sums.old i (pos 0) }
     {
         for before in 0..self.class_total(end) {
@@ -163,11 +163,11 @@ impl<'a> Abstract<'a> {
     fn paid(&self, player: u8, end: u32, class: u32, numbers: &[u64]) -> i128
         requires some { 0 < player }
         requires two { player ≤ 2 }
-        requires end { end < end_count (frame_of self.now) }
-        requires class { IsClass (lists_of self.now) (round_of (frame_of self.now) (at_end end)) class }
-        requires wide { end_classes (frame_of self.now) (lists_of self.now) end ≤ length numbers.now }
-        requires few { AreFew (end_classes (frame_of self.now) (lists_of self.now) end) numbers.now }
-        ensures { result ≡ number_sum (frame_of self.now) (lists_of self.now) player numbers.now end class }
+        requires end { end < end_count (abstract_frame self.now) }
+        requires class { IsClass (lists_of self.now) (round_of (abstract_frame self.now) (at_end end)) class }
+        requires wide { end_classes (abstract_frame self.now) (lists_of self.now) end ≤ length numbers.now }
+        requires few { AreFew (end_classes (abstract_frame self.now) (lists_of self.now) end) numbers.now }
+        ensures { result ≡ number_sum (abstract_frame self.now) (lists_of self.now) player numbers.now end class }
     {
         let row = self.pairs(self.end_in(end).round, class);
         self.row_paid(player, end, class, numbers, row)
@@ -177,11 +177,11 @@ impl<'a> Abstract<'a> {
     fn row_paid(&self, player: u8, end: u32, class: u32, numbers: &[u64], row: Pairs<'_>) -> i128
         requires some { 0 < player }
         requires two { player ≤ 2 }
-        requires end { end < end_count (frame_of self.now) }
-        requires wide { end_classes (frame_of self.now) (lists_of self.now) end ≤ length numbers.now }
-        requires few { AreFew (end_classes (frame_of self.now) (lists_of self.now) end) numbers.now }
-        requires row { IsRow (frame_of self.now) (lists_of self.now) (round_of (frame_of self.now) (at_end end)) class row }
-        ensures { result ≡ number_sum (frame_of self.now) (lists_of self.now) player numbers.now end class }
+        requires end { end < end_count (abstract_frame self.now) }
+        requires wide { end_classes (abstract_frame self.now) (lists_of self.now) end ≤ length numbers.now }
+        requires few { AreFew (end_classes (abstract_frame self.now) (lists_of self.now) end) numbers.now }
+        requires row { IsRow (abstract_frame self.now) (lists_of self.now) (round_of (abstract_frame self.now) (at_end end)) class row }
+        ensures { result ≡ number_sum (abstract_frame self.now) (lists_of self.now) player numbers.now end class }
     {
         let at = self.end_in(end);
         let mut sum = 0i128;

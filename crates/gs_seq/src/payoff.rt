@@ -41,7 +41,7 @@ pub(crate) fn add_pays(sum: i128, number: u64, player: u8, end: End, pair: Pair)
 
 impl<'a> Abstract<'a> {
     ghost use Rattle.gs_model.specs.{Classes.{IsClass}, Frame.{end_count, other_player, round_of}, Payoff.{raw_payoff}, Positions.{at_end}};
-    ghost use Rattle.gs_seq.specs.{Abstracts.{frame_of, lists_of}, Payoffs.{end_classes, end_sum, payoff_at}, Plans.{IsPlanOf, class_plan, lifted}};
+    ghost use Rattle.gs_seq.specs.{Abstracts.{abstract_frame, lists_of}, Payoffs.{end_classes, end_sum, payoff_at}, Plans.{IsPlanOf, class_plan, lifted}};
     ghost use Rattle.gs_seq.specs.{Rows.{IsRow}, Sources.{MatchSource}};
 
     /// Returns what an end pays a player at the player's class against a plan of the other player.
@@ -49,10 +49,11 @@ impl<'a> Abstract<'a> {
     pub fn end_sum(&self, player: u8, other: &Plan, end: u32, class: u32) -> i128
         requires some { 0 < player }
         requires two { player ≤ 2 }
-        requires other { IsPlanOf (frame_of self.now) (lists_of self.now) (other_player player) other.now }
-        requires end { end < end_count (frame_of self.now) }
-        requires class { IsClass (lists_of self.now) (round_of (frame_of self.now) (at_end end)) class }
-        ensures { result ≡ end_sum (frame_of self.now) (lists_of self.now) player (class_plan (frame_of self.now) (lists_of self.now) other.now) end class }
+        requires other { IsPlanOf (abstract_frame self.now) (lists_of self.now) (other_player player) other.now }
+        requires end { end < end_count (abstract_frame self.now) }
+        requires class { IsClass (lists_of self.now) (round_of (abstract_frame self.now) (at_end end)) class }
+        ensures { result ≡ end_sum (abstract_frame self.now) (lists_of self.now) player
+            (class_plan (abstract_frame self.now) (lists_of self.now) other.now) end class }
     {
         let source = end_source(self.game(), self.offsets(), other.player, end);
         let row = self.pairs(self.end_in(end).round, class);
@@ -71,11 +72,12 @@ impl<'a> Abstract<'a> {
     ) -> i128
         requires some { 0 < player }
         requires two { player ≤ 2 }
-        requires other { IsPlanOf (frame_of self.now) (lists_of self.now) (other_player player) other.now }
-        requires end { end < end_count (frame_of self.now) }
-        requires source { MatchSource (frame_of self.now) (lists_of self.now) (other_player player) (at_end end) source }
-        requires row { IsRow (frame_of self.now) (lists_of self.now) (round_of (frame_of self.now) (at_end end)) class row }
-        ensures { result ≡ end_sum (frame_of self.now) (lists_of self.now) player (class_plan (frame_of self.now) (lists_of self.now) other.now) end class }
+        requires other { IsPlanOf (abstract_frame self.now) (lists_of self.now) (other_player player) other.now }
+        requires end { end < end_count (abstract_frame self.now) }
+        requires source { MatchSource (abstract_frame self.now) (lists_of self.now) (other_player player) (at_end end) source }
+        requires row { IsRow (abstract_frame self.now) (lists_of self.now) (round_of (abstract_frame self.now) (at_end end)) class row }
+        ensures { result ≡ end_sum (abstract_frame self.now) (lists_of self.now) player
+            (class_plan (abstract_frame self.now) (lists_of self.now) other.now) end class }
     {
         let classes = self.classes();
         let game = self.game();
@@ -92,10 +94,10 @@ impl<'a> Abstract<'a> {
     ///
     /// Allocates no memory.
     pub fn payoff(&self, x: &Plan, y: &Plan) -> i128
-        requires x { IsPlanOf (frame_of self.now) (lists_of self.now) 1 x.now }
-        requires y { IsPlanOf (frame_of self.now) (lists_of self.now) 2 y.now }
-        ensures { result ≡ raw_payoff (frame_of self.now) (lifted (frame_of self.now) (lists_of self.now) x.now)
-            (lifted (frame_of self.now) (lists_of self.now) y.now) }
+        requires x { IsPlanOf (abstract_frame self.now) (lists_of self.now) 1 x.now }
+        requires y { IsPlanOf (abstract_frame self.now) (lists_of self.now) 2 y.now }
+        ensures { result ≡ raw_payoff (abstract_frame self.now) (lifted (abstract_frame self.now) (lists_of self.now) x.now)
+            (lifted (abstract_frame self.now) (lists_of self.now) y.now) }
     {
         let mut sum = 0i128;
         for end in 0..self.end_total() {
@@ -106,11 +108,11 @@ impl<'a> Abstract<'a> {
 
     /// Returns what two plans pay player 1 at an end, class by class of player 1.
     fn payoff_at(&self, x: &Plan, y: &Plan, end: u32) -> i128
-        requires x { IsPlanOf (frame_of self.now) (lists_of self.now) 1 x.now }
-        requires y { IsPlanOf (frame_of self.now) (lists_of self.now) 2 y.now }
-        requires end { end < end_count (frame_of self.now) }
-        ensures { result ≡ payoff_at (frame_of self.now) (lists_of self.now) (class_plan (frame_of self.now) (lists_of self.now) x.now)
-            (class_plan (frame_of self.now) (lists_of self.now) y.now) end }
+        requires x { IsPlanOf (abstract_frame self.now) (lists_of self.now) 1 x.now }
+        requires y { IsPlanOf (abstract_frame self.now) (lists_of self.now) 2 y.now }
+        requires end { end < end_count (abstract_frame self.now) }
+        ensures { result ≡ payoff_at (abstract_frame self.now) (lists_of self.now) (class_plan (abstract_frame self.now) (lists_of self.now) x.now)
+            (class_plan (abstract_frame self.now) (lists_of self.now) y.now) end }
     {
         let mut sum = 0i128;
         for before in 0..self.class_total(end) {
@@ -124,12 +126,13 @@ impl<'a> Abstract<'a> {
     /// Returns what the plans `x` of player 1 and `y` of player 2 pay player 1, in the unit of `payoff`. Reads what an end pays for all classes at once.
     /// `sums` and `numbers` are scratch room for that: each has at least one entry for each class of any end's round.
     pub fn payoff_in(&self, x: &Plan, y: &Plan, sums: &mut [i128], numbers: &mut [u64]) -> i128
-        requires x { IsPlanOf (frame_of self.now) (lists_of self.now) 1 x.now }
-        requires y { IsPlanOf (frame_of self.now) (lists_of self.now) 2 y.now }
-        requires sums { (z : ℕ) → z < end_count (frame_of self.now) → end_classes (frame_of self.now) (lists_of self.now) z ≤ length sums.old }
-        requires numbers { (z : ℕ) → z < end_count (frame_of self.now) → end_classes (frame_of self.now) (lists_of self.now) z ≤ length numbers.old }
-        ensures { result ≡ raw_payoff (frame_of self.now) (lifted (frame_of self.now) (lists_of self.now) x.now)
-            (lifted (frame_of self.now) (lists_of self.now) y.now) }
+        requires x { IsPlanOf (abstract_frame self.now) (lists_of self.now) 1 x.now }
+        requires y { IsPlanOf (abstract_frame self.now) (lists_of self.now) 2 y.now }
+        requires sums { (z : ℕ) → z < end_count (abstract_frame self.now) → end_classes (abstract_frame self.now) (lists_of self.now) z ≤ length sums.old }
+        requires numbers { (z : ℕ) → z < end_count (abstract_frame self.now)
+            → end_classes (abstract_frame self.now) (lists_of self.now) z ≤ length numbers.old }
+        ensures { result ≡ raw_payoff (abstract_frame self.now) (lifted (abstract_frame self.now) (lists_of self.now) x.now)
+            (lifted (abstract_frame self.now) (lists_of self.now) y.now) }
     {
         let mut sum = 0i128;
         for end in 0..self.end_total() {
@@ -147,13 +150,13 @@ impl<'a> Abstract<'a> {
         sums: &mut [i128],
         numbers: &mut [u64],
     ) -> i128
-        requires x { IsPlanOf (frame_of self.now) (lists_of self.now) 1 x.now }
-        requires y { IsPlanOf (frame_of self.now) (lists_of self.now) 2 y.now }
-        requires end { end < end_count (frame_of self.now) }
-        requires sums { end_classes (frame_of self.now) (lists_of self.now) end ≤ length sums.old }
-        requires numbers { end_classes (frame_of self.now) (lists_of self.now) end ≤ length numbers.old }
-        ensures { result ≡ payoff_at (frame_of self.now) (lists_of self.now) (class_plan (frame_of self.now) (lists_of self.now) x.now)
-            (class_plan (frame_of self.now) (lists_of self.now) y.now) end }
+        requires x { IsPlanOf (abstract_frame self.now) (lists_of self.now) 1 x.now }
+        requires y { IsPlanOf (abstract_frame self.now) (lists_of self.now) 2 y.now }
+        requires end { end < end_count (abstract_frame self.now) }
+        requires sums { end_classes (abstract_frame self.now) (lists_of self.now) end ≤ length sums.old }
+        requires numbers { end_classes (abstract_frame self.now) (lists_of self.now) end ≤ length numbers.old }
+        ensures { result ≡ payoff_at (abstract_frame self.now) (lists_of self.now) (class_plan (abstract_frame self.now) (lists_of self.now) x.now)
+            (class_plan (abstract_frame self.now) (lists_of self.now) y.now) end }
     {
         self.end_sums(1, y, end, 0, sums, numbers);
         let mut sum = 0i128;

@@ -7,19 +7,19 @@ use Rattle.gs_group.specs.Checking.{IsGrouping}
 use Rattle.gs_lossless.specs.declared.Lossless.{Lossless}
 use Rattle.gs_model.specs.{Frame.{frame_of}, Lossless.{IsLossless}}
 use Rattle.gs_reply.specs.{Replies.{Answers}, Troubles.{SaysLarge}, declared.answers.Answer.{Answer}}
-use Rattle.gs_seq.specs.{Abstracts.{frame_of as frame_in, lists_of}, Stops.{IsSmall}, declared.form.Abstract.{Abstract}}
+use Rattle.gs_seq.specs.{Abstracts.{abstract_frame, lists_of}, Stops.{IsSmall}, declared.form.Abstract.{Abstract}}
 use Rattle.gs_tree.specs.{Trees.{rules_of}, declared.signals.Signals.{Signals}}
 use Rattle.gs_words.specs.declared.request.Grouping.{Grouping}
-use Rattle.gs_settle.specs.{Settling.{OfForm, OfGrouping, game_in}, Tasks.{Says}, declared.tasks.Task.{Task}}
+use Rattle.gs_settle.specs.{Settling.{OfForm, OfGrouping, file_game_in}, Tasks.{Says}, declared.tasks.Task.{Task}}
 use Rattle.gs_reply.proofs.Refused.{answers_more}
 
 -- of a game in sequence form it is said of the lossless classes
-pub form_said : (task : Task) (form : Abstract) (l : Lossless) (a : Answer) → form.lossless.now ≡ l → IsSmall (frame_in form) (lists_of form)
-    → Answers (Says task (game_in form) (lists_of form)) a
+pub form_said : (task : Task) (form : Abstract) (l : Lossless) (a : Answer) → form.lossless.now ≡ l → IsSmall (abstract_frame form) (lists_of form)
+    → Answers (Says task (file_game_in form) (lists_of form)) a
     → Answers (OfForm (Says task) (valid_view l.signals.now.game.now) l.classes.now.lists) a
 form_said task form l a held small said =
     subst (λ (x : Lossless). Answers (OfForm (Says task) (valid_view x.signals.now.game.now) x.classes.now.lists) a) held
-    (answers_more (Says task (game_in form) (lists_of form)) (OfForm (Says task) (game_in form) (lists_of form)) (λ r h. inr (small, h)) a said)
+    (answers_more (Says task (file_game_in form) (lists_of form)) (OfForm (Says task) (file_game_in form) (lists_of form)) (λ r h. inr (small, h)) a said)
 
 -- that the game over lossless classes is too large
 pub large_said : (task : Task) (l : Lossless) (a : Answer) → Answers (SaysLarge (valid_view l.signals.now.game.now) l.classes.now.lists) a

@@ -6,17 +6,17 @@ use Rattle.gs_filter.specs.Filter.{Filter}
 use Rattle.gs_frac.specs.declared.value.Verdict.{Verdict}
 use Rattle.gs_game.specs.declared.valid.ValidGame.{ValidGame}
 use Rattle.gs_model.specs.{Classes.{IsClasses}, Lossless.{IsLossless}, Verdict.{IsVerdict}}
-use Rattle.gs_seq.specs.{Abstracts.{frame_of, lists_of}, Games.{frame_in}, Plans.{IsPlanOf, lifted}, Stops.{IsSmall}, declared.form.Abstract.{Abstract}}
+use Rattle.gs_seq.specs.{Abstracts.{abstract_frame, lists_of}, Games.{frame_in}, Plans.{IsPlanOf, lifted}, Stops.{IsSmall}, declared.form.Abstract.{Abstract}}
 use Rattle.gs_seq.specs.declared.plan.Plan.{Plan}
 use Rattle.gs_strategy.specs.{Texts.{strategy_text}, Views.{strategy_of}}
-use Rattle.gs_settle.specs.{Settling.{game_in}, Texts.{IsTextOf}}
+use Rattle.gs_settle.specs.{Settling.{file_game_in}, Texts.{IsSettledText}}
 
 pub told : (game : ValidGame) (classes : Filter) (one two : Plan) (found : Verdict) (text : List ℕ) → IsClasses (frame_in game).parents classes.lists
     → IsLossless (frame_in game) classes.lists → IsSmall (frame_in game) classes.lists
     → IsPlanOf (frame_in game) classes.lists 1 one → IsPlanOf (frame_in game) classes.lists 2 two
     → IsVerdict (frame_in game) (lifted (frame_in game) classes.lists one) (lifted (frame_in game) classes.lists two) (parts found.value) (parts found.gap1)
     (parts found.gap2)
-    → text ≡ strategy_text Two (strategy_of game classes one two found) → IsTextOf (valid_view game) classes.lists one two text
+    → text ≡ strategy_text Two (strategy_of game classes one two found) → IsSettledText (valid_view game) classes.lists one two text
 told game classes one two found text are lossless small first second verdict printed = record {
   strategy = strategy_of game classes one two found;
   game = refl;
@@ -37,11 +37,11 @@ told game classes one two found text are lossless small first second verdict pri
 -- and of a game in sequence form, whose game and classes were read
 pub told_of : (form : Abstract) (game : ValidGame) (classes : Filter) (one two : Plan) (found : Verdict) (text : List ℕ)
     → game ≡ form.lossless.now.signals.now.game.now → classes ≡ form.lossless.now.classes.now
-    → IsClasses (frame_of form).parents (lists_of form) → IsLossless (frame_of form) (lists_of form) → IsSmall (frame_of form) (lists_of form)
-    → IsPlanOf (frame_of form) (lists_of form) 1 one → IsPlanOf (frame_of form) (lists_of form) 2 two
-    → IsVerdict (frame_of form) (lifted (frame_of form) (lists_of form) one) (lifted (frame_of form) (lists_of form) two) (parts found.value)
+    → IsClasses (abstract_frame form).parents (lists_of form) → IsLossless (abstract_frame form) (lists_of form) → IsSmall (abstract_frame form) (lists_of form)
+    → IsPlanOf (abstract_frame form) (lists_of form) 1 one → IsPlanOf (abstract_frame form) (lists_of form) 2 two
+    → IsVerdict (abstract_frame form) (lifted (abstract_frame form) (lists_of form) one) (lifted (abstract_frame form) (lists_of form) two) (parts found.value)
     (parts found.gap1) (parts found.gap2)
-    → text ≡ strategy_text Two (strategy_of game classes one two found) → IsTextOf (game_in form) (lists_of form) one two text
+    → text ≡ strategy_text Two (strategy_of game classes one two found) → IsSettledText (file_game_in form) (lists_of form) one two text
 told_of form game classes one two found text of_game of_classes are lossless small first second verdict printed =
     told form.lossless.now.signals.now.game.now form.lossless.now.classes.now one two found text are lossless small first second verdict
     (printed ∙ ap (λ (v : ValidGame). strategy_text Two (strategy_of v classes one two found)) of_game

@@ -7,7 +7,7 @@ use Rattle.gs_reply.specs.Replies.{Reply, Prints, Refuses}
 use Rattle.gs_rows.specs.{Program.{Listing}, declared.Program.{Program}}
 use Rattle.gs_simplex.specs.{Trace.{IsTrace}, declared.answer.PathTrace.{PathTrace}, declared.answer.Turn.{Turn}}
 use Rattle.gs_solve.specs.Solutions.{IsGamePath, most_pivots}
-use Rattle.gs_strategy.specs.{Values.{frame_in}, Views.{parts_of}}
+use Rattle.gs_strategy.specs.{Values.{file_frame}, Views.{parts_of}}
 use Rattle.gs_settle.specs.Solving.{SaysStopped}
 
 -- the line of a pivot: its number, the column that enters, and the one that leaves
@@ -27,7 +27,7 @@ path_text t = number_line (codes "opening") (parts_of t.start) ++ turn_lines 0 t
 pub record IsPathShown (g : FileGame) (lists : ClassLists) (text : List ℕ) : Type 0 where
   pub program : Program
   pub opening : Listing
-  pub path : IsGamePath (frame_in g) lists program opening
+  pub path : IsGamePath (file_frame g) lists program opening
   pub trace : PathTrace
   pub shown : IsTrace program opening most_pivots trace
   pub printed : text ≡ path_text trace

@@ -4,15 +4,15 @@ use Rattle.gs_file.specs.Reading.{FileGame}
 use Rattle.gs_model.specs.{Classes.{ClassLists}, Play.{IsFictitiousPlay}}
 use Rattle.gs_reply.specs.Replies.{Reply, Prints, Refuses}
 use Rattle.gs_seq.specs.{Plans.{class_plan}, declared.plan.Plan.{Plan}}
-use Rattle.gs_strategy.specs.Values.{frame_in}
-use Rattle.gs_settle.specs.Texts.{IsTextOf}
+use Rattle.gs_strategy.specs.Values.{file_frame}
+use Rattle.gs_settle.specs.Texts.{IsSettledText}
 
 -- the text is that of the strategy of both players' plans after `turns` turns of fictitious play
 pub record IsPlayed (turns : ℕ) (g : FileGame) (lists : ClassLists) (text : List ℕ) : Type 0 where
   pub one : Plan
   pub two : Plan
-  pub played : IsFictitiousPlay (frame_in g) lists turns (class_plan (frame_in g) lists one) (class_plan (frame_in g) lists two)
-  pub told : IsTextOf g lists one two text
+  pub played : IsFictitiousPlay (file_frame g) lists turns (class_plan (file_frame g) lists one) (class_plan (file_frame g) lists two)
+  pub told : IsSettledText g lists one two text
 
 -- what `play` says of a game over classes: the strategy after `turns` turns; no game is refused
 abbrev pub Plays : ℕ → FileGame → ClassLists → Reply → Type 0

@@ -5,29 +5,29 @@ use Rattle.gs_model.specs.Classes.{ClassLists}
 use Rattle.gs_reply.specs.{Refusals.{Refusal, Overflows, At_step, At_total, Many_pivots, Too_large, Table_numbers}, Replies.{Reply, Prints, Refuses}}
 use Rattle.gs_seq.specs.declared.plan.Plan.{Plan}
 use Rattle.gs_solve.specs.{Solutions.{IsGameSolution, IsSolveStop}, declared.stop.SolveStop.TheVariants.{TableTooLarge, Wide, Pivots, Total}}
-use Rattle.gs_strategy.specs.Values.{frame_in}
-use Rattle.gs_settle.specs.Texts.{IsTextOf}
+use Rattle.gs_strategy.specs.Values.{file_frame}
+use Rattle.gs_settle.specs.Texts.{IsSettledText}
 
 -- The text is that of the strategy of two plans read off the end of the path of the game's linear program. Both gaps are 0 over 1: no raw plan of either
 -- player gains.
 pub record IsSolved (g : FileGame) (lists : ClassLists) (text : List ℕ) : Type 0 where
   pub one : Plan
   pub two : Plan
-  pub solution : IsGameSolution (frame_in g) lists one two
-  pub told : IsTextOf g lists one two text
+  pub solution : IsGameSolution (file_frame g) lists one two
+  pub told : IsSettledText g lists one two text
   pub gap1 : told.strategy.numbers.gap1 ≡ (pos 0, pos 1)
   pub gap2 : told.strategy.numbers.gap2 ≡ (pos 0, pos 1)
 
 -- this refusal applies: the path of the game's linear program stops before its end, or the program's table has too many numbers
 abbrev pub SaysStopped : FileGame → ClassLists → Refusal → Type 0
-SaysStopped g lists (Too_large (Table_numbers count)) = IsSolveStop (frame_in g) lists (TableTooLarge count)
-SaysStopped g lists (Overflows (At_step step row column number)) = IsSolveStop (frame_in g) lists (Wide step row column number)
-SaysStopped g lists Many_pivots = IsSolveStop (frame_in g) lists Pivots
+SaysStopped g lists (Too_large (Table_numbers count)) = IsSolveStop (file_frame g) lists (TableTooLarge count)
+SaysStopped g lists (Overflows (At_step step row column number)) = IsSolveStop (file_frame g) lists (Wide step row column number)
+SaysStopped g lists Many_pivots = IsSolveStop (file_frame g) lists Pivots
 SaysStopped g lists why = ⊥
 
 -- this refusal applies: the path stops, or a plan's least total is too large
 abbrev pub SaysUnsolved : FileGame → ClassLists → Refusal → Type 0
-SaysUnsolved g lists (Overflows (At_total player multiple)) = IsSolveStop (frame_in g) lists (Total player multiple)
+SaysUnsolved g lists (Overflows (At_total player multiple)) = IsSolveStop (file_frame g) lists (Total player multiple)
 SaysUnsolved g lists why = SaysStopped g lists why
 
 -- what `solve` says of a game over classes

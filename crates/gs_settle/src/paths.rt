@@ -3,8 +3,8 @@
 ghost use Rattle.std.specs.Prelude.{IfOk};
 ghost use Rattle.gs_reply.specs.Replies.{Answers};
 ghost use Rattle.gs_rows.specs.{declared.Program.{Program}};
-ghost use Rattle.gs_seq.specs.Abstracts.{frame_of, lists_of};
-ghost use Rattle.gs_settle.specs.{Paths.{ShowsPath}, Settling.{game_in}};
+ghost use Rattle.gs_seq.specs.Abstracts.{abstract_frame, lists_of};
+ghost use Rattle.gs_settle.specs.{Paths.{ShowsPath}, Settling.{file_game_in}};
 ghost use Rattle.gs_simplex.specs.Answer.{IsStop};
 ghost use Rattle.gs_solve.specs.{Solutions.{IsGamePath, IsProgramStop, most_pivots}, Stops.{IsMet}};
 
@@ -17,8 +17,8 @@ use std::alloc::{AllocError, Global};
 
 /// Returns the refusal of a game whose linear program is not made.
 fn unmade(alloc: Global, form: &Abstract, stop: SolveStop) -> Result<Answer, AllocError>
-    requires { IsProgramStop (frame_of form.now) (lists_of form.now) stop }
-    ensures { IfOk result (Answers (ShowsPath (game_in form.now) (lists_of form.now))) }
+    requires { IsProgramStop (abstract_frame form.now) (lists_of form.now) stop }
+    ensures { IfOk result (Answers (ShowsPath (file_game_in form.now) (lists_of form.now))) }
 {
     match stop {
         SolveStop::TableTooLarge { count } => many_table_numbers(alloc, count),
@@ -35,10 +35,10 @@ fn unended(
     opening: &[(u32, u32)],
     stop: Stop,
 ) -> Result<Answer, AllocError>
-    requires path { IsGamePath (frame_of form.now) (lists_of form.now) p.now opening.now }
+    requires path { IsGamePath (abstract_frame form.now) (lists_of form.now) p.now opening.now }
     requires stop { IsStop p.now opening.now most_pivots stop }
     requires met { IsMet stop }
-    ensures { IfOk result (Answers (ShowsPath (game_in form.now) (lists_of form.now))) }
+    ensures { IfOk result (Answers (ShowsPath (file_game_in form.now) (lists_of form.now))) }
 {
     match stop {
         Stop::Wide {
@@ -54,7 +54,7 @@ fn unended(
 
 /// Returns the lines of the path of a game's linear program, or the refusal.
 pub(crate) fn shown(alloc: Global, form: &Abstract) -> Result<Answer, AllocError>
-    ensures { IfOk result (Answers (ShowsPath (game_in form.now) (lists_of form.now))) }
+    ensures { IfOk result (Answers (ShowsPath (file_game_in form.now) (lists_of form.now))) }
 {
     let (p, opening) = match program(alloc, form) {
         Ok(made) => made,

@@ -3,8 +3,8 @@
 ghost use Rattle.std.specs.Prelude.{IfOk};
 ghost use Rattle.gs_file.specs.Views.{valid_view};
 ghost use Rattle.gs_reply.specs.{Replies.{Answers}};
-ghost use Rattle.gs_seq.specs.{Abstracts.{frame_of as frame_by, lists_of}, Stops.{IsSmall}};
-ghost use Rattle.gs_settle.specs.{Settling.{OfForm, OfGrouping, Settles, game_in}, Tasks.{IsFew, Says}};
+ghost use Rattle.gs_seq.specs.{Abstracts.{abstract_frame as frame_by, lists_of}, Stops.{IsSmall}};
+ghost use Rattle.gs_settle.specs.{Settling.{OfForm, OfGrouping, Settles, file_game_in}, Tasks.{IsFew, Says}};
 
 use crate::paths::shown;
 use crate::playing::played;
@@ -23,7 +23,7 @@ use std::alloc::{AllocError, Global};
 fn over_form(alloc: Global, form: &Abstract, task: Task) -> Result<Answer, AllocError>
     requires few { IsFew task }
     requires small { IsSmall (frame_by form.now) (lists_of form.now) }
-    ensures { IfOk result (Answers (Says task (game_in form.now) (lists_of form.now))) }
+    ensures { IfOk result (Answers (Says task (file_game_in form.now) (lists_of form.now))) }
 {
     match task {
         Task::Play { turns } => played(alloc, form, turns),

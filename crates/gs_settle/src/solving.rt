@@ -2,8 +2,8 @@
 
 ghost use Rattle.std.specs.Prelude.{IfOk};
 ghost use Rattle.gs_reply.specs.Replies.{Answers};
-ghost use Rattle.gs_seq.specs.{Abstracts.{frame_of, lists_of}, Stops.{IsSmall}};
-ghost use Rattle.gs_settle.specs.{Settling.{game_in}, Solving.{Solves}};
+ghost use Rattle.gs_seq.specs.{Abstracts.{abstract_frame, lists_of}, Stops.{IsSmall}};
+ghost use Rattle.gs_settle.specs.{Settling.{file_game_in}, Solving.{Solves}};
 ghost use Rattle.gs_solve.specs.Solutions.{IsSolveStop};
 
 use crate::writing::text_of;
@@ -14,8 +14,8 @@ use std::alloc::{AllocError, Global};
 
 /// Returns the refusal of a game that is not solved.
 fn unsolved(alloc: Global, form: &Abstract, stop: SolveStop) -> Result<Answer, AllocError>
-    requires { IsSolveStop (frame_of form.now) (lists_of form.now) stop }
-    ensures { IfOk result (Answers (Solves (game_in form.now) (lists_of form.now))) }
+    requires { IsSolveStop (abstract_frame form.now) (lists_of form.now) stop }
+    ensures { IfOk result (Answers (Solves (file_game_in form.now) (lists_of form.now))) }
 {
     match stop {
         SolveStop::TableTooLarge { count } => many_table_numbers(alloc, count),
@@ -33,8 +33,8 @@ fn unsolved(alloc: Global, form: &Abstract, stop: SolveStop) -> Result<Answer, A
 
 /// Returns the text of a strategy with both gaps 0, or the refusal.
 pub(crate) fn solved(alloc: Global, form: &Abstract) -> Result<Answer, AllocError>
-    requires { IsSmall (frame_of form.now) (lists_of form.now) }
-    ensures { IfOk result (Answers (Solves (game_in form.now) (lists_of form.now))) }
+    requires { IsSmall (abstract_frame form.now) (lists_of form.now) }
+    ensures { IfOk result (Answers (Solves (file_game_in form.now) (lists_of form.now))) }
 {
     match solve(alloc, form) {
         Ok((one, two)) => Ok(Answer::Prints(text_of(alloc, form, &one, &two)?)),

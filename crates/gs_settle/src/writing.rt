@@ -1,8 +1,8 @@
 //! Writing the text of a strategy.
 
 ghost use Rattle.std.specs.Prelude.{IfOk};
-ghost use Rattle.gs_seq.specs.{Abstracts.{frame_of, lists_of}, Plans.{IsPlanOf}, Stops.{IsSmall}};
-ghost use Rattle.gs_settle.specs.{Settling.{game_in}, Texts.{IsTextOf}};
+ghost use Rattle.gs_seq.specs.{Abstracts.{abstract_frame, lists_of}, Plans.{IsPlanOf}, Stops.{IsSmall}};
+ghost use Rattle.gs_settle.specs.{Settling.{file_game_in}, Texts.{IsSettledText}};
 
 use gs_best::{Work, verdict};
 use gs_seq::{Abstract, Plan};
@@ -16,10 +16,10 @@ pub(crate) fn text_of(
     one: &Plan,
     two: &Plan,
 ) -> Result<Vec<u8>, AllocError>
-    requires small { IsSmall (frame_of form.now) (lists_of form.now) }
-    requires one { IsPlanOf (frame_of form.now) (lists_of form.now) 1 one.now }
-    requires two { IsPlanOf (frame_of form.now) (lists_of form.now) 2 two.now }
-    ensures { IfOk result (λ text. IsTextOf (game_in form.now) (lists_of form.now) one.now two.now text.items) }
+    requires small { IsSmall (abstract_frame form.now) (lists_of form.now) }
+    requires one { IsPlanOf (abstract_frame form.now) (lists_of form.now) 1 one.now }
+    requires two { IsPlanOf (abstract_frame form.now) (lists_of form.now) 2 two.now }
+    ensures { IfOk result (λ text. IsSettledText (file_game_in form.now) (lists_of form.now) one.now two.now text.items) }
 {
     let lossless = form.lossless();
     let signals = lossless.signals();

@@ -3,7 +3,8 @@ use Rattle.std.proofs.Common.{◌≡◌, ◌≢◌, ℕ, ◌+◌, ◌<◌, ◌�
 use Rattle.std.proofs.{lemmas.Bool.{cases_eq, cases_lt, cases_order}, lemmas.List.{length-set}}
 use Rattle.gs_rows.specs.{declared.Program.{Program}, Program.{Listing, IsListed, IsPairList, IsRowsOf}}
 use Rattle.gs_rows.proofs.{Ring.{linear, one_times, times_zero, cancel_zero}, Solutions.{find_col}, PairLists.{pair_list_is_list, row_decided, column_decided}}
-use Rattle.gs_simplex.specs.{Numbers.{at, cell, IsDivided}, Table.{IsTable, IsKept}, Live.{IsOutside, ArePlaces, IsFound, IsSupport, IsChange, IsLive}}
+use Rattle.gs_simplex.specs.{Numbers.{at, cell, IsDivided}, Table.{IsTable, IsKept}}
+use Rattle.gs_simplex.specs.Live.{IsOutside, AreColumnPlaces, AreFoundPlaces, IsSupport, IsChange, IsLive}
 use Rattle.gs_simplex.proofs.{Tables.{flipped_other}, Kept.{row_zero_kept, aim_zero_kept}}
 
 -- a column at one of the places, or at none
@@ -191,7 +192,7 @@ module _ (places now owns : List ℕ) (found count r width i : ℕ) (rows : ℕ 
 -- ---- what is found of a list is so of its rows
 module _ (p : Program) (l : Listing) (r found : ℕ) (places owns : List ℕ) (items mid : List ℤ) (lead : ℕ
     → ℤ) (pairs : IsPairList p l) (table : IsTable p items) (R : ℕ → ℕ → ℤ) (a : ℕ → ℤ) (rows : IsRowsOf p l R a) (same : IsKept p R a items) (rm : r < p.rows)
-    (f : IsFound p l r places owns found)
+    (f : AreFoundPlaces p l r places owns found)
     (kept : (i : ℕ) → i ≢ r → (j : ℕ) → j < p.cols + 2 → cell mid (p.cols + 2) i j ≡ cell items (p.cols + 2) i j)
     (taken : (j : ℕ) → j < p.cols + 2 → cell items (p.cols + 2) r j ≡ pos 0 → lead j ≡ pos 0) where
   -- the row of a row that the column is not listed with has 0 there
@@ -269,7 +270,7 @@ module _ (p : Program) (l : Listing) (r found : ℕ) (places owns : List ℕ) (i
 -- ---- what is found of the marks is so of the list
 module _ (p : Program) (l : Listing) (r found : ℕ) (rows places : List ℕ) (pairs : IsPairList p l) (listed : (i j : ℕ) → IsListed l i j
     → slice_index rows j ≡ i + 1)
-    (unlisted : (j : ℕ) → j < p.cols → ((i : ℕ) × IsListed l i j → ⊥) → slice_index rows j ≡ 0) (u : ArePlaces p.cols rows r places found) where
+    (unlisted : (j : ℕ) → j < p.cols → ((i : ℕ) × IsListed l i j → ⊥) → slice_index rows j ≡ 0) (u : AreColumnPlaces p.cols rows r places found) where
   pub live_row : (i k : ℕ) → 0 < k → k < found → IsListed l i (slice_index places k) → i ≡ r
   live_row i k k0 kf h =
       let e = listed i (slice_index places k) h in

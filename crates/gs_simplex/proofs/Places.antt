@@ -6,7 +6,8 @@ use Rattle.std.proofs.Math.ListN.{get_or-map}
 use Prim.Native.Nat.{◌∣◌}
 use borrow.Rule.Slice.PartMut.{put_mid}
 use Rattle.gs_rows.specs.Rows.{IsNarrow, IsPrimitive}
-use Rattle.gs_simplex.specs.Numbers.{at, cell, AllNarrow, IsAtMost, IsMultiple, IsDivided, cleared_by, IsMixed, IsReduced, IsReducedTo, IsTurned, IsLeadOf}
+use Rattle.gs_simplex.specs.Numbers.{at, cell, AreNarrowNumbers, IsAtMost, IsMultiple, IsDivided, cleared_by, IsMixed, IsReduced, IsReducedTo, IsTurned}
+use Rattle.gs_simplex.specs.Numbers.{IsLeadOf}
 use Rattle.gs_rows.proofs.Ring.{linear}
 use Rattle.gs_simplex.proofs.Multiples.{down_nonneg}
 
@@ -54,7 +55,7 @@ length_put xs ys a n e l =
     omega (arith, length-append (take a xs) (ys ++ drop n (drop a xs)), length-append ys (drop n (drop a xs)), length-drop n (drop a xs), length-drop a xs)
 
 -- all numbers are narrow after a part was written with narrow ones
-pub narrow_put : (xs ys : List ℤ) (a n : ℕ) → length ys ≡ n → a + n ≤ length xs → AllNarrow xs → AllNarrow ys → (k : ℕ) → k < length xs
+pub narrow_put : (xs ys : List ℤ) (a n : ℕ) → length ys ≡ n → a + n ≤ length xs → AreNarrowNumbers xs → AreNarrowNumbers ys → (k : ℕ) → k < length xs
     → IsNarrow (at (put_mid a n xs ys) k)
 narrow_put xs ys a n e l u w k h =
     let P : ℤ → Type 0 = λ z. IsNarrow z in

@@ -7,7 +7,8 @@ use Rattle.std.specs.Int.{IsGcd}
 use Rattle.gs_rows.specs.Rows.{IsNarrow, IsPrimitive}
 use Rattle.gs_rows.proofs.{Ring.{ring, linear, one_times, times_pos, times_times, cancel, cancel_zero}, Sums.{cases_last}}
 use Rattle.gs_rows.proofs.Primitive.{over, over_times, zero_abs}
-use Rattle.gs_simplex.specs.Numbers.{at, AllNarrow, AllAtMost, IsAtMost, IsDivisor, IsShared, IsQuotient, IsWideQuotient, IsMultiple, IsDivided, IsMixed, IsReduced, IsReducedTo}
+use Rattle.gs_simplex.specs.Numbers.{at, AreNarrowNumbers, AllAtMost, IsAtMost, IsDivisor, IsShared, IsQuotient, IsWideQuotient, IsMultiple, IsDivided, IsMixed}
+use Rattle.gs_simplex.specs.Numbers.{IsReduced, IsReducedTo}
 
 -- one more number among those divided, which may be 0
 pub one_more : (f : ℕ → ℤ) (i found next m : ℕ) → m ≡ unsigned_abs (f i) → IsGcd found m next → IsDivisor i f found → IsDivisor (i + 1) f next
@@ -76,7 +77,7 @@ quotients_primitive d by last f q u e at_q = elim (cases_eq d 0) [
   }
 ]
 
-pub divisor_narrow : (row : List ℤ) (d : ℕ) → IsDivisor (length row) (at row) d → AllNarrow row → d < 2 ^ 62
+pub divisor_narrow : (row : List ℤ) (d : ℕ) → IsDivisor (length row) (at row) d → AreNarrowNumbers row → d < 2 ^ 62
 divisor_narrow row d u h =
     let b : d ≤ 2 ^ 62 - 1 = divisor_small d (length row) (2 ^ 62 - 1) (at row) u (λ j l. let k : unsigned_abs (at row j) < 2 ^ 62 = h j l in omega arith) in
     omega arith

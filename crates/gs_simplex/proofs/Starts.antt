@@ -3,7 +3,7 @@ use Rattle.std.proofs.Common.{◌≡◌, inl, inr, ℕ, zero, suc, ◌+◌, ◌-
 use Rattle.std.proofs.lemmas.Bool.{cases_eq, cases_lt}
 use Rattle.gs_rows.specs.{declared.Program.{Program}, Rows.{IsNarrow, IsPrimitive}, Program.{IsShaped, IsRowsOf}}
 use Rattle.gs_rows.proofs.{Exists.{empty_rows_from}, Ring.{cancel_zero}}
-use Rattle.gs_simplex.specs.{Numbers.{at, cell, AllNarrow, IsDivided}, Table.{table_rows, table_aim, IsTable, HasTops}, State.{IsRaw}}
+use Rattle.gs_simplex.specs.{Numbers.{at, cell, AreNarrowNumbers, IsDivided}, Table.{table_rows, table_aim, IsTable, HasTops}, State.{IsRaw}}
 use Rattle.gs_simplex.proofs.{Places.{row_inside}, Tables.{flipped_at, flipped_other, primitive_shorter}}
 
 -- each place of rows that stand one after the other
@@ -14,7 +14,7 @@ rows_cover w (suc n) P h k l = elim (cases_lt k (n * w)) [
   | inr from ↦ (let e : n * w + (k - n * w) ≡ k = omega arith in subst P e (h n (k - n * w) (omega arith) (omega arith)))
 ]
 
-pub raw_narrow : (p : Program) (xs : List ℤ) → IsShaped p → IsRaw p xs → AllNarrow xs
+pub raw_narrow : (p : Program) (xs : List ℤ) → IsShaped p → IsRaw p xs → AreNarrowNumbers xs
 raw_narrow p xs s u k h = rows_cover (p.cols + 2) (p.rows + 1) (λ t. IsNarrow (at xs t)) (λ i j im jw.
     let P : ℤ → Type 0 = λ t. IsNarrow t in
     elim (cases_lt i p.rows) [
@@ -44,7 +44,7 @@ wide_tops p xs tops u e i h j jw =
 -- the table that the divided rows are
 module _ (p : Program) (raw new : List ℤ) (shaped : IsShaped p) (u : IsRaw p raw) (long : length new ≡ length raw)
     (divided : (i : ℕ) → i < p.rows → IsDivided (p.cols + 2) (cell raw (p.cols + 2) i) (cell new (p.cols + 2) i))
-    (last : (j : ℕ) → j < p.cols + 2 → cell new (p.cols + 2) p.rows j ≡ cell raw (p.cols + 2) p.rows j) (narrow : AllNarrow new) where
+    (last : (j : ℕ) → j < p.cols + 2 → cell new (p.cols + 2) p.rows j ≡ cell raw (p.cols + 2) p.rows j) (narrow : AreNarrowNumbers new) where
   end_zero : (i : ℕ) → i < p.rows → cell new (p.cols + 2) i (p.cols + 1) ≡ pos 0
   end_zero i h = let g = (divided i h).multiple.by in cancel_zero g.0 (cell new (p.cols + 2) i (p.cols + 1)) g.1 (sym (g.2 (p.cols + 1) (omega arith))
       ∙ u.zero i h)

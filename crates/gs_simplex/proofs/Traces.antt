@@ -7,7 +7,7 @@ use Rattle.gs_rows.specs.Path.{States, IsPath, NoneEnters, ends, Stops, PathStop
 use Rattle.gs_rows.proofs.{Opening.{path_trail, bases_differ}, PairLists.{pair_list_is_list}, Agree.{Agree, lists_same, paths_agree}}
 use Rattle.gs_frac.specs.declared.value.Fraction.{Fraction}
 use Rattle.gs_simplex.specs.{declared.answer.Turn.{Turn}, declared.answer.PathTrace.{PathTrace}, Table.{table_aim, IsTable}, State.{IsSoFar, IsTurnAt}}
-use Rattle.gs_simplex.specs.{Answer.{IsSmall}, Trace.{IsBasis, IsBasisBelow, IsBasisAt, IsAimValue, IsTurnOf, IsTrace, IsNoted}}
+use Rattle.gs_simplex.specs.{Answer.{IsSmallTable}, Trace.{IsBasis, IsBasisBelow, IsBasisAt, IsAimValue, IsTurnOf, IsTrace, IsNoted}}
 use Rattle.gs_simplex.proofs.{Multiples.{down_fraction}, Paths.{turn_same_as, ends_stops}}
 
 -- what holds of each element after a push
@@ -144,7 +144,7 @@ module _ (p : Program) (o : Listing) (n : ℕ) (s : States) (ok : IsOpening p o)
       (same_columns (s.lists (length o + k)) (s.lists (length o + h)) a b u w e)
 
 -- ---- all together
-pub trace_of : (p : Program) (o : Listing) (limit n : ℕ) (t : PathTrace) (l0 l : Listing) (xs0 xs : List ℤ) → IsSmall p → IsOpening p o
+pub trace_of : (p : Program) (o : Listing) (limit n : ℕ) (t : PathTrace) (l0 l : Listing) (xs0 xs : List ℤ) → IsSmallTable p → IsOpening p o
     → IsSoFar p o (length o) l0 xs0 → IsAimValue p (table_aim p xs0) t.start
     → IsSoFar p o (length o + n) l xs → IsTable p xs → n ≤ limit → NoneEnters p l (table_aim p xs) → IsAimValue p (table_aim p xs) t.aim
     → IsNoted p o n t.turns.items t.bases.items → IsTrace p o limit t

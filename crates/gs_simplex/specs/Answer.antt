@@ -6,15 +6,15 @@ use Rattle.gs_simplex.specs.{declared.answer.Best.{Best}, declared.answer.Stop.{
 use Rattle.gs_simplex.specs.declared.answer.Stop.TheVariants.{TableTooLarge, Wide, Pivots, Unbounded, Memory}
 
 -- the table is within the limit of 1,048,576 numbers
-abbrev pub IsSmall : Program → Type 0
-IsSmall p = (p.rows + 1) * (p.cols + 1) ≤ 1048576
+abbrev pub IsSmallTable : Program → Type 0
+IsSmallTable p = (p.rows + 1) * (p.cols + 1) ≤ 1048576
 
 -- What a stop says: the table is above the limit, or it is within the limit and the path stops in this way. `Memory` says nothing.
 abbrev pub IsStop : Program → Listing → ℕ → Stop → Type 0
 IsStop p o limit (TableTooLarge count) = (count ≡ (p.rows + 1) * (p.cols + 1)) × (1048576 < count)
-IsStop p o limit (Wide step row col number) = IsSmall p × PathStops p o limit (wide step row col number)
-IsStop p o limit Pivots = IsSmall p × PathStops p o limit pivots
-IsStop p o limit (Unbounded col) = IsSmall p × PathStops p o limit (unbounded col)
+IsStop p o limit (Wide step row col number) = IsSmallTable p × PathStops p o limit (wide step row col number)
+IsStop p o limit Pivots = IsSmallTable p × PathStops p o limit pivots
+IsStop p o limit (Unbounded col) = IsSmallTable p × PathStops p o limit (unbounded col)
 IsStop p o limit Memory = Unit {0}
 
 -- The values and prices at a list with these rows. A listed column's value is its row's right side over its row's number in the column, and an
@@ -27,7 +27,7 @@ pub record IsBestAt (p : Program) (l : Listing) (rows : ℕ → ℕ → ℤ) (ai
 
 -- the path ends at the list of b after this number of pivots, and b has the values and prices at that list
 pub record IsBest (p : Program) (o : Listing) (limit : ℕ) (b : Best) : Type 0 where
-  pub small : IsSmall p
+  pub small : IsSmallTable p
   pub stops : PathStops p o limit (ends b.pivots b.basis.items)
   pub values : length b.value.items ≡ p.cols
   pub prices : length b.price.items ≡ p.cols

@@ -1,12 +1,12 @@
 -- What the tests check of a program and an opening before they call `run`.
 use Rattle.std.specs.Prelude.{◌≡◌, ◌≢◌, ℕ, ◌+◌, ◌<◌, List, length, take, slice_index_or, ℤ, pos, ◌≤ℤ◌}
 use Rattle.gs_rows.specs.{declared.Program.{Program}, Program.{Listing, IsListed, IsFree, CanTake}}
-use Rattle.gs_simplex.specs.{Numbers.{AllNarrow}, Table.{IsTable, IsTableOf}}
+use Rattle.gs_simplex.specs.{Numbers.{AreNarrowNumbers}, Table.{IsTable, IsTableOf}}
 
 -- a row has this width and narrow numbers
 pub record IsWideRow (width : ℕ) (row : List ℤ) : Type 0 where
   pub long : length row ≡ width
-  pub narrow : AllNarrow row
+  pub narrow : AreNarrowNumbers row
 
 -- no earlier pair has the row or the column of the pair at this step
 abbrev pub IsNewPair : Listing → ℕ → Type 0

@@ -28,7 +28,7 @@ pub record ArePlacesBelow (rows : List ℕ) (r : ℕ) (places : List ℕ) (found
   pub all : (j : ℕ) → j < count → IsOutside places found j → IsLiveRow r (slice_index rows j) → ⊥
 
 -- the columns that are looked at, in order, and then the right side
-pub record ArePlaces (cols : ℕ) (rows : List ℕ) (r : ℕ) (places : List ℕ) (found : ℕ) : Type 0 where
+pub record AreColumnPlaces (cols : ℕ) (rows : List ℕ) (r : ℕ) (places : List ℕ) (found : ℕ) : Type 0 where
   pub some : 1 < found
   pub few : found ≤ cols + 2
   pub below : (k : ℕ) → 0 < k → k < found → slice_index places k ≤ cols
@@ -43,7 +43,7 @@ pub record AreOwns (l : Listing) (old owns : List ℕ) (count : ℕ) : Type 0 wh
   pub unlisted : (i : ℕ) → ((k : ℕ) → k < count → (slice_index_or l k (0, 0)).0 ≡ i + 1 → ⊥) → slice_index owns i ≡ slice_index old i
 
 -- The columns to look at when row r is taken after the list l, and each row's own column. The own column of an unlisted row is the further place.
-pub record IsFound (p : Program) (l : Listing) (r : ℕ) (places owns : List ℕ) (found : ℕ) : Type 0 where
+pub record AreFoundPlaces (p : Program) (l : Listing) (r : ℕ) (places owns : List ℕ) (found : ℕ) : Type 0 where
   pub some : 1 < found
   pub few : found ≤ length places
   pub below : (k : ℕ) → 0 < k → k < found → slice_index places k ≤ p.cols

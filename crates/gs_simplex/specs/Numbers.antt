@@ -9,8 +9,8 @@ abbrev pub at : List ℤ → ℕ → ℤ
 at xs j = slice_index_or xs j (pos 0)
 
 -- each number is below 2^62 in size
-abbrev pub AllNarrow : List ℤ → Type 0
-AllNarrow xs = (j : ℕ) → j < length xs → IsNarrow (at xs j)
+abbrev pub AreNarrowNumbers : List ℤ → Type 0
+AreNarrowNumbers xs = (j : ℕ) → j < length xs → IsNarrow (at xs j)
 
 -- each number is at most 2^125 in size
 abbrev pub AllWithin : List ℤ → Type 0
@@ -97,7 +97,7 @@ pub record IsLeadOf (old new : ℕ → ℤ) (c width : ℕ) : Type 0 where
 pub record IsCleared (old new : List ℤ) (count width r c : ℕ) (lead : ℕ → ℤ) : Type 0 where
   pub others : (i : ℕ) → i < count → i ≢ r → IsMixed lead c width (cell old width i) (cell new width i)
   pub kept : (j : ℕ) → j < width → cell new width r j ≡ cell old width r j
-  pub narrow : AllNarrow new
+  pub narrow : AreNarrowNumbers new
 
 -- z, in row i and column j, is the first number of the reduced rows that is not narrow. The rows before row i need only be mixed.
 pub record IsClearedTo (old : List ℤ) (count width r c : ℕ) (lead : ℕ → ℤ) (i j : ℕ) (z : ℤ) : Type 0 where

@@ -65,7 +65,7 @@ abbrev pub IsTurnAt : Program → Listing → ℕ → Turn → Type 0
 IsTurnAt p o t turn = (s : States) × (IsPath p o (t + 1) s) × (turn.enter ≡ s.entering t + 1) × (turn.leave ≡ s.leaving t + 1)
 
 -- the state after n pivots and then this one
-pub record IsTurned (p : Program) (opening : Listing) (limit n : ℕ) (turn : Turn) (basis : Listing) (held : Table) : Type 0 where
+pub record IsTurnedState (p : Program) (opening : Listing) (limit n : ℕ) (turn : Turn) (basis : Listing) (held : Table) : Type 0 where
   pub state : IsState p opening (length opening + (n + 1)) basis held
   pub within : n < limit
   pub pivot : IsTurnAt p opening (length opening + n) turn

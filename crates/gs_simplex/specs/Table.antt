@@ -3,7 +3,7 @@
 -- The table holds a positive multiple of each row, which need not be divided by its greatest common divisor.
 use Rattle.std.specs.Prelude.{◌≡◌, ℕ, ◌+◌, ◌*◌, ◌^◌, ◌<◌, ◌≤◌, ℤ, pos, neg_ℤ, List, length, unsigned_abs, nat_eq, ◌&&◌, if◌then◌else◌}
 use Rattle.gs_rows.specs.{declared.Program.{Program}, Rows.{IsPrimitive}, Elimination.{IsEliminated}, Path.{IsFirstWide}, Program.{Listing, IsRowsOf}}
-use Rattle.gs_simplex.specs.Numbers.{cell, AllNarrow, AreTops, IsMultiple}
+use Rattle.gs_simplex.specs.Numbers.{cell, AreNarrowNumbers, AreTops, IsMultiple}
 
 -- the number in row i and column j of the table
 abbrev pub table_rows : Program → List ℤ → ℕ → ℕ → ℤ
@@ -17,7 +17,7 @@ table_aim p xs j = if nat_eq j p.cols then neg_ℤ (cell xs (p.cols + 2) p.rows 
 pub record IsTable (p : Program) (xs : List ℤ) : Type 0 where
   pub long : length xs ≡ (p.rows + 1) * (p.cols + 2)
   pub zero : (i : ℕ) → i < p.rows → cell xs (p.cols + 2) i (p.cols + 1) ≡ pos 0
-  pub narrow : AllNarrow xs
+  pub narrow : AreNarrowNumbers xs
 
 -- the table holds a positive multiple of each of these rows
 pub record IsKept (p : Program) (rows : ℕ → ℕ → ℤ) (aim : ℕ → ℤ) (xs : List ℤ) : Type 0 where

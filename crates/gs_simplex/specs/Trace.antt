@@ -4,7 +4,7 @@ use Rattle.std.specs.declared.alloc.Global.{Global}
 use Rattle.gs_rows.specs.{declared.Program.{Program}, Program.{Listing, ColListed, IsShaped, IsOpening}, Path.{States, IsPath, ends, Stops}}
 use Rattle.gs_frac.specs.declared.value.Fraction.{Fraction}
 use Rattle.gs_simplex.specs.{declared.answer.Turn.{Turn}, declared.answer.PathTrace.{PathTrace}, declared.answer.Stop.{Stop}, declared.tracing.Log.{Log}}
-use Rattle.gs_simplex.specs.{declared.path.Position.{Position}, declared.table.Table.{Table}, State.{IsState, IsTurnAt}, Answer.{IsSmall, IsStop}}
+use Rattle.gs_simplex.specs.{declared.path.Position.{Position}, declared.table.Table.{Table}, State.{IsState, IsTurnAt}, Answer.{IsSmallTable, IsStop}}
 
 -- the listed columns, counted from 1, in rising order
 pub record IsBasis (l : Listing) (columns : List ℕ) : Type 0 where
@@ -37,7 +37,7 @@ pub record IsTraceOf (p : Program) (o : Listing) (n : ℕ) (s : States) (t : Pat
 
 -- the path ends, t is its trace, and no two of its bases are equal
 pub record IsTrace (p : Program) (o : Listing) (limit : ℕ) (t : PathTrace) : Type 0 where
-  pub small : IsSmall p
+  pub small : IsSmallTable p
   pub path : (n : ℕ) × (l : Listing) × (s : States) × (Stops p o limit (length o + n) s (ends n l)) × IsTraceOf p o n s t
   pub bases_differ : (k h : ℕ) → k < h → h < length t.bases.items → HoldsAt (λ a. HoldsAt (λ b. ¬ (a.items ≡ b.items)) t.bases.items h) t.bases.items k
 
@@ -64,7 +64,7 @@ IsLog p o n log = IsNoted p o n log.turns.items log.bases.items
 
 -- the list and the table after the opening
 pub record IsBegun (p : Program) (o : Listing) (at : Position) : Type 0 where
-  pub small : IsSmall p
+  pub small : IsSmallTable p
   pub same : at.basis.items ≡ o
   pub state : IsState p o (length o) o at.table
 
@@ -73,7 +73,7 @@ pub record CanFollow (p : Program) (o : Listing) (limit : ℕ) (basis : Listing)
   pub few_rows : p.rows < 2 ^ 31
   pub few_cols : p.cols < 2 ^ 31
   pub few_pivots : limit < 2 ^ 31
-  pub small : IsSmall p
+  pub small : IsSmallTable p
   pub shaped : IsShaped p
   pub opens : IsOpening p o
   pub same : basis ≡ o

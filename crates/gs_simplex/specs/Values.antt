@@ -19,6 +19,6 @@ pub record CanValue (p : Program) (rows : ℕ → ℕ → ℤ) (row j : ℕ) : T
   pub inside : (i : ℕ) → row ≡ i + 1 → (i < p.rows) × (pos 0 <ℤ rows i j)
 
 -- f is the value of column j; `row` is the row that the column is listed with, counted from 1, or 0 if it is unlisted
-pub record IsValue (p : Program) (rows : ℕ → ℕ → ℤ) (row j : ℕ) (f : Fraction) : Type 0 where
+pub record IsColumnValue (p : Program) (rows : ℕ → ℕ → ℤ) (row j : ℕ) (f : Fraction) : Type 0 where
   pub listed : (i : ℕ) → row ≡ i + 1 → f.num *ℤ rows i j ≡ rows i p.cols *ℤ f.den
   pub unlisted : row ≡ 0 → f.num ≡ pos 0

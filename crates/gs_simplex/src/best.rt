@@ -3,7 +3,7 @@
 ghost use Rattle.std.specs.Prelude.{◌≡◌, ℕ, ◌+◌, ◌-◌, ◌*◌, ◌^◌, ◌<◌, ℤ, pos, neg_ℤ, ◌*ℤ◌, ◌<ℤ◌, length, slice_index, IfOk};
 ghost use Rattle.std.specs.List.{HoldsAt};
 ghost use Rattle.gs_rows.specs.Program.{IsPairList, IsListed, ColListed};
-ghost use Rattle.gs_simplex.specs.{Table.{table_rows, table_aim, IsTable, IsTableOf}, Values.{IsRowIndex, IsValue, CanValue}};
+ghost use Rattle.gs_simplex.specs.{Table.{table_rows, table_aim, IsTable, IsTableOf}, Values.{IsRowIndex, IsColumnValue, CanValue}};
 ghost use Rattle.gs_simplex.specs.Answer.{IsBestTable};
 
 use crate::answer::Best;
@@ -46,7 +46,7 @@ fn value_at(p: &Program, numbers: &[i64], row: u32, j: usize) -> Fraction
     requires table { IsTable p.now numbers.now }
     requires column { j < p.now.cols }
     requires row { CanValue p.now (table_rows p.now numbers.now) row j }
-    ensures { IsValue p.now (table_rows p.now numbers.now) row j result }
+    ensures { IsColumnValue p.now (table_rows p.now numbers.now) row j result }
 {
     if row == 0 {
         return Fraction::new(0, 1);
@@ -68,7 +68,7 @@ fn values(
     requires rows { (j : ℕ) → j < p.now.cols → CanValue p.now (table_rows p.now numbers.now) (slice_index rows.now j) j }
     ensures long { IfOk result (λ v. length v.items ≡ p.now.cols) }
     ensures values { IfOk result
-        (λ v. (j : ℕ) → j < p.now.cols → HoldsAt (IsValue p.now (table_rows p.now numbers.now) (slice_index rows.now j) j) v.items j) }
+        (λ v. (j : ℕ) → j < p.now.cols → HoldsAt (IsColumnValue p.now (table_rows p.now numbers.now) (slice_index rows.now j) j) v.items j) }
 {
     let mut value = Vec::with_capacity(alloc, rows.len())?;
     for j in 0..rows.len() {

@@ -4,7 +4,7 @@ ghost use Rattle.std.specs.Prelude.{◌≡◌, ◌+◌, ◌-◌, ◌*◌, ◌<�
 ghost use Rattle.std.specs.Prelude.{length, slice_index_or, MatchBool};
 ghost use Rattle.std.specs.Option.{ForSome};
 ghost use Rattle.gs_rows.specs.{Rows.{IsNarrow}, Program.{IsShaped, IsPairList, IsFree}};
-ghost use Rattle.gs_simplex.specs.{Numbers.{at, cell, AllNarrow}, Table.{table_rows, IsTable}};
+ghost use Rattle.gs_simplex.specs.{Numbers.{at, cell, AreNarrowNumbers}, Table.{table_rows, IsTable}};
 ghost use Rattle.gs_simplex.specs.Choice.{IsEntering, Before, NotAfter, IsNarrowRatio, IsRatioAt, IsBetter, IsLeaving};
 
 use gs_rows::Program;
@@ -20,7 +20,7 @@ pub(crate) struct Ratio {
 
 // Returns the first column, counted from 0, whose number is above 0.
 pub(crate) fn entering(aim: &[i64]) -> Option<usize>
-    requires { AllNarrow aim.now }
+    requires { AreNarrowNumbers aim.now }
     ensures { IsEntering (at aim.now) (length aim.now) result }
 {
     for (j, number) in aim.iter().enumerate() {

@@ -2,7 +2,7 @@
 
 ghost use Rattle.std.specs.Prelude.{◌≡◌, ℕ, ◌+◌, ◌<◌, ◌≤◌, ◌^◌, ◌↔◌, IsTrue, IfOk, length, slice_index};
 ghost use Rattle.gs_rows.specs.Program.{IsPairList, IsListed, RowListed, ColListed};
-ghost use Rattle.gs_simplex.specs.{Live.{HasPlaces, IsLiveRow, ArePlaces, IsFound, IsSupport}, Numbers.{at, AllNarrow}};
+ghost use Rattle.gs_simplex.specs.{Live.{HasPlaces, IsLiveRow, AreColumnPlaces, AreFoundPlaces, IsSupport}, Numbers.{at, AreNarrowNumbers}};
 
 use crate::best::mark_rows;
 use crate::choice::pair_at;
@@ -83,7 +83,7 @@ fn find_places(cols: usize, rows: &[u32], r: usize, places: &mut [u32]) -> usize
     requires small_cols { cols < 2 ^ 31 }
     requires long { length rows.now ≡ cols }
     requires room { length places.old ≡ cols + 2 }
-    ensures { ArePlaces cols rows.now r places.new result }
+    ensures { AreColumnPlaces cols rows.now r places.new result }
 {
     let mut found: usize = 1;
     for j in 0..cols {
@@ -99,7 +99,7 @@ fn find_places(cols: usize, rows: &[u32], r: usize, places: &mut [u32]) -> usize
 // Lists the columns in which a row is not 0, and returns their number.
 pub(crate) fn fill(row: &[i64], filled: &mut [u32]) -> usize
     requires small { length row.now < 2 ^ 32 }
-    requires narrow { AllNarrow row.now }
+    requires narrow { AreNarrowNumbers row.now }
     requires room { length filled.old ≡ length row.now }
     ensures { IsSupport filled.new result (length row.now) (at row.now) (at row.now) }
 {
@@ -141,7 +141,7 @@ impl Live {
         requires pairs { IsPairList p.now basis.now }
         requires row { r < p.now.rows }
         ensures room { HasPlaces p.now self.new }
-        ensures found { IsFound p.now basis.now r self.new.places.items self.new.owns.items result }
+        ensures found { AreFoundPlaces p.now basis.now r self.new.places.items self.new.owns.items result }
     {
         note_rows(p, basis, &mut self.rows);
         note_owns(p, basis, &mut self.owns);

@@ -4,7 +4,7 @@ ghost use Rattle.std.specs.Prelude.{◌≡◌, ◌≢◌, IfNone, MatchOption, M
 ghost use Rattle.std.specs.Prelude.{unsigned_abs, Some};
 ghost use Rattle.gs_rows.specs.Program.{IsShaped, IsPairList, IsOpening};
 ghost use Rattle.gs_simplex.specs.Table.{table_rows, table_aim, stated, IsTable, IsTableOf, HasTops};
-ghost use Rattle.gs_simplex.specs.{State.{HasRoom, IsStart, IsState, IsChoice, IsPivoted, IsWidePivot, IsEnd, IsTurned}, Answer.{IsSmall, IsStop}};
+ghost use Rattle.gs_simplex.specs.{State.{HasRoom, IsStart, IsState, IsChoice, IsPivoted, IsWidePivot, IsEnd, IsTurnedState}, Answer.{IsSmallTable, IsStop}};
 ghost use Rattle.gs_simplex.specs.Trace.{IsBegun, CanFollow};
 
 use crate::MOST_NUMBERS;
@@ -73,7 +73,7 @@ pub(crate) struct Position {
 pub(crate) fn open(p: &Program, opening: &[(u32, u32)], table: &mut Table) -> Result<(), Stop>
     requires small_rows { p.now.rows < 2 ^ 31 }
     requires small_cols { p.now.cols < 2 ^ 31 }
-    requires small { IsSmall p.now }
+    requires small { IsSmallTable p.now }
     requires opens { IsOpening p.now opening.now }
     requires start { IsStart p.now table.old }
     ensures { MatchResult result (λ _. IsState p.now opening.now (length opening.now) opening.now table.new)
@@ -151,13 +151,13 @@ pub(crate) fn step(
     requires small_cols { p.now.cols < 2 ^ 31 }
     requires small_limit { limit < 2 ^ 31 }
     requires within { made ≤ limit }
-    requires small { IsSmall p.now }
+    requires small { IsSmallTable p.now }
     requires shaped { IsShaped p.now }
     requires opens { IsOpening p.now opening.now }
     requires state { IsState p.now opening.now (length opening.now + made) basis.old table.old }
     ensures { MatchResult result
         (λ r. MatchOption r (IsEnd p.now opening.now limit made basis.new table.new)
-        (λ t. IsTurned p.now opening.now limit made t basis.new table.new))
+        (λ t. IsTurnedState p.now opening.now limit made t basis.new table.new))
         (IsStop p.now opening.now limit) }
 {
     match choose(p, &table.numbers, basis) {

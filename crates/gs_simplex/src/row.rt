@@ -6,7 +6,7 @@ ghost use Rattle.std.specs.Prelude.{length, slice_index, unsigned_abs};
 ghost use Prim.Native.Nat.{◌∣◌};
 ghost use Rattle.std.specs.Int.{IsGcd};
 ghost use Rattle.gs_rows.specs.Rows.{IsNarrow};
-ghost use Rattle.gs_simplex.specs.Numbers.{at, AllNarrow, AllWithin, AllAtMost, IsDivisor, IsShared, IsQuotient, IsWideQuotient};
+ghost use Rattle.gs_simplex.specs.Numbers.{at, AreNarrowNumbers, AllWithin, AllAtMost, IsDivisor, IsShared, IsQuotient, IsWideQuotient};
 ghost use Rattle.gs_simplex.specs.Numbers.{IsMultiple, IsDivided, IsMixed, IsReducedTo};
 ghost use Rattle.gs_simplex.specs.Live.{IsSupport, IsChange};
 
@@ -36,7 +36,7 @@ pub(crate) struct Lead<'a> {
     pub(crate) column: usize,
     pub(crate) filled: &'a [u32],
     pub(crate) count: usize,
-    pub(crate) ghost narrow: { AllNarrow numbers.now },
+    pub(crate) ghost narrow: { AreNarrowNumbers numbers.now },
     pub(crate) ghost bound: { AllAtMost numbers.now most },
     pub(crate) ghost inside: { column < length numbers.now },
     pub(crate) ghost own: { pos 0 <ℤ at numbers.now column },
@@ -166,13 +166,13 @@ fn touched<'a>(lead: &Lead<'a>, own: i64, places: &'a [u32], found: usize) -> (&
 fn mix_narrow(lead: &[i64], row: &mut [i64], places: &[u32], found: usize, own: i64, far: i64)
     requires same_length { length lead.now ≡ length row.old }
     requires change { IsChange places.now found (length row.old) (at row.old) (at lead.now) own far }
-    requires narrow_lead { AllNarrow lead.now }
-    requires narrow_row { AllNarrow row.old }
+    requires narrow_lead { AreNarrowNumbers lead.now }
+    requires narrow_row { AreNarrowNumbers row.old }
     requires narrow { (k : ℕ) → k < found →
         unsigned_abs own * unsigned_abs (at row.old (slice_index places.now k)) + unsigned_abs far * unsigned_abs (at lead.now (slice_index places.now k))
         < 2 ^ 62 }
     ensures mixed { (j : ℕ) → j < length row.old → at row.new j ≡ own *ℤ at row.old j -ℤ far *ℤ at lead.now j }
-    ensures narrow { AllNarrow row.new }
+    ensures narrow { AreNarrowNumbers row.new }
 {
     for k in 0..found {
         let j = places[k] as usize;
@@ -198,8 +198,8 @@ fn mixed_number(own: i64, x: i64, far: i64, y: i64) -> i128
 fn mix(lead: &[i64], row: &[i64], own: i64, far: i64, mixed: &mut [i128])
     requires same_length { length lead.now ≡ length row.now }
     requires room { length mixed.old ≡ length row.now }
-    requires narrow_lead { AllNarrow lead.now }
-    requires narrow_row { AllNarrow row.now }
+    requires narrow_lead { AreNarrowNumbers lead.now }
+    requires narrow_row { AreNarrowNumbers row.now }
     requires narrow_own { IsNarrow own }
     requires narrow_far { IsNarrow far }
     ensures mixed { (j : ℕ) → j < length row.now → at mixed.new j ≡ own *ℤ at row.now j -ℤ far *ℤ at lead.now j }
@@ -299,7 +299,7 @@ fn narrow_into(mixed: &[i128], by: u128, row: &mut [i64]) -> Option<WideNumber>
 // Returns the greatest common divisor of a narrow row that is 0 outside the first `found` places; 0 where all numbers are 0. It begins with the last place:
 // in the program of a game the last columns are the slacks, whose numbers are small, so 1 is found soon.
 fn narrow_divisor(row: &[i64], places: &[u32], found: usize) -> u64
-    requires narrow { AllNarrow row.now }
+    requires narrow { AreNarrowNumbers row.now }
     requires support { IsSupport places.now found (length row.now) (at row.now) (at row.now) }
     ensures { IsDivisor (length row.now) (at row.now) result }
 {
@@ -321,7 +321,7 @@ fn narrow_divisor(row: &[i64], places: &[u32], found: usize) -> u64
 fn divide_all(row: &mut [i64], places: &[u32], found: usize, by: u64)
     requires some { 0 < by }
     requires small { by < 2 ^ 62 }
-    requires narrow { AllNarrow row.old }
+    requires narrow { AreNarrowNumbers row.old }
     requires support { IsSupport places.now found (length row.old) (at row.old) (at row.old) }
     requires divides { (j : ℕ) → j < length row.old → by ∣ unsigned_abs (at row.old j) }
     ensures { IsQuotient by row.old row.new (length row.old) }
@@ -336,10 +336,10 @@ fn divide_all(row: &mut [i64], places: &[u32], found: usize, by: u64)
 // Divides a row that is 0 outside the first `found` places by its greatest common divisor, and returns the divisor, at least 1.
 pub(crate) fn divide_row(row: &mut [i64], places: &[u32], found: usize) -> u64
     requires some { 0 < length row.old }
-    requires narrow { AllNarrow row.old }
+    requires narrow { AreNarrowNumbers row.old }
     requires support { IsSupport places.now found (length row.old) (at row.old) (at row.old) }
     ensures divided { IsDivided (length row.old) (at row.old) (at row.new) }
-    ensures narrow { AllNarrow row.new }
+    ensures narrow { AreNarrowNumbers row.new }
     ensures some { 0 < result }
     ensures bound { (most : ℕ) → AllAtMost row.old most → AllAtMost row.new (most / result) }
 {
@@ -355,11 +355,11 @@ pub(crate) fn divide_row(row: &mut [i64], places: &[u32], found: usize) -> u64
 // the division costs more than it saves. The numbers are at most `top` in size, and 0 outside the first `found` places.
 fn lessen(row: &mut [i64], places: &[u32], found: usize, top: u64) -> u64
     requires some { 0 < length row.old }
-    requires narrow { AllNarrow row.old }
+    requires narrow { AreNarrowNumbers row.old }
     requires bound { AllAtMost row.old top }
     requires support { IsSupport places.now found (length row.old) (at row.old) (at row.old) }
     ensures multiple { IsMultiple (length row.old) (at row.old) (at row.new) }
-    ensures narrow { AllNarrow row.new }
+    ensures narrow { AreNarrowNumbers row.new }
     ensures bound { AllAtMost row.new result }
 {
     if top < LONG {
@@ -400,11 +400,11 @@ pub(crate) fn reduce_row(
     requires support { IsSupport places.now found (length lead.now.numbers.now) (at row.old) (at lead.now.numbers.now) }
     requires long { length row.old ≡ length lead.now.numbers.now }
     requires room { length mixed.old ≡ length lead.now.numbers.now }
-    requires narrow { AllNarrow row.old }
+    requires narrow { AreNarrowNumbers row.old }
     requires bound { AllAtMost row.old top }
     ensures { MatchResult result
         (λ most. IsMixed (at lead.now.numbers.now) lead.now.column (length lead.now.numbers.now) (at row.old) (at row.new)
-        × AllNarrow row.new × AllAtMost row.new most)
+        × AreNarrowNumbers row.new × AllAtMost row.new most)
         (λ w. IsReducedTo (at lead.now.numbers.now) lead.now.column (length lead.now.numbers.now) (at row.old) w.column w.number) }
 {
     if row[lead.column] == 0 {

@@ -2,7 +2,7 @@
 
 ghost use Rattle.std.specs.Prelude.{◌≡◌, ℕ, ◌+◌, ◌-◌, ◌*◌, ◌^◌, ◌<◌, ◌≤◌, ◌++◌, [], ◌∷◌, ◌⊎◌, length, OnOk, IfOk};
 ghost use Rattle.gs_rows.specs.Program.{IsShaped};
-ghost use Rattle.gs_simplex.specs.{Numbers.{at, cell, AllNarrow, IsDivided}, State.{IsRaw, IsStart}};
+ghost use Rattle.gs_simplex.specs.{Numbers.{at, cell, AreNarrowNumbers, IsDivided}, State.{IsRaw, IsStart}};
 
 use crate::live::{Live, fill};
 use crate::row::{WIDE, divide_row};
@@ -41,10 +41,10 @@ fn divide_at(numbers: &mut [i64], start: usize, width: usize, filled: &mut [u32]
     requires some { 0 < width }
     requires small { width < 2 ^ 32 }
     requires room { length filled.old ≡ width }
-    requires narrow { AllNarrow numbers.old }
+    requires narrow { AreNarrowNumbers numbers.old }
     ensures others { (k : ℕ) → (k < start) ⊎ (start + width ≤ k) → at numbers.new k ≡ at numbers.old k }
     ensures divided { IsDivided width (λ j. at numbers.old (start + j)) (λ j. at numbers.new (start + j)) }
-    ensures narrow { AllNarrow numbers.new }
+    ensures narrow { AreNarrowNumbers numbers.new }
 {
     let end = start + width;
     let row = &mut numbers[start..end];
@@ -58,10 +58,10 @@ fn divide_rows(numbers: &mut [i64], count: usize, width: usize, filled: &mut [u3
     requires some { 0 < width }
     requires small { width < 2 ^ 32 }
     requires room { length filled.old ≡ width }
-    requires narrow { AllNarrow numbers.old }
+    requires narrow { AreNarrowNumbers numbers.old }
     ensures divided { (i : ℕ) → i < count → IsDivided width (cell numbers.old width i) (cell numbers.new width i) }
     ensures last { (j : ℕ) → j < width → cell numbers.new width count j ≡ cell numbers.old width count j }
-    ensures narrow { AllNarrow numbers.new }
+    ensures narrow { AreNarrowNumbers numbers.new }
 {
     for i in 0..count {
         divide_at(numbers, i * width, width, filled);

@@ -3,7 +3,7 @@
 ghost use Rattle.std.specs.Prelude.{◌≡◌, ◌≢◌, IfNone, MatchOption, MatchResult, ℕ, ◌+◌, ◌*◌, ◌<◌, ◌≤◌, ◌^◌, ◌⊎◌, pos, neg_ℤ, length, slice_index};
 ghost use Rattle.gs_rows.specs.Program.{IsPairList};
 ghost use Rattle.gs_simplex.specs.{Live.{IsSupport, IsLive}, Table.{table_rows, IsTable, IsTableOf, HasTops, IsTableAfter, IsWideAfter}};
-ghost use Rattle.gs_simplex.specs.Numbers.{at, cell, AllNarrow, IsAtMost, AreTops, IsMixed, IsReducedTo, IsTurned, IsLeadOf, IsCleared, IsClearedTo};
+ghost use Rattle.gs_simplex.specs.Numbers.{at, cell, AreNarrowNumbers, IsAtMost, AreTops, IsMixed, IsReducedTo, IsTurned, IsLeadOf, IsCleared, IsClearedTo};
 
 use crate::live::{Live, fill};
 use crate::row::{Lead, WideNumber, divide_row, greatest, reduce_row};
@@ -19,7 +19,7 @@ pub(crate) struct WideCell {
 
 // Negates each number.
 fn turn(row: &mut [i64])
-    requires { AllNarrow row.old }
+    requires { AreNarrowNumbers row.old }
     ensures { (j : ℕ) → j < length row.old → at row.new j ≡ neg_ℤ (at row.old j) }
 {
     for x in row.iter_mut() {
@@ -30,9 +30,9 @@ fn turn(row: &mut [i64])
 // Negates a row whose number in column `c` is negative.
 fn turn_row(row: &mut [i64], c: usize)
     requires inside { c < length row.old }
-    requires narrow { AllNarrow row.old }
+    requires narrow { AreNarrowNumbers row.old }
     ensures turned { IsTurned (at row.old) (at row.new) c (length row.old) }
-    ensures narrow { AllNarrow row.new }
+    ensures narrow { AreNarrowNumbers row.new }
 {
     if row[c] < 0 {
         turn(row);
@@ -46,10 +46,10 @@ fn take_row(row: &mut [i64], c: usize, lead: &mut [i64], filled: &mut [u32]) -> 
     requires inside { c < length row.old }
     requires small { length row.old < 2 ^ 32 }
     requires room { length filled.old ≡ length row.old }
-    requires narrow { AllNarrow row.old }
+    requires narrow { AreNarrowNumbers row.old }
     ensures same { lead.new ≡ row.new }
     ensures taken { IsLeadOf (at row.old) (at row.new) c (length row.old) }
-    ensures narrow { AllNarrow row.new }
+    ensures narrow { AreNarrowNumbers row.new }
     ensures support { IsSupport filled.new result (length row.old) (at row.new) (at row.new) }
 {
     turn_row(row, c);
@@ -71,10 +71,10 @@ fn take_lead(
     requires column { c < length lead.old }
     requires small { length lead.old < 2 ^ 32 }
     requires room { length filled.old ≡ length lead.old }
-    requires narrow { AllNarrow numbers.old }
+    requires narrow { AreNarrowNumbers numbers.old }
     ensures same { (j : ℕ) → j < length lead.new → at lead.new j ≡ at numbers.new (start + j) }
     ensures taken { IsLeadOf (λ j. at numbers.old (start + j)) (at lead.new) c (length lead.new) }
-    ensures narrow { AllNarrow lead.new }
+    ensures narrow { AreNarrowNumbers lead.new }
     ensures support { IsSupport filled.new result (length lead.new) (at lead.new) (at lead.new) }
     ensures others { (k : ℕ) → (k < start) ⊎ (start + length lead.new ≤ k) → at numbers.new k ≡ at numbers.old k }
 {
@@ -96,13 +96,13 @@ fn reduce_at(
     requires support { IsSupport places.now found (length lead.now.numbers.now) (λ j. at numbers.old (start + j)) (at lead.now.numbers.now) }
     requires inside { start + length lead.now.numbers.now ≤ length numbers.old }
     requires room { length mixed.old ≡ length lead.now.numbers.now }
-    requires narrow { AllNarrow numbers.old }
+    requires narrow { AreNarrowNumbers numbers.old }
     requires bound { IsAtMost (length lead.now.numbers.now) (λ j. at numbers.old (start + j)) top }
     ensures others { (k : ℕ) → (k < start) ⊎ (start + length lead.now.numbers.now ≤ k) → at numbers.new k ≡ at numbers.old k }
     ensures answer { MatchResult result
         (λ most.
         IsMixed (at lead.now.numbers.now) lead.now.column (length lead.now.numbers.now) (λ j. at numbers.old (start + j)) (λ j. at numbers.new (start + j))
-        × AllNarrow numbers.new × IsAtMost (length lead.now.numbers.now) (λ j. at numbers.new (start + j)) most)
+        × AreNarrowNumbers numbers.new × IsAtMost (length lead.now.numbers.now) (λ j. at numbers.new (start + j)) most)
         (λ w. IsReducedTo (at lead.now.numbers.now) lead.now.column (length lead.now.numbers.now) (λ j. at numbers.old (start + j)) w.column w.number) }
 {
     let end = start + lead.numbers.len();
@@ -125,7 +125,7 @@ fn clear_column(
         IsLive places.old owns.now found (length owns.now) lead.now.row w (cell numbers.old w) (at lead.now.numbers.now) }
     requires long { length numbers.old ≡ length owns.now * length lead.now.numbers.now }
     requires room { length mixed.old ≡ length lead.now.numbers.now }
-    requires narrow { AllNarrow numbers.old }
+    requires narrow { AreNarrowNumbers numbers.old }
     requires few_tops { length tops.old ≡ length owns.now }
     requires tops { let w = length lead.now.numbers.now in
         (i : ℕ) → i < length owns.now → i ≢ lead.now.row → IsAtMost w (cell numbers.old w i) (slice_index tops.old i) }

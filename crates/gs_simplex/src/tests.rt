@@ -1,7 +1,7 @@
 ghost use Rattle.std.specs.Prelude.{◌≡◌, ℕ, ◌+◌, ◌-◌, ◌*◌, ◌<◌, ◌≤◌, ◌^◌, IsTrue, IfOk, [], length, map, take, slice_index_or};
 ghost use Rattle.std.specs.Vec.{vec_items};
 ghost use Rattle.gs_rows.specs.Program.{IsShaped, IsOpening, IsPairList, IsFree};
-ghost use Rattle.gs_simplex.specs.{Numbers.{AllNarrow}, Table.{table_rows, IsTable, IsTableOf}, State.{IsStart}, Answer.{IsSmall}};
+ghost use Rattle.gs_simplex.specs.{Numbers.{AreNarrowNumbers}, Table.{table_rows, IsTable, IsTableOf}, State.{IsStart}, Answer.{IsSmallTable}};
 ghost use Rattle.gs_simplex.specs.Conditions.{IsWideRow, IsNewPair, CanTakeAt, IsTaken, HasFeasibleSides};
 
 use super::*;
@@ -15,7 +15,7 @@ use std::test::Fail;
 // ---- whether a program and an opening meet the conditions of `run`
 
 fn all_narrow(numbers: &[i64]) -> bool
-    ensures { IsTrue result → AllNarrow numbers.now }
+    ensures { IsTrue result → AreNarrowNumbers numbers.now }
 {
     for number in numbers {
         if number.unsigned_abs() >= 0x4000_0000_0000_0000 {
@@ -174,7 +174,7 @@ fn has_feasible_sides(p: &Program, numbers: &[i64], opening: &[(u32, u32)]) -> b
 fn meets(alloc: Global, p: &Program, opening: &[(u32, u32)]) -> Result<bool, AllocError>
     requires small_rows { p.now.rows < 2 ^ 31 }
     requires small_cols { p.now.cols < 2 ^ 31 }
-    requires small { IsSmall p.now }
+    requires small { IsSmallTable p.now }
     ensures { IfOk result (λ b. IsTrue b → IsShaped p.now × IsOpening p.now opening.now) }
 {
     if !is_shaped(p) {
@@ -275,7 +275,7 @@ fn read_opened(alloc: Global, text: &str) -> Result<Opened, Fail> {
 }
 
 fn is_small(p: &Program) -> bool
-    ensures { IsTrue result → IsSmall p.now × (p.now.rows < 2 ^ 31) × (p.now.cols < 2 ^ 31) }
+    ensures { IsTrue result → IsSmallTable p.now × (p.now.rows < 2 ^ 31) × (p.now.cols < 2 ^ 31) }
 {
     p.rows < 1000 && p.cols < 1000
 }

@@ -5,7 +5,8 @@ use Rattle.std.specs.{Prelude.{◌==◌}, Bool.{Decides}, Ordering.{int_eq}}
 use Rattle.gs_model.specs.{Classes.{ClassLists, class_of, first_member}, Frame.{Frame, frame_of, last_round}, Game.{Game, round_count}}
 use Rattle.gs_model.specs.{Lossless.{weight_against, weight_with}, Signals.{signals}}
 use Rattle.gs_model.proofs.Ranges.{signal_count_is}
-use Rattle.gs_lossless.specs.{Amounts.{Agree, AgreesWithFirst, AreAmounts, AreSideFirsts, amount}, declared.parts.Part.{Part}, declared.sides.Side.{Side}}
+use Rattle.gs_lossless.specs.{Amounts.{HaveEqualAmounts, AgreesWithFirst, AreAmounts, AreSideFirsts, amount}, declared.parts.Part.{Part}}
+use Rattle.gs_lossless.specs.declared.sides.Side.{Side}
 use Rattle.gs_lossless.specs.declared.sides.Side.TheVariants.{Deals, Children}
 use Rattle.gs_lossless.proofs.Settled.{agree_if_same, same_if_agree}
 use Rattle.gs_split.specs.Turns.{AreClassSums, AreSettled, AreSideNumbers, AreTurnNumbers, HaveSameSums, IsSettled, key_eq}
@@ -14,16 +15,16 @@ module _ (f : Frame) (lists : ClassLists) (round : ℕ) where
   -- members of a settled class agree with its first member
   settled_agrees : (side : Side) (firsts : List ℕ) (settled : List Bool) (s : ℕ) → AreSideFirsts f lists side round firsts
       → AreSettled lists round firsts settled → s < length firsts → IsSettled lists round settled s → AgreesWithFirst f lists side round s
-  settled_agrees side firsts settled s stands h l one = subst (λ (x : ℕ). Agree f lists side round x s) (h.first s l one) (stands.agree s l)
+  settled_agrees side firsts settled s stands h l one = subst (λ (x : ℕ). HaveEqualAmounts f lists side round x s) (h.first s l one) (stands.agree s l)
 
   -- members of a class have the same sums exactly where they agree
   pub sums_law : (side : Side) (firsts : List ℕ) (settled : List Bool) (i j : ℕ) (a b : List Part) → AreSideFirsts f lists side round firsts
       → AreSettled lists round firsts settled → i < length firsts → j < length firsts
       → class_of lists round i ≡ class_of lists round j → AreClassSums f lists side round settled i a → AreClassSums f lists side round settled j b
-      → (a ≡ b) ↔ Agree f lists side round i j
+      → (a ≡ b) ↔ HaveEqualAmounts f lists side round i j
   sums_law side firsts settled i j a b stands h li lj same ha hb = by (get_or settled (class_of lists round i - 1) false) refl
     where
-      by : (t : Bool) → get_or settled (class_of lists round i - 1) false ≡ t → (a ≡ b) ↔ Agree f lists side round i j
+      by : (t : Bool) → get_or settled (class_of lists round i - 1) false ≡ t → (a ≡ b) ↔ HaveEqualAmounts f lists side round i j
       by true one =
           let two : IsSettled lists round settled j = ap (λ c. get_or settled (c - 1) false) (sym same) ∙ one in
           let p = settled_agrees side firsts settled i stands h li one in
@@ -63,14 +64,14 @@ module _ (f : Frame) (lists : ClassLists) (round : ℕ) where
       }
 
   -- before the last round agreement is about children
-  children_same : (i j : ℕ) → round < last_round f → Agree f lists Children round i j ↔ HaveSameSums f lists round i j
+  children_same : (i j : ℕ) → round < last_round f → HaveEqualAmounts f lists Children round i j ↔ HaveSameSums f lists round i j
   children_same i j l = (
     (λ g. record { sums = λ e. absurd (omega (arith, e, l)); children = λ _ c. g c (pos 0) }),
     (λ h c o. ap (λ n. cond {A = ℕ} (int_eq (pos 0) o) n 0) (h.children l c)),
   )
 
   -- in the last round it is about deals by outcome
-  deals_same : (i j : ℕ) → round ≡ last_round f → Agree f lists Deals round i j ↔ HaveSameSums f lists round i j
+  deals_same : (i j : ℕ) → round ≡ last_round f → HaveEqualAmounts f lists Deals round i j ↔ HaveSameSums f lists round i j
   deals_same i j e =
       let t : (round == last_round f) ≡ true = (Decides-eqb round (last_round f)).1 e in
       let P : Bool → ℕ → ℤ → Type 0 = λ b c o. cond b (weight_with f lists i c o) (cond (int_eq (pos 0) o) (weight_against f lists round i c) 0)

@@ -12,7 +12,7 @@ use Rattle.gs_tree.specs.{Trees.{rules_of}, declared.signals.Signals.{Signals}}
 use Rattle.gs_lossless.proofs.Descent.{playable}
 use Rattle.gs_numbers.specs.Numbers.{IsKeyClasses}
 use Rattle.gs_numbers.proofs.FirstSeen.{classes_like}
-use Rattle.gs_split.specs.Turns.{AreExact, AreParted, AreTurnNumbers, HaveNumbers, IsRoundParted, StayInRound, classes_above, turn_key}
+use Rattle.gs_split.specs.Turns.{AreExact, AreParted, AreTurnNumbers, HaveNumbers, IsRoundParted, StayInRound, last_class_list, turn_key}
 use Rattle.gs_split.proofs.Agreed.{triples}
 
 -- ---- parents
@@ -112,7 +112,7 @@ both_ok (Err e) P Q R h p q = p
 
 -- ---- rounds so far
 
-pub above_some : (new : ClassLists) → length new ≡ 0 → 0 < length (classes_above new)
+pub above_some : (new : ClassLists) → length new ≡ 0 → 0 < length (last_class_list new)
 above_some [] e = omega arith
 above_some (x ∷ xs) e = absurd (omega (arith, e))
 
@@ -121,7 +121,7 @@ abbrev pub ArePartedTo : Frame → ClassLists → ClassLists → ClassLists → 
 ArePartedTo f old numbers new = (k : ℕ) → k < length new → IsRoundParted f old (list_of new k) (list_of numbers (suc k)) (suc k) (get_or new k [])
 
 pub above_long : (f : Frame) (old numbers new : ClassLists) → ArePartedTo f old numbers new → 0 < length new
-    → length (classes_above new) ≡ signal_count f (length new)
+    → length (last_class_list new) ≡ signal_count f (length new)
 above_long f old numbers new each some =
     let e : suc (length new - 1) ≡ length new = omega (arith, some) in
     ap (λ (l : List ℕ). length l) (get_or_default new (length new - 1) (1 ∷ []) [] (omega (arith, some))) ∙ (each (length new - 1) (omega (arith, some))).long
@@ -141,7 +141,7 @@ turn_like f old above other numbers round list e h = record {
       h.classes;
 }
 
-pub turned_more : (f : Frame) (old numbers new : ClassLists) (above x : List ℕ) → above ≡ classes_above new → ArePartedTo f old numbers new
+pub turned_more : (f : Frame) (old numbers new : ClassLists) (above x : List ℕ) → above ≡ last_class_list new → ArePartedTo f old numbers new
     → IsRoundParted f old above (list_of numbers (suc (length new))) (suc (length new)) x → ArePartedTo f old numbers (new ++ x ∷ [])
 turned_more f old numbers new above x is each here k l = ⊎_elim
     (λ e.

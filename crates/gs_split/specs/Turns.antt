@@ -2,7 +2,7 @@
 use Rattle.std.specs.{Prelude.{ℕ, ◌-◌, ◌<◌, ◌≤◌, ◌≡◌, ◌↔◌, ◌==◌, ◌&&◌, ℤ, Bool, true, false, List, [], ◌∷◌, get_or, length}, Ordering.{int_eq}}
 use Rattle.gs_model.specs.{Classes.{ClassLists, InOneClass, class_count, class_of, first_member, list_of}, Frame.{Frame, last_round, parents_of, signal_count}}
 use Rattle.gs_model.specs.{Lossless.{children_in, weight_with}, Numbering.{IsClassesOf}}
-use Rattle.gs_lossless.specs.{Amounts.{Agree, AreAmounts}, declared.parts.Part.{Part}, declared.sides.Side.{Side}}
+use Rattle.gs_lossless.specs.{Amounts.{HaveEqualAmounts, AreAmounts}, declared.parts.Part.{Part}, declared.sides.Side.{Side}}
 
 -- ---- sums
 
@@ -24,7 +24,7 @@ pub record AreClassSums (f : Frame) (lists : ClassLists) (side : Side) (round : 
 pub record AreSideNumbers (f : Frame) (lists : ClassLists) (side : Side) (round : ℕ) (numbers : List ℕ) : Type 0 where
   pub long : length numbers ≡ signal_count f round
   pub same : (i j : ℕ) → i < length numbers → j < length numbers → class_of lists round i ≡ class_of lists round j
-      → (get_or numbers i 0 ≡ get_or numbers j 0) ↔ Agree f lists side round i j
+      → (get_or numbers i 0 ≡ get_or numbers j 0) ↔ HaveEqualAmounts f lists side round i j
 
 -- two signals have, in the last round, the same weights by class and outcome and, before it, the same number of children in each class
 pub record HaveSameSums (f : Frame) (lists : ClassLists) (round s t : ℕ) : Type 0 where
@@ -60,8 +60,8 @@ key_eq x y = (x.0 == y.0) && ((x.1 == y.1) && (x.2 == y.2))
 -- ---- rounds
 
 -- the last of some class lists; if there is none, the list of one signal, which has class 1
-abbrev pub classes_above : List (List ℕ) → List ℕ
-classes_above lists = get_or lists (length lists - 1) (1 ∷ [])
+abbrev pub last_class_list : List (List ℕ) → List ℕ
+last_class_list lists = get_or lists (length lists - 1) (1 ∷ [])
 
 -- two signals of a round stay together: they have the same old class, the same number and, from round 2 on, the same new class of the parent.
 -- `above` has the new classes of the round before

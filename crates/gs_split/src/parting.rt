@@ -3,7 +3,7 @@
 ghost use Rattle.std.specs.Prelude.{◌≡◌, ◌-◌, ◌<◌, ◌≤◌, IfOk, length};
 ghost use Rattle.gs_model.specs.{Rows.{rows}, Frame.{frame_of, last_round, signal_count}};
 ghost use Rattle.gs_tree.specs.Trees.{rules_of};
-ghost use Rattle.gs_split.specs.Turns.{AreParted, HaveNumbers, IsRoundParted, classes_above};
+ghost use Rattle.gs_split.specs.Turns.{AreParted, HaveNumbers, IsRoundParted, last_class_list};
 
 use crate::rounds::{TurnKeys, round_classes};
 use gs_filter::Classes;
@@ -12,7 +12,7 @@ use std::alloc::{AllocError, Global};
 
 /// Returns the last of some class lists. If there is none, returns the list of one signal, which has class 1.
 fn last_classes(lists: &[Vec<u32>]) -> &[u32]
-    ensures { result.now ≡ classes_above (rows lists.entry.now) }
+    ensures { result.now ≡ last_class_list (rows lists.entry.now) }
 {
     match lists.len() {
         0 => [1].as_slice(),

@@ -2,15 +2,15 @@
 use Rattle.std.specs.Prelude.{ℕ, ℤ, unsigned_abs}
 use Rattle.gs_model.specs.{Frame.{Frame}, Lossless.{IsLossless}, Plans.{Plan, lift}, Verdict.{IsVerdict}}
 use Rattle.gs_seq.specs.{Slots.{plan_of}, Stops.{IsSmall}}
-use Rattle.gs_strategy.specs.Values.{IsFractionOf, Numbers, FractionParts, Strategy, Weights, frame_in}
+use Rattle.gs_strategy.specs.Values.{IsFractionOf, Numbers, FractionParts, Strategy, Weights, file_frame}
 
 -- the frame of a strategy's game
-abbrev pub frame_of : Strategy → Frame
-frame_of s = frame_in s.game
+abbrev pub strategy_frame : Strategy → Frame
+strategy_frame s = file_frame s.game
 
 -- the raw plan that a player's weights stand for: at a raw signal the weights of its class
 abbrev pub raw_plan : Strategy → Weights → Plan
-raw_plan s w = lift (frame_of s) s.classes (plan_of (frame_of s) s.classes w.total w.weights)
+raw_plan s w = lift (strategy_frame s) s.classes (plan_of (strategy_frame s) s.classes w.total w.weights)
 
 -- a fraction as a signed numerator and an unsigned denominator
 abbrev pub over : FractionParts → ℤ × ℕ
@@ -21,10 +21,10 @@ pub record AreNumbersOf (s : Strategy) (n : Numbers) : Type 0 where
   pub value : IsFractionOf n.value
   pub gap1 : IsFractionOf n.gap1
   pub gap2 : IsFractionOf n.gap2
-  pub verdict : IsVerdict (frame_of s) (raw_plan s s.one) (raw_plan s s.two) (over n.value) (over n.gap1) (over n.gap2)
+  pub verdict : IsVerdict (strategy_frame s) (raw_plan s s.one) (raw_plan s s.two) (over n.value) (over n.gap1) (over n.gap2)
 
 -- the classes are lossless, the game over them keeps the limits, and the strategy's numbers are those of its plans
 pub record IsConfirmed (s : Strategy) : Type 0 where
-  pub lossless : IsLossless (frame_of s) s.classes
-  pub small : IsSmall (frame_of s) s.classes
+  pub lossless : IsLossless (strategy_frame s) s.classes
+  pub small : IsSmall (strategy_frame s) s.classes
   pub numbers : AreNumbersOf s s.numbers

@@ -1,7 +1,7 @@
 //! The sequence form of a game over classes of its signals, and plans in it given by texts.
 
 ghost use Rattle.std.specs.Prelude.{◌≤◌, ◌<◌, IfOk};
-ghost use Rattle.gs_seq.specs.{Abstracts.{frame_of, lists_of}, Plans.{IsPlanOf}};
+ghost use Rattle.gs_seq.specs.{Abstracts.{abstract_frame, lists_of}, Plans.{IsPlanOf}};
 
 use gs_game::ValidGame;
 use gs_lossless::{Lossless, check};
@@ -99,7 +99,7 @@ pub(crate) fn plan_in(
 ) -> Result<Plan, Fail>
     requires some { 0 < player }
     requires two { player ≤ 2 }
-    ensures { IfOk result (IsPlanOf (frame_of form.now) (lists_of form.now) player) }
+    ensures { IfOk result (IsPlanOf (abstract_frame form.now) (lists_of form.now) player) }
 {
     if weights == "first" {
         return Ok(form.first_plan(alloc, player)?);

@@ -3,7 +3,7 @@
 
 ghost use Rattle.std.specs.Prelude.{◌≤◌, ◌<◌};
 ghost use Rattle.gs_model.specs.Frame.{other_player};
-ghost use Rattle.gs_seq.specs.{Abstracts.{frame_of, lists_of}, Plans.{IsPlanOf}};
+ghost use Rattle.gs_seq.specs.{Abstracts.{abstract_frame, lists_of}, Plans.{IsPlanOf}};
 
 use crate::rows::{agree, over_form, plan_in};
 use gs_best::{Work, best, choices, verdict};
@@ -114,8 +114,8 @@ JQK, sh, pair, 1 0 1[k:2[k:=,b2:1[f:!,c2:=,r4:2[f:!,c2:=]]],b2:2[f:!,c2:=,r4:1[f
 
 /// Returns the verdict on two plans as a text.
 fn text_of(alloc: Global, form: &Abstract<'_>, one: &Plan, two: &Plan) -> Result<String, AllocError>
-    requires one { IsPlanOf (frame_of form.now) (lists_of form.now) 1 one.now }
-    requires two { IsPlanOf (frame_of form.now) (lists_of form.now) 2 two.now }
+    requires one { IsPlanOf (abstract_frame form.now) (lists_of form.now) 1 one.now }
+    requires two { IsPlanOf (abstract_frame form.now) (lists_of form.now) 2 two.now }
 {
     let mut work = Work::new(alloc, form)?;
     let Verdict { value, gap1, gap2 } = verdict(form, one, two, &mut work);
@@ -135,7 +135,7 @@ fn chooses(
 ) -> Result<bool, AllocError>
     requires some { 0 < player }
     requires two { player ≤ 2 }
-    requires other { IsPlanOf (frame_of form.now) (lists_of form.now) (other_player player) other.now }
+    requires other { IsPlanOf (abstract_frame form.now) (lists_of form.now) (other_player player) other.now }
 {
     let listed = choices(alloc, form, player, other)?;
     let wanted = numbers_in::<u8>(alloc, moves)?;
@@ -153,7 +153,7 @@ fn is_answer(
 ) -> Result<bool, AllocError>
     requires some { 0 < player }
     requires two { player ≤ 2 }
-    requires other { IsPlanOf (frame_of form.now) (lists_of form.now) (other_player player) other.now }
+    requires other { IsPlanOf (abstract_frame form.now) (lists_of form.now) (other_player player) other.now }
 {
     let answer = best(alloc, form, player, other)?;
     let wanted = numbers_in::<u64>(alloc, weights)?;
@@ -169,8 +169,8 @@ fn answers_hold(
     two: &Plan,
     row: &[&str],
 ) -> Result<bool, AllocError>
-    requires one { IsPlanOf (frame_of form.now) (lists_of form.now) 1 one.now }
-    requires two { IsPlanOf (frame_of form.now) (lists_of form.now) 2 two.now }
+    requires one { IsPlanOf (abstract_frame form.now) (lists_of form.now) 1 one.now }
+    requires two { IsPlanOf (abstract_frame form.now) (lists_of form.now) 2 two.now }
 {
     if row.len() < 9 {
         return Ok(true);
@@ -187,8 +187,8 @@ fn judged_plans(
     two: &Plan,
     row: &[&str],
 ) -> Result<String, AllocError>
-    requires one { IsPlanOf (frame_of form.now) (lists_of form.now) 1 one.now }
-    requires two { IsPlanOf (frame_of form.now) (lists_of form.now) 2 two.now }
+    requires one { IsPlanOf (abstract_frame form.now) (lists_of form.now) 1 one.now }
+    requires two { IsPlanOf (abstract_frame form.now) (lists_of form.now) 2 two.now }
 {
     if answers_hold(alloc, form, one, two, row)? {
         return text_of(alloc, form, one, two);

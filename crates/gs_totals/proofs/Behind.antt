@@ -4,7 +4,7 @@ use Rattle.std.proofs.lemmas.Int.{ints}
 use Rattle.std.specs.Prelude.{ℤ, pos, IsTrue, ◌<ℤ◌, nat_lt, slice_index}
 use Rattle.gs_model.specs.{Classes.{IsClass}, Frame.{move_count, player_at, point_count, round_of}, Positions.{at_point}}
 use Rattle.gs_totals.specs.{ClassTotals.{total_worth}, Courses.{LastsAt, StaysBehind, moves_chosen, totals_added, totals_now}, Jumps.{line}}
-use Rattle.gs_totals.specs.{Lasting.{AreBehind, IsBehind, IsNotAhead}, Roles.{frame_in, lists_in}, declared.course.Course.{Course}}
+use Rattle.gs_totals.specs.{Lasting.{AreBehind, IsBehind, IsNotAhead}, Roles.{role_frame, role_lists}, declared.course.Course.{Course}}
 
 -- ---- fewer turns
 
@@ -73,24 +73,24 @@ past m n l ne = omega (arith, l, ne)
 pub before_from : (m n : ℕ) → IsTrue (nat_lt m n) → m < n
 before_from m n t = grind (arith, t)
 
-module _ (k : Course) (q : ℕ) (lq : q < point_count (frame_in k.role)) (own : player_at (frame_in k.role) q ≡ k.role.player) where
+module _ (k : Course) (q : ℕ) (lq : q < point_count (role_frame k.role)) (own : player_at (role_frame k.role) q ≡ k.role.player) where
   -- what the chosen move is worth after so many turns
-  value_after : (c : ℕ) → IsClass (lists_in k.role) (round_of (frame_in k.role) (at_point q)) c → (n : ℕ)
+  value_after : (c : ℕ) → IsClass (role_lists k.role) (round_of (role_frame k.role) (at_point q)) c → (n : ℕ)
       → line (totals_now k (at_point q) c) (totals_added k (at_point q) c) n
-      ≡ line (total_worth (frame_in k.role) (lists_in k.role) (totals_now k) q (moves_chosen k q c) c)
-      (total_worth (frame_in k.role) (lists_in k.role) (totals_added k) q (moves_chosen k q c) c) n
+      ≡ line (total_worth (role_frame k.role) (role_lists k.role) (totals_now k) q (moves_chosen k q c) c)
+      (total_worth (role_frame k.role) (role_lists k.role) (totals_added k) q (moves_chosen k q c) c) n
   value_after c lc n =
       ap (λ v. line v (totals_added k (at_point q) c) n) (k.best.followed.reached q c lq own lc)
-      ∙ ap (λ s. line (total_worth (frame_in k.role) (lists_in k.role) (totals_now k) q (moves_chosen k q c) c) s n) (k.rise.reached q c lq own lc)
+      ∙ ap (λ s. line (total_worth (role_frame k.role) (role_lists k.role) (totals_now k) q (moves_chosen k q c) c) s n) (k.rise.reached q c lq own lc)
 
   -- moves that all stay behind change no choice
-  pub lasts_by : (times : ℕ) → ((m : ℕ) → m < move_count (frame_in k.role) q → StaysBehind k q m times) → LastsAt k q times
+  pub lasts_by : (times : ℕ) → ((m : ℕ) → m < move_count (role_frame k.role) q → StaysBehind k q m times) → LastsAt k q times
   lasts_by times h c lc =
       let place = moves_chosen k q c in
-      let inr : place < move_count (frame_in k.role) q = k.best.followed.in_range q c lq own lc in
-      let after : ℕ → ℕ → ℤ = λ m n. line (total_worth (frame_in k.role) (lists_in k.role) (totals_now k) q m c)
-      (total_worth (frame_in k.role) (lists_in k.role) (totals_added k) q m c) n in
-      let stays : (m n : ℕ) → m < move_count (frame_in k.role) q → m ≢ place → n < times → IsNotAhead (nat_lt m place) (after place n) (after m n) =
+      let inr : place < move_count (role_frame k.role) q = k.best.followed.in_range q c lq own lc in
+      let after : ℕ → ℕ → ℤ = λ m n. line (total_worth (role_frame k.role) (role_lists k.role) (totals_now k) q m c)
+      (total_worth (role_frame k.role) (role_lists k.role) (totals_added k) q m c) n in
+      let stays : (m n : ℕ) → m < move_count (role_frame k.role) q → m ≢ place → n < times → IsNotAhead (nat_lt m place) (after place n) (after m n) =
       λ m n inside ne soon. subst (λ x. IsNotAhead (nat_lt m place) x (after m n)) (value_after c lc n) (h m inside c lc (λ s. ne (sym s)) n soon) in
       record {
         later = λ m n behind inside soon. (stays m n inside (λ s. omega (arith, behind, s)) soon).most;
@@ -98,12 +98,12 @@ module _ (k : Course) (q : ℕ) (lq : q < point_count (frame_in k.role)) (own : 
       }
 
   -- and where no choice changes all stay behind
-  pub stays_by : (times : ℕ) → LastsAt k q times → (m : ℕ) → m < move_count (frame_in k.role) q → StaysBehind k q m times
+  pub stays_by : (times : ℕ) → LastsAt k q times → (m : ℕ) → m < move_count (role_frame k.role) q → StaysBehind k q m times
   stays_by times h m inside c lc ne n soon =
       let place = moves_chosen k q c in
       let b = h c lc in
-      subst (λ x. IsNotAhead (nat_lt m place) x (line (total_worth (frame_in k.role) (lists_in k.role) (totals_now k) q m c)
-      (total_worth (frame_in k.role) (lists_in k.role) (totals_added k) q m c) n)) (sym (value_after c lc n))
+      subst (λ x. IsNotAhead (nat_lt m place) x (line (total_worth (role_frame k.role) (role_lists k.role) (totals_now k) q m c)
+      (total_worth (role_frame k.role) (role_lists k.role) (totals_added k) q m c) n)) (sym (value_after c lc n))
       (⊎_elim
       (λ (before : m < place). under (nat_lt m place) _ _ (b.earlier m n before soon))
       (λ (from : place ≤ m).

@@ -5,45 +5,45 @@ use Rattle.std.specs.{Prelude.{◌==◌, ℤ, pos, ◌+ℤ◌, unsigned_abs}, Li
 use borrow.Author.Differences.{abs_is}
 use Rattle.gs_model.specs.{Classes.{ClassLists, IsClass, class_count}, Frame.{Frame}, Sums.{sum_z}}
 use Rattle.gs_model.proofs.Basics.{not_eq}
-use Rattle.gs_best.specs.Rows.{AreModest}
+use Rattle.gs_best.specs.Rows.{AreModestClasses}
 use Rattle.gs_best.proofs.Ranges.{range_abs, sum_same}
-use Rattle.gs_totals.specs.{ClassTotals.{class_above, gathered}, Merged.{row_from}}
+use Rattle.gs_totals.specs.{ClassTotals.{earlier_class, gathered_below}, Merged.{row_from}}
 use Rattle.gs_seq.proofs.EndTotals.{range_more}
 
 -- what the first classes of a round hold below a class
 abbrev pub gathered_to : Frame → ClassLists → ℕ → ℕ → List ℤ → ℕ → ℕ → ℕ → ℤ
-gathered_to f lists from to values start c n = sum_z (λ k. cond (class_above f lists from to k == c) (row_from values start k) (pos 0)) (range_with_len 1 n)
+gathered_to f lists from to values start c n = sum_z (λ k. cond (earlier_class f lists from to k == c) (row_from values start k) (pos 0)) (range_with_len 1 n)
 
 -- what is gathered hangs on the classes of the round alone
 pub gathered_same : (f : Frame) (lists : ClassLists) (from to : ℕ) (v w : ℕ → ℤ) (c : ℕ) → ((k : ℕ) → IsClass lists from k → v k ≡ w k)
-    → gathered f lists from to v c ≡ gathered f lists from to w c
+    → gathered_below f lists from to v c ≡ gathered_below f lists from to w c
 gathered_same f lists from to v w c h =
-    sum_same (λ k. cond (class_above f lists from to k == c) (v k) (pos 0)) (λ k. cond (class_above f lists from to k == c) (w k) (pos 0)) 1
+    sum_same (λ k. cond (earlier_class f lists from to k == c) (v k) (pos 0)) (λ k. cond (earlier_class f lists from to k == c) (w k) (pos 0)) 1
     (class_count lists from)
-    (λ k lo hi. ap (λ x. cond (class_above f lists from to k == c) x (pos 0)) (h k (omega arith, omega arith)))
+    (λ k lo hi. ap (λ x. cond (earlier_class f lists from to k == c) x (pos 0)) (h k (omega arith, omega arith)))
 
 pub tested_small : (b : Bool) (x : ℤ) (most : ℕ) → unsigned_abs x ≤ most → unsigned_abs (cond b x (pos 0)) ≤ most
 tested_small true x most h = h
 tested_small false x most h = omega (arith, ints, abs_is (pos 0))
 
 module _ (f : Frame) (lists : ClassLists) (from to : ℕ) (values : List ℤ) (start : ℕ) where
-  pub gathered_small : (count : ℕ) → AreModest values start count → (c n : ℕ) → n ≤ count
+  pub gathered_small : (count : ℕ) → AreModestClasses values start count → (c n : ℕ) → n ≤ count
       → unsigned_abs (gathered_to f lists from to values start c n) ≤ n * 2 ^ 90
   gathered_small count h c n l =
-      range_abs (λ k. cond (class_above f lists from to k == c) (row_from values start k) (pos 0)) 1 n (2 ^ 90)
-      (λ k lo hi. tested_small (class_above f lists from to k == c) (row_from values start k) (2 ^ 90) (let s = h (k - 1) (omega arith) in omega (arith, s)))
+      range_abs (λ k. cond (earlier_class f lists from to k == c) (row_from values start k) (pos 0)) 1 n (2 ^ 90)
+      (λ k lo hi. tested_small (earlier_class f lists from to k == c) (row_from values start k) (2 ^ 90) (let s = h (k - 1) (omega arith) in omega (arith, s)))
 
   one_more : (c n : ℕ) → gathered_to f lists from to values start c (n + 1)
-      ≡ gathered_to f lists from to values start c n +ℤ cond (class_above f lists from to (n + 1) == c) (get_or values (start + n) (pos 0)) (pos 0)
+      ≡ gathered_to f lists from to values start c n +ℤ cond (earlier_class f lists from to (n + 1) == c) (get_or values (start + n) (pos 0)) (pos 0)
   one_more c n =
-      let one = λ (k : ℕ). cond (class_above f lists from to k == c) (row_from values start k) (pos 0) in
+      let one = λ (k : ℕ). cond (earlier_class f lists from to k == c) (row_from values start k) (pos 0) in
       let e : 1 + n ≡ n + 1 = omega arith in
       let g : n + 1 - 1 ≡ n = omega arith in
       range_more one 1 n ∙ ap (λ k. gathered_to f lists from to values start c n +ℤ one k) e
-      ∙ ap (λ i. gathered_to f lists from to values start c n +ℤ cond (class_above f lists from to (n + 1) == c) (get_or values (start + i) (pos 0)) (pos 0))
+      ∙ ap (λ i. gathered_to f lists from to values start c n +ℤ cond (earlier_class f lists from to (n + 1) == c) (get_or values (start + i) (pos 0)) (pos 0))
       g
 
-  module _ (now : List ℤ) (n above place : ℕ) (is : above ≡ class_above f lists from to (n + 1)) (at : place
+  module _ (now : List ℤ) (n above place : ℕ) (is : above ≡ earlier_class f lists from to (n + 1)) (at : place
       ≡ above - 1) (class : IsClass lists to above) (sums : (c : ℕ) → IsClass lists to c
       → get_or now (c - 1) (pos 0) ≡ gathered_to f lists from to values start c n) where
     -- one class more at its place
@@ -51,7 +51,7 @@ module _ (f : Frame) (lists : ClassLists) (from to : ℕ) (values : List ℤ) (s
     place_more =
         ap (λ x. x +ℤ get_or values (start + n) (pos 0)) (ap (λ i. get_or now i (pos 0)) at ∙ sums above class)
         ∙ ap (λ b. gathered_to f lists from to values start above n +ℤ cond b (get_or values (start + n) (pos 0)) (pos 0))
-        (sym ((Decides-eqb (class_above f lists from to (n + 1)) above).1 (sym is)))
+        (sym ((Decides-eqb (earlier_class f lists from to (n + 1)) above).1 (sym is)))
         ∙ sym (one_more above n)
 
     pub sums_more : (x : ℤ) → x ≡ get_or now place (pos 0) +ℤ get_or values (start + n) (pos 0) → place < length now → (c : ℕ) → IsClass lists to c
@@ -66,6 +66,6 @@ module _ (f : Frame) (lists : ClassLists) (from to : ℕ) (values : List ℤ) (s
         get_or-set_other now place (c - 1) x (pos 0) apart ∙ sums c lc
         ∙ sym (+ℤ_idr (gathered_to f lists from to values start c n))
         ∙ ap (λ b. gathered_to f lists from to values start c n +ℤ cond b (get_or values (start + n) (pos 0)) (pos 0))
-        (sym (not_eq (class_above f lists from to (n + 1)) c (λ s. other (sym (is ∙ s)))))
+        (sym (not_eq (earlier_class f lists from to (n + 1)) c (λ s. other (sym (is ∙ s)))))
         ∙ sym (one_more c n))
         (cases_eq c above)

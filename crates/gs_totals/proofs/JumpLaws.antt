@@ -8,8 +8,8 @@ use Rattle.gs_model.specs.{FrameFacts.{InRange, IsInside, IsWalked}, Plans.{Plan
 use Rattle.gs_model.proofs.Total.{sum_z-add, sum_z-mul, sum_z-same}
 use Rattle.gs_seq.specs.Payoffs.{end_sum}
 use Rattle.gs_best.proofs.Ranges.{sum_same}
-use Rattle.gs_totals.specs.ClassTotals.{AreBestTotals, IsFollowed, class_above, gathered, total_worth}
-use Rattle.gs_totals.specs.{Jumps.{AreBeforeChange, IsBeforeChange, line, tables_after}, PlanSums.{AreAlike, plus_times}}
+use Rattle.gs_totals.specs.ClassTotals.{AreBestTotals, IsFollowed, earlier_class, gathered_below, total_worth}
+use Rattle.gs_totals.specs.{Jumps.{AreBeforeChange, IsBeforeChange, line, tables_after}, PlanSums.{ArePlansAlike, plus_times}}
 use Rattle.gs_totals.proofs.SumLaws.{end_plus, kept_alike}
 
 -- ---- one choice
@@ -29,9 +29,9 @@ none_more_stays worth rise n place times within k soon m inside = ⊎_elim
 -- ---- tables
 
 gathered_line : (f : Frame) (lists : ClassLists) (from to : ℕ) (v d : ℕ → ℤ) (k c : ℕ)
-    → gathered f lists from to (λ i. line (v i) (d i) k) c ≡ line (gathered f lists from to v c) (gathered f lists from to d c) k
+    → gathered_below f lists from to (λ i. line (v i) (d i) k) c ≡ line (gathered_below f lists from to v c) (gathered_below f lists from to d c) k
 gathered_line f lists from to v d k c =
-    let t = λ (i : ℕ). class_above f lists from to i == c in
+    let t = λ (i : ℕ). earlier_class f lists from to i == c in
     sum_z-same (λ i. cond (t i) (line (v i) (d i) k) (pos 0)) (λ i. cond (t i) (v i) (pos 0) +ℤ pos k *ℤ cond (t i) (d i) (pos 0))
     (λ i. tested (t i) (v i) (d i)) (classes_in lists from)
     ∙ sum_z-add (λ i. cond (t i) (v i) (pos 0)) (λ i. pos k *ℤ cond (t i) (d i) (pos 0)) (classes_in lists from)
@@ -94,7 +94,7 @@ choices_stay f lists player y b v d move times k h g within soon =
 
 -- plans that are alike are followed alike
 pub best_alike : (f : Frame) → InRange f → (lists : ClassLists) → IsClasses f.parents lists → (player : ℕ) → IsWalked f (other_player player) → (x y : Plan)
-    → AreAlike f lists (other_player player) x y → (v : Values) (move : ℕ → ℕ → ℕ)
+    → ArePlansAlike f lists (other_player player) x y → (v : Values) (move : ℕ → ℕ → ℕ)
     → AreBestTotals f lists player y v move → AreBestTotals f lists player x v move
 best_alike f r lists k player w x y a v move h = record {
   followed = record {
@@ -114,9 +114,9 @@ module _ (f : Frame) (lists : ClassLists) (player : ℕ) (walked : IsWalked f pl
       let t = leads_to f q m in
       let j = round_of f (at_point q) in
       let i = round_of f t in
-      sum_same (λ k. cond (class_above f lists i j k == c) (w t k) (pos 0)) (λ k. cond (class_above f lists i j k == c) (v t k) (pos 0)) 1
+      sum_same (λ k. cond (earlier_class f lists i j k == c) (w t k) (pos 0)) (λ k. cond (earlier_class f lists i j k == c) (v t k) (pos 0)) 1
       (class_count lists i)
-      (λ k a b. ap (λ x. cond (class_above f lists i j k == c) x (pos 0)) (same t k (walked.inside q m lq lm) (omega arith, omega arith)))
+      (λ k a b. ap (λ x. cond (earlier_class f lists i j k == c) x (pos 0)) (same t k (walked.inside q m lq lm) (omega arith, omega arith)))
 
   pub best_same : (y : Plan) (move : ℕ → ℕ → ℕ) → AreBestTotals f lists player y v move → AreBestTotals f lists player y w move
   best_same y move h = record {

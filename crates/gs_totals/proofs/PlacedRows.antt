@@ -5,7 +5,7 @@ use Rattle.gs_model.specs.{Classes.{ClassLists, IsClass}, Frame.{Frame, end_coun
 use Rattle.gs_seq.specs.Payoffs.{end_classes, end_sum}
 use Rattle.gs_best.specs.Tables.{classes_at}
 use Rattle.gs_best.proofs.Placed.{IsRow, row_read}
-use Rattle.gs_totals.specs.{Ledgers.{IsPaidAt}, Places.{end_start}, Roles.{frame_in, lists_in, plan_in}, Room.{IsPlaced}, declared.ledger.Ledger.{Ledger}}
+use Rattle.gs_totals.specs.{Ledgers.{IsPaidAt}, Places.{end_start}, Roles.{role_frame, role_lists, role_plan}, Room.{IsPlaced}, declared.ledger.Ledger.{Ledger}}
 use Rattle.gs_totals.specs.declared.places.Places.{Places}
 use Rattle.gs_totals.proofs.EndStarts.{end_before}
 
@@ -19,24 +19,24 @@ module _ (f : Frame) (lists : ClassLists) (p : Places) (placed : IsPlaced f list
   end_row z start count l read all = row_read (end_classes f lists) (end_count f) z start count p.ends.items l placed.many_ends placed.ends read all
 
 -- the row of an end in a player's class totals
-pub row_of_end : (k : Ledger) (z start : ℕ) → z < end_count (frame_in k.role) → start ≡ get_or k.role.places.now.ends.items z start
-    → IsRow (end_classes (frame_in k.role) (lists_in k.role)) (end_count (frame_in k.role)) z start (end_classes (frame_in k.role) (lists_in k.role) z)
-row_of_end k z start l read = end_row (frame_in k.role) (lists_in k.role) k.role.places.now k.role.placed z start _ l read refl
+pub row_of_end : (k : Ledger) (z start : ℕ) → z < end_count (role_frame k.role) → start ≡ get_or k.role.places.now.ends.items z start
+    → IsRow (end_classes (role_frame k.role) (role_lists k.role)) (end_count (role_frame k.role)) z start (end_classes (role_frame k.role) (role_lists k.role) z)
+row_of_end k z start l read = end_row (role_frame k.role) (role_lists k.role) k.role.places.now k.role.placed z start _ l read refl
 
 -- a list has what an end pays a class
 abbrev pub IsPaidFor : Ledger → ℕ → ℕ → List ℤ → Type 0
-IsPaidFor k e n sums = IsClass (lists_in k.role) (round_of (frame_in k.role) (at_end e)) n
-    → get_or sums (end_start (frame_in k.role) (lists_in k.role) e + (n - 1)) (pos 0)
-    ≡ end_sum (frame_in k.role) (lists_in k.role) k.role.player (plan_in k.role k.other.now) e n
+IsPaidFor k e n sums = IsClass (role_lists k.role) (round_of (role_frame k.role) (at_end e)) n
+    → get_or sums (end_start (role_frame k.role) (role_lists k.role) e + (n - 1)) (pos 0)
+    ≡ end_sum (role_frame k.role) (role_lists k.role) k.role.player (role_plan k.role k.other.now) e n
 
 -- the row of one end more was written
-pub paid_more : (k : Ledger) (z start : ℕ) (old new : List ℤ) → IsPaidAt k z start old new → start ≡ end_start (frame_in k.role) (lists_in k.role) z
+pub paid_more : (k : Ledger) (z start : ℕ) (old new : List ℤ) → IsPaidAt k z start old new → start ≡ end_start (role_frame k.role) (role_lists k.role) z
     → ((e n : ℕ) → e < z → IsPaidFor k e n old) → (e n : ℕ) → e < z + 1 → IsPaidFor k e n new
 paid_more k z start old new paid at done e n le ln = ⊎_elim
     (λ (same : e ≡ z).
-    let place : end_start (frame_in k.role) (lists_in k.role) z + (n - 1) ≡ start + (n - 1) = omega (arith, at) in
+    let place : end_start (role_frame k.role) (role_lists k.role) z + (n - 1) ≡ start + (n - 1) = omega (arith, at) in
     subst (λ e. IsPaidFor k e n new) (sym same) (λ ln. ap (λ i. get_or new i (pos 0)) place ∙ paid.here n ln) ln)
     (λ (other : e ≡ z → ⊥).
-    let earlier = end_before (frame_in k.role) (lists_in k.role) e n z ln (omega arith) in
-    paid.before (end_start (frame_in k.role) (lists_in k.role) e + (n - 1)) (omega (arith, earlier, at)) ∙ done e n (omega arith) ln)
+    let earlier = end_before (role_frame k.role) (role_lists k.role) e n z ln (omega arith) in
+    paid.before (end_start (role_frame k.role) (role_lists k.role) e + (n - 1)) (omega (arith, earlier, at)) ∙ done e n (omega arith) ln)
     (cases_eq e z)

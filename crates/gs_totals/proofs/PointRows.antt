@@ -5,56 +5,57 @@ use Rattle.gs_model.specs.{Classes.{IsClass, class_count}, Frame.{end_count, lea
 use Rattle.gs_seq.proofs.SlotLaws.{sum_range_le}
 use Rattle.gs_best.specs.{Sizes.{IsWide}, Tables.{classes_at, start_of}}
 use Rattle.gs_best.proofs.Placed.{IsRow, row_next}
-use Rattle.gs_totals.specs.{Places.{end_start}, PointRows.{totals_at}, Roles.{frame_in, lists_in}, Rows.{IsLaterRow, IsRowOf}, declared.ledger.Ledger.{Ledger}}
+use Rattle.gs_totals.specs.{Places.{end_start}, PointRows.{totals_at}, Roles.{role_frame, role_lists}, Rows.{IsLaterRow, IsRowOf}}
+use Rattle.gs_totals.specs.declared.ledger.Ledger.{Ledger}
 use Rattle.gs_totals.specs.{declared.places.Totals.{Totals}, declared.point_row.PointRow.{PointRow}, declared.rows.Row.{Row}}
 use Rattle.gs_totals.proofs.Sides.{walked}
 
-pub row_at : (at : PointRow) → let k = at.ledger.role in IsRow (classes_at (frame_in k) (lists_in k)) (point_count (frame_in k)) at.point at.start at.count
+pub row_at : (at : PointRow) → let k = at.ledger.role in IsRow (classes_at (role_frame k) (role_lists k)) (point_count (role_frame k)) at.point at.start at.count
 row_at at =
-    let width = classes_at (frame_in at.ledger.role) (lists_in at.ledger.role) in
+    let width = classes_at (role_frame at.ledger.role) (role_lists at.ledger.role) in
     record {
       start_is = at.start_is;
       count_is = at.count_is;
       within = omega (
         arith,
         row_next width at.point at.start at.count at.start_is at.count_is,
-        sum_range_le width (at.point + 1) (point_count (frame_in at.ledger.role)) (omega (arith, at.inside)),
+        sum_range_le width (at.point + 1) (point_count (role_frame at.ledger.role)) (omega (arith, at.inside)),
       );
     }
 
 -- a row for the classes of any round is long enough
-pub wide_at : (at : PointRow) (long : ℕ) → IsWide (frame_in at.ledger.role) (lists_in at.ledger.role) long → at.count ≤ long
+pub wide_at : (at : PointRow) (long : ℕ) → IsWide (role_frame at.ledger.role) (role_lists at.ledger.role) long → at.count ≤ long
 wide_at at long wide =
     let w = walked at.ledger.role in
-    omega (arith, at.count_is, wide (round_of (frame_in at.ledger.role) (at_point at.point)) (w.some_round at.point at.inside) (w.point_in at.point at.inside))
+    omega (arith, at.count_is, wide (round_of (role_frame at.ledger.role) (at_point at.point)) (w.some_round at.point at.inside) (w.point_in at.point at.inside))
 
 -- the row of a point holds what is known there, and the row of an end what it pays
 module _ (at : PointRow) (r : Row) where
-  pub held_at_point : (t : Target) (q : ℕ) → t ≡ at_point q → r.round ≡ round_of (frame_in at.ledger.role) (at_point q)
-      → r.start ≡ start_of (frame_in at.ledger.role) (lists_in at.ledger.role) q → r.values.now ≡ at.totals.now.points.items
-      → IsRowOf (frame_in at.ledger.role) (lists_in at.ledger.role) (totals_at at) t r
-  held_at_point t q is round start values = subst (λ t. IsRowOf (frame_in at.ledger.role) (lists_in at.ledger.role) (totals_at at) t r) (sym is) (record {
+  pub held_at_point : (t : Target) (q : ℕ) → t ≡ at_point q → r.round ≡ round_of (role_frame at.ledger.role) (at_point q)
+      → r.start ≡ start_of (role_frame at.ledger.role) (role_lists at.ledger.role) q → r.values.now ≡ at.totals.now.points.items
+      → IsRowOf (role_frame at.ledger.role) (role_lists at.ledger.role) (totals_at at) t r
+  held_at_point t q is round start values = subst (λ t. IsRowOf (role_frame at.ledger.role) (role_lists at.ledger.role) (totals_at at) t r) (sym is) (record {
     round_is = round;
     values_are = λ c lc. ap (λ s. get_or r.values.now (s + (c - 1)) (pos 0)) start
-        ∙ ap (λ l. get_or l (start_of (frame_in at.ledger.role) (lists_in at.ledger.role) q + (c - 1)) (pos 0)) values;
+        ∙ ap (λ l. get_or l (start_of (role_frame at.ledger.role) (role_lists at.ledger.role) q + (c - 1)) (pos 0)) values;
   })
 
-  pub held_at_end : (t : Target) (z : ℕ) → t ≡ at_end z → z < end_count (frame_in at.ledger.role) → r.round ≡ round_of (frame_in at.ledger.role) (at_end z)
-      → r.start ≡ end_start (frame_in at.ledger.role) (lists_in at.ledger.role) z → r.values.now ≡ at.totals.now.ends.items
-      → IsRowOf (frame_in at.ledger.role) (lists_in at.ledger.role) (totals_at at) t r
-  held_at_end t z is inside round start values = subst (λ t. IsRowOf (frame_in at.ledger.role) (lists_in at.ledger.role) (totals_at at) t r) (sym is) (record {
+  pub held_at_end : (t : Target) (z : ℕ) → t ≡ at_end z → z < end_count (role_frame at.ledger.role) → r.round ≡ round_of (role_frame at.ledger.role) (at_end z)
+      → r.start ≡ end_start (role_frame at.ledger.role) (role_lists at.ledger.role) z → r.values.now ≡ at.totals.now.ends.items
+      → IsRowOf (role_frame at.ledger.role) (role_lists at.ledger.role) (totals_at at) t r
+  held_at_end t z is inside round start values = subst (λ t. IsRowOf (role_frame at.ledger.role) (role_lists at.ledger.role) (totals_at at) t r) (sym is) (record {
     round_is = round;
     values_are = λ c lc.
         ap (λ s. get_or r.values.now (s + (c - 1)) (pos 0)) start ∙ ap (λ l.
-        get_or l (end_start (frame_in at.ledger.role) (lists_in at.ledger.role) z + (c - 1)) (pos 0)) values ∙ at.paid z c inside lc;
+        get_or l (end_start (role_frame at.ledger.role) (role_lists at.ledger.role) z + (c - 1)) (pos 0)) values ∙ at.paid z c inside lc;
   })
 
-module _ (at : PointRow) (m : ℕ) (lm : m < move_count (frame_in at.ledger.role) at.point) (r : Row)
-    (held : IsRowOf (frame_in at.ledger.role) (lists_in at.ledger.role) (totals_at at) (leads_to (frame_in at.ledger.role) at.point m) r) where
-  pub later_row : r.start + class_count (lists_in at.ledger.role) r.round ≤ length r.values.now
-      → IsLaterRow (frame_in at.ledger.role) (lists_in at.ledger.role) (round_of (frame_in at.ledger.role) (at_point at.point)) r
+module _ (at : PointRow) (m : ℕ) (lm : m < move_count (role_frame at.ledger.role) at.point) (r : Row)
+    (held : IsRowOf (role_frame at.ledger.role) (role_lists at.ledger.role) (totals_at at) (leads_to (role_frame at.ledger.role) at.point m) r) where
+  pub later_row : r.start + class_count (role_lists at.ledger.role) r.round ≤ length r.values.now
+      → IsLaterRow (role_frame at.ledger.role) (role_lists at.ledger.role) (round_of (role_frame at.ledger.role) (at_point at.point)) r
   later_row room =
-      let f = frame_in at.ledger.role in
+      let f = role_frame at.ledger.role in
       let w = walked at.ledger.role in
       let t = leads_to f at.point m in
       record {
@@ -62,8 +63,8 @@ module _ (at : PointRow) (m : ℕ) (lm : m < move_count (frame_in at.ledger.role
         top = omega (arith, w.within at.point m at.inside lm, held.round_is);
         room = room;
         modest = λ i l.
-            let class : IsClass (lists_in at.ledger.role) (round_of f t) (i + 1) =
-            (omega arith, omega (arith, l, ap (class_count (lists_in at.ledger.role)) held.round_is)) in
+            let class : IsClass (role_lists at.ledger.role) (round_of f t) (i + 1) =
+            (omega arith, omega (arith, l, ap (class_count (role_lists at.ledger.role)) held.round_is)) in
             let small = at.modest t (i + 1) (w.inside at.point m at.inside lm) (w.later at.point m at.inside lm) class in
             let place : r.start + (i + 1 - 1) ≡ r.start + i = omega arith in
             omega (arith, small, ap unsigned_abs (held.values_are (i + 1) class), ap (λ n. unsigned_abs (get_or r.values.now n (pos 0))) place);
@@ -77,8 +78,8 @@ module _ (k : Ledger) (t : Totals) (q : ℕ) (at : PointRow) (ledger : at.ledger
   pub brought : (P : Ledger → Totals → ℕ → Type 0) → P k t q → P at.ledger at.totals.now at.point
   brought P h = subst (λ k. P k at.totals.now at.point) (sym ledger) (subst (λ t. P k t at.point) (sym totals) (subst (λ q. P k t q) (sym point) h))
 
-  pub row_of : IsRow (classes_at (frame_in k.role) (lists_in k.role)) (point_count (frame_in k.role)) q at.start at.count
-  row_of = carried (λ k t q. IsRow (classes_at (frame_in k.role) (lists_in k.role)) (point_count (frame_in k.role)) q at.start at.count) (row_at at)
+  pub row_of : IsRow (classes_at (role_frame k.role) (role_lists k.role)) (point_count (role_frame k.role)) q at.start at.count
+  row_of = carried (λ k t q. IsRow (classes_at (role_frame k.role) (role_lists k.role)) (point_count (role_frame k.role)) q at.start at.count) (row_at at)
 
-  pub wide_of : (long : ℕ) → IsWide (frame_in k.role) (lists_in k.role) long → at.count ≤ long
-  wide_of long wide = wide_at at long (brought (λ k t q. IsWide (frame_in k.role) (lists_in k.role) long) wide)
+  pub wide_of : (long : ℕ) → IsWide (role_frame k.role) (role_lists k.role) long → at.count ≤ long
+  wide_of long wide = wide_at at long (brought (λ k t q. IsWide (role_frame k.role) (role_lists k.role) long) wide)

@@ -2,17 +2,17 @@
 use Rattle.std.proofs.Common.{ℕ, ◌^◌, ◌<◌, ◌≤◌, List, [], refl, sym, subst, arith}
 use Rattle.std.specs.Prelude.{ℤ, unsigned_abs}
 use Rattle.gs_model.specs.{Frame.{other_player, point_count}, FrameFacts.{IsFrom}, Positions.{at_end, at_point}}
-use Rattle.gs_seq.specs.{Abstracts.{frame_of, lists_of}, Plans.{IsPlanOf, class_plan}, declared.form.Abstract.{Abstract}, declared.plan.Plan.{Plan}}
+use Rattle.gs_seq.specs.{Abstracts.{abstract_frame, lists_of}, Plans.{IsPlanOf, class_plan}, declared.form.Abstract.{Abstract}, declared.plan.Plan.{Plan}}
 use Rattle.gs_best.proofs.Forms.{form_classes, form_in_range, form_modest, form_walked}
 use Rattle.gs_totals.specs.{ClassTotals.{IsFollowed}, Places.{AreEndSums, AreSmallPoints, AreSmallRows, totals_of}}
 use Rattle.gs_totals.proofs.{Known.{figures}, Sides.{apart, either_player}, Stepping.{from_some, none_followed}, TotalBounds.{totals_few}}
 
 module _ (a : Abstract) (player : ℕ) (some : 0 < player) (two : player
-    ≤ 2) (p : Plan) (h : IsPlanOf (frame_of a) (lists_of a) (other_player player) p) where
-  pub small_ends : (sums : List ℤ) → AreEndSums (frame_of a) (lists_of a) player (class_plan (frame_of a) (lists_of a) p) sums
-      → AreSmallRows (frame_of a) (lists_of a) sums
+    ≤ 2) (p : Plan) (h : IsPlanOf (abstract_frame a) (lists_of a) (other_player player) p) where
+  pub small_ends : (sums : List ℤ) → AreEndSums (abstract_frame a) (lists_of a) player (class_plan (abstract_frame a) (lists_of a) p) sums
+      → AreSmallRows (abstract_frame a) (lists_of a) sums
   small_ends sums paid z c lz lc =
-      let f = frame_of a in
+      let f = abstract_frame a in
       let lists = lists_of a in
       let y = class_plan f lists p in
       let m = form_modest a in
@@ -27,11 +27,11 @@ module _ (a : Abstract) (player : ℕ) (some : 0 < player) (two : player
       let n : unsigned_abs (totals_of f lists player y [] (at_end z) c) < 2 ^ 90 = omega (arith, b, figures y.total _ plan.total_in.1 m.weight) in
       subst (λ x. unsigned_abs x < 2 ^ 90) (sym (paid z c lz lc)) n
 
-  pub small_points : (values : List ℤ) (move : ℕ → ℕ → ℕ) → IsFollowed (frame_of a) (lists_of a) player (class_plan (frame_of a) (lists_of a) p)
-      (totals_of (frame_of a) (lists_of a) player (class_plan (frame_of a) (lists_of a) p) values) move
-      → AreSmallPoints (frame_of a) (lists_of a) values
+  pub small_points : (values : List ℤ) (move : ℕ → ℕ → ℕ) → IsFollowed (abstract_frame a) (lists_of a) player (class_plan (abstract_frame a) (lists_of a) p)
+      (totals_of (abstract_frame a) (lists_of a) player (class_plan (abstract_frame a) (lists_of a) p) values) move
+      → AreSmallPoints (abstract_frame a) (lists_of a) values
   small_points values move followed q c lq lc =
-      let f = frame_of a in
+      let f = abstract_frame a in
       let lists = lists_of a in
       let y = class_plan f lists p in
       let m = form_modest a in

@@ -6,7 +6,7 @@ use Rattle.gs_model.specs.{Frame.{Frame, ancestor, end_count, last_step, other_p
 use Rattle.gs_model.specs.{Plans.{Plan, lift, number_before}, Positions.{Step, at_end, at_point}, Sums.{sum_z}}
 use Rattle.gs_model.proofs.{Gather.{class_in, known_from, member_in}, Total.{mul-add_right, mul_assoc_z, sum_z-add, sum_z-mul, sum_z-same}}
 use Rattle.gs_seq.specs.Payoffs.{end_sum}
-use Rattle.gs_totals.specs.{ClassTotals.{class_above}, PlanSums.{AreAlike, plus_times}}
+use Rattle.gs_totals.specs.{ClassTotals.{earlier_class}, PlanSums.{ArePlansAlike, plus_times}}
 use Rattle.gs_best.proofs.Ranges.{sum_same}
 
 -- ---- the sums
@@ -57,7 +57,7 @@ end_plus f lists player x b k z c = kept_plus f lists (payoff_to f player z) (ro
 module _ (f : Frame) (r : InRange f) (lists : ClassLists) (k : IsClasses f.parents lists) (player : ℕ) (w : IsWalked f player) where
   -- the class of a last step before an end is a class of its round
   pub above_is_class : (z e : ℕ) (u : Step) → z < end_count f → IsClass lists (round_of f (at_end z)) e → last_step f player (at_end z) ≡ Some u
-      → IsClass lists (round_of f (at_point u.point)) (class_above f lists (round_of f (at_end z)) (round_of f (at_point u.point)) e)
+      → IsClass lists (round_of f (at_point u.point)) (earlier_class f lists (round_of f (at_end z)) (round_of f (at_point u.point)) e)
   above_is_class z e u lz le is =
       let kn = known_from f player r w in
       let round = round_of f (at_end z) in
@@ -68,17 +68,17 @@ module _ (f : Frame) (r : InRange f) (lists : ClassLists) (k : IsClasses f.paren
       (omega (arith, past, top))
       (kn.kept round (round_of f (at_point u.point)) (first_member lists round e) some past (member_in f lists k round e (w.end_round z lz) top le))
 
-  number_alike : (x y : Plan) → AreAlike f lists player x y → (z e : ℕ) → z < end_count f → IsClass lists (round_of f (at_end z)) e → (o : Option Step)
+  number_alike : (x y : Plan) → ArePlansAlike f lists player x y → (z e : ℕ) → z < end_count f → IsClass lists (round_of f (at_end z)) e → (o : Option Step)
       → last_step f player (at_end z) ≡ o
       → number_after f lists x o (round_of f (at_end z)) e ≡ number_after f lists y o (round_of f (at_end z)) e
   number_alike x y a z e lz le None is = a.total
   number_alike x y a z e lz le (Some u) is =
       let own = w.chosen_end z u lz is in
-      a.numbers u.point (class_above f lists (round_of f (at_end z)) (round_of f (at_point u.point)) e) u.choice (w.earlier_end z u lz is) own.0
+      a.numbers u.point (earlier_class f lists (round_of f (at_end z)) (round_of f (at_point u.point)) e) u.choice (w.earlier_end z u lz is) own.0
       (above_is_class z e u lz le is) own.1
 
   -- plans that are alike give the same sums at ends
-  pub kept_alike : (value : ℤ → ℤ) (x y : Plan) → AreAlike f lists player x y → (z c : ℕ) → z < end_count f
+  pub kept_alike : (value : ℤ → ℤ) (x y : Plan) → ArePlansAlike f lists player x y → (z c : ℕ) → z < end_count f
       → kept_sum f lists value (round_of f (at_end z)) (last_step f player (at_end z)) x c
       ≡ kept_sum f lists value (round_of f (at_end z)) (last_step f player (at_end z)) y c
   kept_alike value x y a z c lz =

@@ -3,7 +3,7 @@ use Rattle.std.proofs.Common.{◌≡◌, ℕ, List, sym, ap, ◌∙◌, subst}
 use Rattle.std.specs.Prelude.{ℤ}
 use Rattle.gs_model.specs.{BestAnswers.{Values}, Classes.{ClassLists, IsClass}, Frame.{Frame, leads_to, round_of}, Positions.{at_point}}
 use Rattle.gs_best.specs.Rows.{AreWorths}
-use Rattle.gs_totals.specs.{ClassTotals.{gathered, total_worth}, Merged.{AreGathered, row_from}, Rows.{IsRowOf}, declared.rows.Row.{Row}}
+use Rattle.gs_totals.specs.{ClassTotals.{gathered_below, total_worth}, Merged.{AreGathered, row_from}, Rows.{IsRowOf}, declared.rows.Row.{Row}}
 use Rattle.gs_totals.proofs.Gathers.{gathered_same}
 
 pub worths_by : (f : Frame) (lists : ClassLists) (v : Values) (q m to : ℕ) → to ≡ round_of f (at_point q) → (r : Row) → IsRowOf f lists v (leads_to f q m) r
@@ -13,6 +13,6 @@ worths_by f lists v q m to here r held sums below c lc =
     let t = leads_to f q m in
     let row = row_from r.values.now r.start in
     below c (subst (λ j. IsClass lists j c) (sym here) lc)
-    ∙ ap (λ j. gathered f lists r.round j row c) here
-    ∙ ap (λ i. gathered f lists i j row c) held.round_is
+    ∙ ap (λ j. gathered_below f lists r.round j row c) here
+    ∙ ap (λ i. gathered_below f lists i j row c) held.round_is
     ∙ gathered_same f lists (round_of f t) j row (v t) c held.values_are

@@ -15,7 +15,7 @@ use Rattle.gs_model.proofs.{PlanLaws.{numbers_within}, RawBound.{range_once}, Re
 use Rattle.gs_model.proofs.{Total.{sum_z-regroup, sum_z-same, sum_z-same_all}, Basics.{pos-injective, sum-cond}}
 use Rattle.gs_seq.specs.Payoffs.{end_sum}
 use Rattle.gs_seq.proofs.{RowFacts.{abs_all, sum-times}, EndTotals.{abs_range}, EarlierRows.{sum-same_all}}
-use Rattle.gs_totals.specs.{ClassTotals.{class_above, total_worth}, Places.{IsFollowedFrom}}
+use Rattle.gs_totals.specs.{ClassTotals.{earlier_class, total_worth}, Places.{IsFollowedFrom}}
 use Rattle.gs_best.proofs.{Below.{range_add}, Ranges.{sum_same}, Shares.{first_class}}
 use Rattle.gs_totals.proofs.Last.{IsLast, all_last, next_last}
 
@@ -86,7 +86,7 @@ module _ (f : Frame) (r : InRange f) (lists : ClassLists) (k : IsClasses f.paren
 
   -- over the classes below a class of an earlier round: its own deals
   deals_below : (i j c : ℕ) (X : Deal → ℕ) → 0 < j → j ≤ i → i ≤ last_round f
-      → sum_by (λ e. cond (class_above f lists i j e == c) (sum_by (λ d. cond (own_class i d == e) (X d) 0) f.deals) 0) (classes_in lists i)
+      → sum_by (λ e. cond (earlier_class f lists i j e == c) (sum_by (λ d. cond (own_class i d == e) (X d) 0) f.deals) 0) (classes_in lists i)
       ≡ sum_by (λ d. cond (own_class j d == c) (X d) 0) f.deals
   deals_below i j c X some l top =
       let h = is_table f r in
@@ -97,15 +97,15 @@ module _ (f : Frame) (r : InRange f) (lists : ClassLists) (k : IsClasses f.paren
       λ n d ln. h.kept last i (get_or f.deals n d).one (omega arith) top (h.dealt n d ln) in
       let per_class : (e : ℕ) → 1 ≤ e → e < 1 + class_count lists i
       → sum_z (λ d. cond (eqb (own_class i d) e) (pos (one d)) (pos 0)) f.deals
-      ≡ pos (cond (class_above f lists i j e == c) (sum_by (λ d. cond (own_class i d == e) (X d) 0) f.deals) 0) = λ e lo hi.
+      ≡ pos (cond (earlier_class f lists i j e == c) (sum_by (λ d. cond (own_class i d == e) (X d) 0) f.deals) 0) = λ e lo hi.
       (let le : IsClass lists i e = (omega arith, omega arith) in
       let at = member_in f lists k i e (omega arith) top le in
       let first = first_class f lists k i e (omega arith) top le in
       sum_z-same_all (λ d. cond (eqb (own_class i d) e) (pos (one d)) (pos 0))
-      (λ d. pos (cond (class_above f lists i j e == c) (cond (own_class i d == e) (X d) 0) 0)) f.deals
+      (λ d. pos (cond (earlier_class f lists i j e == c) (cond (own_class i d == e) (X d) 0) 0)) f.deals
       (λ n d ln.
       let x = get_or f.deals n d in
-      test_out (eqb (own_class i x) e) (own_class j x == c) (class_above f lists i j e == c) (X x)
+      test_out (eqb (own_class i x) e) (own_class j x == c) (earlier_class f lists i j e == c) (X x)
       (λ t. ap (λ v. v == c)
       (ap (class_of lists j) (sym (h.chain last i j x.one l top))
       ∙ kin_above f h lists g.kin j (i - j) i (at_round f i x.one) (first_member lists i e) some (omega arith) top (record {
@@ -114,17 +114,17 @@ module _ (f : Frame) (r : InRange f) (lists : ClassLists) (k : IsClasses f.paren
         second_in = at;
         same = (Decides-eqb (own_class i x) e).0 t ∙ sym first;
       }))))
-      ∙ sum_z-pos (λ d. cond (class_above f lists i j e == c) (cond (own_class i d == e) (X d) 0) 0) f.deals
-      ∙ ap pos (sum-cond (class_above f lists i j e == c) (λ d. cond (own_class i d == e) (X d) 0) f.deals)) in
-      pos-injective (sum_by (λ e. cond (class_above f lists i j e == c) (sum_by (λ d. cond (own_class i d == e) (X d) 0) f.deals) 0) (classes_in lists i))
+      ∙ sum_z-pos (λ d. cond (earlier_class f lists i j e == c) (cond (own_class i d == e) (X d) 0) 0) f.deals
+      ∙ ap pos (sum-cond (earlier_class f lists i j e == c) (λ d. cond (own_class i d == e) (X d) 0) f.deals)) in
+      pos-injective (sum_by (λ e. cond (earlier_class f lists i j e == c) (sum_by (λ d. cond (own_class i d == e) (X d) 0) f.deals) 0) (classes_in lists i))
       (sum_by one f.deals)
       (sym
       (sym (sum_z-pos one f.deals)
       ∙ sum_z-regroup (λ d e. eqb (own_class i d) e) (λ d. pos (one d)) (classes_in lists i) f.deals
       (λ n d ln. g.once i (at_round f i (get_or f.deals n d).one) (omega arith) top (inside n d ln))
       ∙ sum_same (λ e. sum_z (λ d. cond (eqb (own_class i d) e) (pos (one d)) (pos 0)) f.deals)
-      (λ e. pos (cond (class_above f lists i j e == c) (sum_by (λ d. cond (own_class i d == e) (X d) 0) f.deals) 0)) 1 (class_count lists i) per_class
-      ∙ sum_z-pos (λ e. cond (class_above f lists i j e == c) (sum_by (λ d. cond (own_class i d == e) (X d) 0) f.deals) 0) (classes_in lists i)))
+      (λ e. pos (cond (earlier_class f lists i j e == c) (sum_by (λ d. cond (own_class i d == e) (X d) 0) f.deals) 0)) 1 (class_count lists i) per_class
+      ∙ sum_z-pos (λ e. cond (earlier_class f lists i j e == c) (sum_by (λ d. cond (own_class i d == e) (X d) 0) f.deals) 0) (classes_in lists i)))
 
   module _ (player : ℕ) (w : IsWalked f player) (v : IsWalked f (other_player player)) (apart : player
       ≢ other_player player) (y : Plan) (plan : IsClassPlan f lists (other_player player) y) (most : ℕ)
@@ -193,7 +193,7 @@ module _ (f : Frame) (r : InRange f) (lists : ClassLists) (k : IsClasses f.paren
         let g = leads_to f q m in
         let i = round_of f g in
         let j = round_of f (at_point q) in
-        let t = λ (e : ℕ). class_above f lists i j e == c in
+        let t = λ (e : ℕ). earlier_class f lists i j e == c in
         let size = abs_range (λ e. cond (t e) (V g e) (pos 0)) (λ e. most * cond (t e) (faced f lists player y g e) 0) 1 (class_count lists i)
         (λ e lo hi. abs_tested (t e) (V g e) most (faced f lists player y g e) (bounded e (omega arith, omega arith))) in
         let all = sum-times most (λ e. cond (t e) (faced f lists player y g e) 0) (classes_in lists i) in

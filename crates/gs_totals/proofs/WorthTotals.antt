@@ -10,7 +10,7 @@ use Rattle.gs_model.proofs.{Alike.{kin_above}, ClassTotals.{class_size_of, class
 use Rattle.gs_model.proofs.{Gather.{grouping_from, member_in}, Lift.{move_alike, one_guard}, RawBound.{All-range}, Regroup.{regroup_weights}, Tables.{is_table}}
 use Rattle.gs_model.proofs.Total.{sum_z-same}
 use Rattle.gs_seq.proofs.RowLaws.{size_is}
-use Rattle.gs_totals.specs.ClassTotals.{class_above, gathered, total_worth}
+use Rattle.gs_totals.specs.ClassTotals.{earlier_class, gathered_below, total_worth}
 use Rattle.gs_best.proofs.{Ranges.{sum_same}, Shares.{first_class}}
 
 -- ---- tests in sums
@@ -37,15 +37,15 @@ module _ (f : Frame) (r : InRange f) (lists : ClassLists) (k : IsClasses f.paren
   -- how many signals of a class of a round descend from a class of an earlier round: all or none
   members_below : (i j c e : ℕ) → 0 < j → j ≤ i → i ≤ last_round f → IsClass lists i c
       → sum_by (λ s. cond (eqb (class_of lists i s) c) (cond (class_of lists j (ancestor f i j s) == e) 1 0) 0) (signals_in f i)
-      ≡ cond (class_above f lists i j c == e) (class_size_of f lists i c) 0
+      ≡ cond (earlier_class f lists i j c == e) (class_size_of f lists i c) 0
   members_below i j c e some l top lc =
       let h = is_table f r in
       let g = grouping_from f lists k in
       let at = member_in f lists k i c (omega arith) top lc in
       let first = first_class f lists k i c (omega arith) top lc in
       sum-same_range (λ s. cond (eqb (class_of lists i s) c) (cond (class_of lists j (ancestor f i j s) == e) 1 0) 0)
-      (λ s. cond (class_above f lists i j c == e) (cond (eqb (class_of lists i s) c) 1 0) 0) (signal_count f i)
-      (λ s ls. under_test (eqb (class_of lists i s) c) (class_of lists j (ancestor f i j s) == e) (class_above f lists i j c == e)
+      (λ s. cond (earlier_class f lists i j c == e) (cond (eqb (class_of lists i s) c) 1 0) 0) (signal_count f i)
+      (λ s ls. under_test (eqb (class_of lists i s) c) (class_of lists j (ancestor f i j s) == e) (earlier_class f lists i j c == e)
       (λ t. ap (λ n. n == e)
       (kin_above f h lists g.kin j (i - j) i s (first_member lists i c) some (omega arith) top (record {
         first_in =
@@ -53,11 +53,11 @@ module _ (f : Frame) (r : InRange f) (lists : ClassLists) (k : IsClasses f.paren
         second_in = at;
         same = (Decides-eqb (class_of lists i s) c).0 t ∙ sym first;
       }))))
-      ∙ none_or_all (class_above f lists i j c == e) (λ s. eqb (class_of lists i s) c) (signal_count f i)
+      ∙ none_or_all (earlier_class f lists i j c == e) (λ s. eqb (class_of lists i s) c) (signal_count f i)
 
   -- a value that hangs on the class alone, over all signals below a class of an earlier round
   below_by_classes : (i j e : ℕ) (v V : ℕ → ℤ) → 0 < j → j ≤ i → i ≤ last_round f → ((c : ℕ) → IsClass lists i c → V c ≡ pos (class_size lists i c) *ℤ v c)
-      → sum_z (λ s. cond (class_of lists j (ancestor f i j s) == e) (v (class_of lists i s)) (pos 0)) (signals_in f i) ≡ gathered f lists i j V e
+      → sum_z (λ s. cond (class_of lists j (ancestor f i j s) == e) (v (class_of lists i s)) (pos 0)) (signals_in f i) ≡ gathered_below f lists i j V e
   below_by_classes i j e v V some l top sized =
       let g = grouping_from f lists k in
       let w = λ (s : ℕ). cond {A = ℕ} (class_of lists j (ancestor f i j s) == e) 1 0 in
@@ -66,13 +66,13 @@ module _ (f : Frame) (r : InRange f) (lists : ClassLists) (k : IsClasses f.paren
       ∙ regroup_weights eqb Decides-eqb (class_of lists i) w v (classes_in lists i) (signals_in f i)
       (All-range (λ s. count_by (eqb (class_of lists i s)) (classes_in lists i) ≡ 1) (signal_count f i) (λ s ls. g.once i s (omega arith) top ls))
       ∙ sum_same (λ c. v c *ℤ pos (sum_by (λ s. cond (eqb (class_of lists i s) c) (w s) 0) (signals_in f i)))
-      (λ c. cond (class_above f lists i j c == e) (V c) (pos 0)) 1 (class_count lists i)
+      (λ c. cond (earlier_class f lists i j c == e) (V c) (pos 0)) 1 (class_count lists i)
       (λ c lo hi.
       let lc : IsClass lists i c = (omega arith, omega arith) in
       ap (λ n. v c *ℤ pos n) (members_below i j c e some l top lc)
-      ∙ times_test (class_above f lists i j c == e) (class_size_of f lists i c) (v c)
-      ∙ ap (λ n. cond (class_above f lists i j c == e) (pos n *ℤ v c) (pos 0)) (sym (size_is f lists i c (k.lengths i (omega arith) top)))
-      ∙ ap (λ x. cond (class_above f lists i j c == e) x (pos 0)) (sym (sized c lc)))
+      ∙ times_test (earlier_class f lists i j c == e) (class_size_of f lists i c) (v c)
+      ∙ ap (λ n. cond (earlier_class f lists i j c == e) (pos n *ℤ v c) (pos 0)) (sym (size_is f lists i c (k.lengths i (omega arith) top)))
+      ∙ ap (λ x. cond (earlier_class f lists i j c == e) x (pos 0)) (sym (sized c lc)))
 
   module _ (lossless : IsLossless f lists) (player : ℕ) (w : IsWalked f player) where
     -- what a move is worth to a class as a whole is the class's size times what it is worth to its first member

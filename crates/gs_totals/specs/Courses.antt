@@ -2,7 +2,7 @@
 use Rattle.std.specs.Prelude.{ℕ, ◌≢◌, nat_lt}
 use Rattle.gs_model.specs.{BestAnswers.{Values}, Classes.{IsClass}, Frame.{move_count, round_of}, Positions.{at_point}}
 use Rattle.gs_totals.specs.{ClassTotals.{total_worth}, Jumps.{AreBeforeChange, IsBeforeChange}, Lasting.{IsBehind}}
-use Rattle.gs_totals.specs.{Roles.{frame_in, lists_in, moves_in, totals_in}, declared.course.Course.{Course}}
+use Rattle.gs_totals.specs.{Roles.{role_frame, role_lists, moves_in, totals_in}, declared.course.Course.{Course}}
 
 -- the class totals as they stand, against the other's plan so far
 abbrev pub totals_now : Course → Values
@@ -19,18 +19,18 @@ moves_chosen k = moves_in k.role k.picks.now
 -- after fewer than `times` turns move m of point q has not overtaken the chosen move of any class
 abbrev pub StaysBehind : Course → ℕ → ℕ → ℕ → Type 0
 StaysBehind k q m times =
-    (c : ℕ) → IsClass (lists_in k.role) (round_of (frame_in k.role) (at_point q)) c → moves_chosen k q c ≢ m
-    → IsBehind (nat_lt m (moves_chosen k q c)) (totals_now k (at_point q) c) (total_worth (frame_in k.role) (lists_in k.role) (totals_now k) q m c)
-    (totals_added k (at_point q) c) (total_worth (frame_in k.role) (lists_in k.role) (totals_added k) q m c) times
+    (c : ℕ) → IsClass (role_lists k.role) (round_of (role_frame k.role) (at_point q)) c → moves_chosen k q c ≢ m
+    → IsBehind (nat_lt m (moves_chosen k q c)) (totals_now k (at_point q) c) (total_worth (role_frame k.role) (role_lists k.role) (totals_now k) q m c)
+    (totals_added k (at_point q) c) (total_worth (role_frame k.role) (role_lists k.role) (totals_added k) q m c) times
 
 -- after fewer than `times` turns no choice at point q has changed
 abbrev pub LastsAt : Course → ℕ → ℕ → Type 0
 LastsAt k q times =
-    (c : ℕ) → IsClass (lists_in k.role) (round_of (frame_in k.role) (at_point q)) c
-    → IsBeforeChange (λ m. total_worth (frame_in k.role) (lists_in k.role) (totals_now k) q m c)
-    (λ m. total_worth (frame_in k.role) (lists_in k.role) (totals_added k) q m c)
-    (move_count (frame_in k.role) q) (moves_chosen k q c) times
+    (c : ℕ) → IsClass (role_lists k.role) (round_of (role_frame k.role) (at_point q)) c
+    → IsBeforeChange (λ m. total_worth (role_frame k.role) (role_lists k.role) (totals_now k) q m c)
+    (λ m. total_worth (role_frame k.role) (role_lists k.role) (totals_added k) q m c)
+    (move_count (role_frame k.role) q) (moves_chosen k q c) times
 
 -- after fewer than `times` turns no choice of the player has changed
 abbrev pub Lasts : Course → ℕ → Type 0
-Lasts k times = AreBeforeChange (frame_in k.role) (lists_in k.role) k.role.player (totals_now k) (totals_added k) (moves_chosen k) times
+Lasts k times = AreBeforeChange (role_frame k.role) (role_lists k.role) k.role.player (totals_now k) (totals_added k) (moves_chosen k) times

@@ -3,7 +3,7 @@ use Rattle.std.specs.Prelude.{ℕ, ◌+◌, ◌-◌, ◌^◌, ◌<◌, ◌≡◌
 use Rattle.gs_model.specs.{BestAnswers.{Values}, Classes.{ClassLists, IsClass}, Frame.{Frame, move_count, player_at, round_of}, FrameFacts.{IsFrom, IsInside}}
 use Rattle.gs_model.specs.Positions.{Target, at_point}
 use Rattle.gs_best.specs.Rows.{AreSums}
-use Rattle.gs_totals.specs.ClassTotals.{gathered, total_worth}
+use Rattle.gs_totals.specs.ClassTotals.{gathered_below, total_worth}
 
 -- a list from place `start` on, as a row by class
 abbrev pub row_from : List ℤ → ℕ → ℕ → ℤ
@@ -12,7 +12,7 @@ row_from values start c = get_or values (start + (c - 1)) (pos 0)
 -- `sums` has for each class of round `to` the sum of a row of round `from` over the classes below
 abbrev pub AreGathered : Frame → ClassLists → ℕ → ℕ → List ℤ → ℕ → List ℤ → Type 0
 AreGathered f lists from to values start sums = (c : ℕ) → IsClass lists to c
-    → get_or sums (c - 1) (pos 0) ≡ gathered f lists from to (row_from values start) c
+    → get_or sums (c - 1) (pos 0) ≡ gathered_below f lists from to (row_from values start) c
 
 -- the row has the worth of each class's chosen move, if that is one of the first n moves
 abbrev pub AreChosen : Frame → ClassLists → Values → (ℕ → ℕ → ℕ) → ℕ → ℕ → List ℤ → Type 0

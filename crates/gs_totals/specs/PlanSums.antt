@@ -7,7 +7,7 @@ abbrev pub plus_times : Plan → ℕ → Plan → Plan
 plus_times x k b = record { total = x.total + k * b.total; number = λ q c m. x.number q c m + k * b.number q c m }
 
 -- two plans have the same total, and the same numbers wherever the player chooses
-pub record AreAlike (f : Frame) (lists : ClassLists) (player : ℕ) (x y : Plan) : Type 0 where
+pub record ArePlansAlike (f : Frame) (lists : ClassLists) (player : ℕ) (x y : Plan) : Type 0 where
   pub total : x.total ≡ y.total
   pub numbers : (q c m : ℕ) → q < point_count f → player_at f q ≡ player → IsClass lists (round_of f (at_point q)) c → m < move_count f q
       → x.number q c m ≡ y.number q c m

@@ -1,7 +1,7 @@
 -- Rows of a number for each class of a round. For private functions.
 use Rattle.std.specs.Prelude.{ℕ, ◌+◌, ◌≤◌, ◌≡◌, length}
 use Rattle.gs_model.specs.{BestAnswers.{Values}, Classes.{ClassLists, IsClass, class_count}, Frame.{Frame, last_round, round_of}, Positions.{Target}}
-use Rattle.gs_best.specs.Rows.{AreModest}
+use Rattle.gs_best.specs.Rows.{AreModestClasses}
 use Rattle.gs_totals.specs.{Merged.{row_from}, declared.rows.Row.{Row}}
 
 -- a row of round `to` or a later one lies inside its list, and its numbers are modest
@@ -9,7 +9,7 @@ pub record IsLaterRow (f : Frame) (lists : ClassLists) (to : ℕ) (r : Row) : Ty
   pub later : to ≤ r.round
   pub top : r.round ≤ last_round f
   pub room : r.start + class_count lists r.round ≤ length r.values.now
-  pub modest : AreModest r.values.now r.start (class_count lists r.round)
+  pub modest : AreModestClasses r.values.now r.start (class_count lists r.round)
 
 -- the row has what a table holds at a position
 pub record IsRowOf (f : Frame) (lists : ClassLists) (v : Values) (t : Target) (r : Row) : Type 0 where

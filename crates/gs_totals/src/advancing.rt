@@ -1,7 +1,7 @@
 //! Class totals some turns later, as long as no choice changes.
 
 ghost use Rattle.std.specs.Prelude.{◌≡◌, ◌<◌, ◌≤◌, ◌^◌, ℕ, pos, length, get_or, unsigned_abs};
-ghost use Rattle.gs_seq.specs.Abstracts.{frame_of, lists_of};
+ghost use Rattle.gs_seq.specs.Abstracts.{abstract_frame, lists_of};
 ghost use Rattle.gs_totals.specs.{Jumps.{line}, Places.{AreEndLines, ArePointLines, AreSmallPoints, AreSmallRows}, Room.{HasRows}};
 
 use crate::places::{Totals, end_room};
@@ -35,16 +35,16 @@ fn advance_first(sums: &mut [i128], steps: &[i128], count: usize, times: u32)
 /// Adds `times` times what each turn adds to a player's class totals. What ends pay always advances; the totals of points advance only if the choices last
 /// for more turns, that is if `times` is below `lasts`.
 pub fn advance(form: &Abstract, totals: &mut Totals, steps: &Totals, times: u32, lasts: u32)
-    requires rows { HasRows (frame_of form.now) (lists_of form.now) totals.old }
-    requires step_rows { HasRows (frame_of form.now) (lists_of form.now) steps.now }
-    requires small { AreSmallRows (frame_of form.now) (lists_of form.now) totals.old.ends.items }
-    requires small_steps { AreSmallRows (frame_of form.now) (lists_of form.now) steps.now.ends.items }
-    requires small_points { times < lasts → AreSmallPoints (frame_of form.now) (lists_of form.now) totals.old.points.items }
-    requires small_slopes { times < lasts → AreSmallPoints (frame_of form.now) (lists_of form.now) steps.now.points.items }
+    requires rows { HasRows (abstract_frame form.now) (lists_of form.now) totals.old }
+    requires step_rows { HasRows (abstract_frame form.now) (lists_of form.now) steps.now }
+    requires small { AreSmallRows (abstract_frame form.now) (lists_of form.now) totals.old.ends.items }
+    requires small_steps { AreSmallRows (abstract_frame form.now) (lists_of form.now) steps.now.ends.items }
+    requires small_points { times < lasts → AreSmallPoints (abstract_frame form.now) (lists_of form.now) totals.old.points.items }
+    requires small_slopes { times < lasts → AreSmallPoints (abstract_frame form.now) (lists_of form.now) steps.now.points.items }
     requires few { times ≤ 2 ^ 20 }
-    ensures rows { HasRows (frame_of form.now) (lists_of form.now) totals.new }
-    ensures lines { AreEndLines (frame_of form.now) (lists_of form.now) totals.old.ends.items steps.now.ends.items times totals.new.ends.items }
-    ensures points { times < lasts → ArePointLines (frame_of form.now) (lists_of form.now) totals.old.points.items steps.now.points.items times
+    ensures rows { HasRows (abstract_frame form.now) (lists_of form.now) totals.new }
+    ensures lines { AreEndLines (abstract_frame form.now) (lists_of form.now) totals.old.ends.items steps.now.ends.items times totals.new.ends.items }
+    ensures points { times < lasts → ArePointLines (abstract_frame form.now) (lists_of form.now) totals.old.points.items steps.now.points.items times
         totals.new.points.items }
     ensures kept { lasts ≤ times → totals.new.points ≡ totals.old.points }
 {

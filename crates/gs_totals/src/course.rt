@@ -4,7 +4,7 @@ ghost use Rattle.std.specs.Prelude.{◌≤◌, length};
 ghost use Rattle.gs_model.specs.Frame.{point_count};
 ghost use Rattle.gs_best.specs.Tables.{start_of};
 ghost use Rattle.gs_totals.specs.{ClassTotals.{AreBestTotals, IsFollowed}, Room.{HasRows}};
-ghost use Rattle.gs_totals.specs.Roles.{ArePaid, IsOthers, frame_in, lists_in, moves_in, plan_in, totals_in};
+ghost use Rattle.gs_totals.specs.Roles.{ArePaid, IsOthers, role_frame, role_lists, moves_in, role_plan, totals_in};
 
 use crate::places::Totals;
 use crate::role::Role;
@@ -22,13 +22,13 @@ pub struct Course<'a> {
     pub picks: &'a [u8],
     pub ghost plan: { IsOthers role other.now },
     pub ghost added: { IsOthers role more.now },
-    pub ghost rows: { HasRows (frame_in role) (lists_in role) totals.now },
-    pub ghost step_rows: { HasRows (frame_in role) (lists_in role) steps.now },
+    pub ghost rows: { HasRows (role_frame role) (role_lists role) totals.now },
+    pub ghost step_rows: { HasRows (role_frame role) (role_lists role) steps.now },
     pub ghost paid: { ArePaid role other.now totals.now },
     pub ghost step_paid: { ArePaid role more.now steps.now },
-    pub ghost many: { start_of (frame_in role) (lists_in role) (point_count (frame_in role)) ≤ length picks.now },
-    pub ghost best: { AreBestTotals (frame_in role) (lists_in role) role.player (plan_in role other.now)
+    pub ghost many: { start_of (role_frame role) (role_lists role) (point_count (role_frame role)) ≤ length picks.now },
+    pub ghost best: { AreBestTotals (role_frame role) (role_lists role) role.player (role_plan role other.now)
         (totals_in role other.now totals.now.points.items) (moves_in role picks.now) },
-    pub ghost rise: { IsFollowed (frame_in role) (lists_in role) role.player (plan_in role more.now)
+    pub ghost rise: { IsFollowed (role_frame role) (role_lists role) role.player (role_plan role more.now)
         (totals_in role more.now steps.now.points.items) (moves_in role picks.now) },
 }

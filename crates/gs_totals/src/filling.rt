@@ -2,7 +2,7 @@
 
 ghost use Rattle.std.specs.Prelude.{◌≡◌, ◌+◌, ◌<◌};
 ghost use Rattle.gs_model.specs.Frame.{point_count};
-ghost use Rattle.gs_totals.specs.{ClassTotals.{AreBestTotals}, Ledgers.{AreBestIn, IsReady}, Roles.{frame_in, lists_in, moves_in, plan_in, totals_in}};
+ghost use Rattle.gs_totals.specs.{ClassTotals.{AreBestTotals}, Ledgers.{AreBestIn, IsReady}, Roles.{role_frame, role_lists, moves_in, role_plan, totals_in}};
 
 use crate::ledger::Ledger;
 use crate::merging::merge_moves;
@@ -18,7 +18,7 @@ fn fill_point(
     point: u32,
     scratch: &mut Scratch,
 )
-    requires point { point < point_count (frame_in ledger.now.role) }
+    requires point { point < point_count (role_frame ledger.now.role) }
     requires ready { IsReady ledger.now totals.old picks.old scratch.old }
     requires later { AreBestIn ledger.now totals.old picks.old (point + 1) }
     ensures ready { IsReady ledger.now totals.new picks.new scratch.new }
@@ -42,7 +42,7 @@ pub fn fill(ledger: &Ledger<'_>, totals: &mut Totals, picks: &mut [u8], scratch:
     ensures ready { IsReady ledger.now totals.new picks.new scratch.new }
     ensures ends { totals.new.ends ≡ totals.old.ends }
     ensures best { let k = ledger.now.role in let other = ledger.now.other.now in
-        AreBestTotals (frame_in k) (lists_in k) k.player (plan_in k other) (totals_in k other totals.new.points.items) (moves_in k picks.new) }
+        AreBestTotals (role_frame k) (role_lists k) k.player (role_plan k other) (totals_in k other totals.new.points.items) (moves_in k picks.new) }
 {
     for point in (0..point_total(ledger.role.form)).rev() {
         fill_point(ledger, totals, picks, point, scratch);

@@ -3,7 +3,7 @@
 ghost use Rattle.std.specs.Prelude.{◌≡◌, ◌+◌, ◌<◌};
 ghost use Rattle.gs_model.specs.Frame.{point_count};
 ghost use Rattle.gs_totals.specs.{ClassTotals.{IsFollowed}, Ledgers.{AreFollowedIn, AreMoves, IsReady}};
-ghost use Rattle.gs_totals.specs.Roles.{frame_in, lists_in, moves_in, plan_in, totals_in};
+ghost use Rattle.gs_totals.specs.Roles.{role_frame, role_lists, moves_in, role_plan, totals_in};
 
 use crate::ledger::Ledger;
 use crate::merging::follow_moves;
@@ -19,7 +19,7 @@ fn follow_point(
     point: u32,
     scratch: &mut Scratch,
 )
-    requires point { point < point_count (frame_in ledger.now.role) }
+    requires point { point < point_count (role_frame ledger.now.role) }
     requires ready { IsReady ledger.now totals.old picks.now scratch.old }
     requires moves { AreMoves ledger.now picks.now }
     requires later { AreFollowedIn ledger.now totals.old picks.now (point + 1) }
@@ -39,7 +39,7 @@ pub fn follow(ledger: &Ledger<'_>, totals: &mut Totals, picks: &[u8], scratch: &
     ensures ready { IsReady ledger.now totals.new picks.now scratch.new }
     ensures ends { totals.new.ends ≡ totals.old.ends }
     ensures followed { let k = ledger.now.role in let other = ledger.now.other.now in
-        IsFollowed (frame_in k) (lists_in k) k.player (plan_in k other) (totals_in k other totals.new.points.items) (moves_in k picks.now) }
+        IsFollowed (role_frame k) (role_lists k) k.player (role_plan k other) (totals_in k other totals.new.points.items) (moves_in k picks.now) }
 {
     for point in (0..point_total(ledger.role.form)).rev() {
         follow_point(ledger, totals, picks, point, scratch);

@@ -4,7 +4,7 @@ ghost use Rattle.std.specs.Prelude.{◌+◌, ◌<◌, ◌≤◌, length};
 ghost use Rattle.gs_model.specs.Frame.{move_count, point_count};
 ghost use Rattle.gs_best.specs.{Rows.{AreGreatest, AreSums, IsMerged}, Sizes.{IsWide}, Tables.{start_of}};
 ghost use Rattle.gs_totals.specs.{ClassTotals.{total_worth}, Merged.{AreChosen, AreTaken, IsFollowing}, PointRows.{totals_at}};
-ghost use Rattle.gs_totals.specs.Roles.{frame_in, lists_in, moves_in};
+ghost use Rattle.gs_totals.specs.Roles.{role_frame, role_lists, moves_in};
 
 use crate::point_row::PointRow;
 use crate::rows::read_worths;
@@ -26,11 +26,11 @@ fn take(worths: &[i128], choice: u8, count: usize, picks: &[u8], start: usize, r
 
 /// Writes for each class of a point's round the greatest worth of a move, and the first move that has it.
 fn best_moves(at: &PointRow<'_, '_>, worths: &mut [i128], best: &mut [i128], moves: &mut [u8])
-    requires worths { IsWide (frame_in at.now.ledger.role) (lists_in at.now.ledger.role) (length worths.old) }
+    requires worths { IsWide (role_frame at.now.ledger.role) (role_lists at.now.ledger.role) (length worths.old) }
     requires best { at.now.count ≤ length best.old }
     requires moves { at.now.count ≤ length moves.old }
-    ensures { let k = at.now.ledger.role in let f = frame_in k in
-        AreGreatest f (lists_in k) (total_worth f (lists_in k) (totals_at at.now)) at.now.point (move_count f at.now.point) best.new moves.new }
+    ensures { let k = at.now.ledger.role in let f = role_frame k in
+        AreGreatest f (role_lists k) (total_worth f (role_lists k) (totals_at at.now)) at.now.point (move_count f at.now.point) best.new moves.new }
 {
     for choice in 0..move_total(at.ledger.role.form, at.point) {
         let read = read_worths(&*at, choice, worths);
@@ -40,10 +40,10 @@ fn best_moves(at: &PointRow<'_, '_>, worths: &mut [i128], best: &mut [i128], mov
 
 /// Writes for each class of a point's round the sum of the worths of all moves.
 fn sum_moves(at: &PointRow<'_, '_>, worths: &mut [i128], sums: &mut [i128])
-    requires worths { IsWide (frame_in at.now.ledger.role) (lists_in at.now.ledger.role) (length worths.old) }
+    requires worths { IsWide (role_frame at.now.ledger.role) (role_lists at.now.ledger.role) (length worths.old) }
     requires sums { at.now.count ≤ length sums.old }
-    ensures { let k = at.now.ledger.role in let f = frame_in k in
-        AreSums f (lists_in k) (total_worth f (lists_in k) (totals_at at.now)) at.now.point (move_count f at.now.point) sums.new }
+    ensures { let k = at.now.ledger.role in let f = role_frame k in
+        AreSums f (role_lists k) (total_worth f (role_lists k) (totals_at at.now)) at.now.point (move_count f at.now.point) sums.new }
 {
     for choice in 0..move_total(at.ledger.role.form, at.point) {
         let read = read_worths(&*at, choice, worths);
@@ -53,11 +53,11 @@ fn sum_moves(at: &PointRow<'_, '_>, worths: &mut [i128], sums: &mut [i128])
 
 /// Writes the worth of the move that each class of a point has chosen.
 fn chosen_moves(at: &PointRow<'_, '_>, picks: &[u8], worths: &mut [i128], row: &mut [i128])
-    requires picks { let k = at.now.ledger.role in start_of (frame_in k) (lists_in k) (point_count (frame_in k)) ≤ length picks.now }
-    requires worths { IsWide (frame_in at.now.ledger.role) (lists_in at.now.ledger.role) (length worths.old) }
+    requires picks { let k = at.now.ledger.role in start_of (role_frame k) (role_lists k) (point_count (role_frame k)) ≤ length picks.now }
+    requires worths { IsWide (role_frame at.now.ledger.role) (role_lists at.now.ledger.role) (length worths.old) }
     requires row { at.now.count ≤ length row.old }
-    ensures { let k = at.now.ledger.role in let f = frame_in k in
-        AreChosen f (lists_in k) (totals_at at.now) (moves_in k picks.now) at.now.point (move_count f at.now.point) row.new }
+    ensures { let k = at.now.ledger.role in let f = role_frame k in
+        AreChosen f (role_lists k) (totals_at at.now) (moves_in k picks.now) at.now.point (move_count f at.now.point) row.new }
 {
     for choice in 0..move_total(at.ledger.role.form, at.point) {
         let read = read_worths(&*at, choice, worths);
@@ -72,11 +72,11 @@ pub(crate) fn merge_moves(
     best: &mut [i128],
     moves: &mut [u8],
 )
-    requires worths { IsWide (frame_in at.now.ledger.role) (lists_in at.now.ledger.role) (length worths.old) }
-    requires best { IsWide (frame_in at.now.ledger.role) (lists_in at.now.ledger.role) (length best.old) }
-    requires moves { IsWide (frame_in at.now.ledger.role) (lists_in at.now.ledger.role) (length moves.old) }
-    ensures { let k = at.now.ledger.role in let f = frame_in k in
-        IsMerged f (lists_in k) k.player (total_worth f (lists_in k) (totals_at at.now)) at.now.point best.new moves.new }
+    requires worths { IsWide (role_frame at.now.ledger.role) (role_lists at.now.ledger.role) (length worths.old) }
+    requires best { IsWide (role_frame at.now.ledger.role) (role_lists at.now.ledger.role) (length best.old) }
+    requires moves { IsWide (role_frame at.now.ledger.role) (role_lists at.now.ledger.role) (length moves.old) }
+    ensures { let k = at.now.ledger.role in let f = role_frame k in
+        IsMerged f (role_lists k) k.player (total_worth f (role_lists k) (totals_at at.now)) at.now.point best.new moves.new }
 {
     if chooser(at.ledger.role.form, at.point) == at.ledger.role.player {
         best_moves(at, worths, best, moves);
@@ -92,11 +92,11 @@ pub(crate) fn follow_moves(
     worths: &mut [i128],
     row: &mut [i128],
 )
-    requires picks { let k = at.now.ledger.role in start_of (frame_in k) (lists_in k) (point_count (frame_in k)) ≤ length picks.now }
-    requires worths { IsWide (frame_in at.now.ledger.role) (lists_in at.now.ledger.role) (length worths.old) }
-    requires row { IsWide (frame_in at.now.ledger.role) (lists_in at.now.ledger.role) (length row.old) }
-    ensures { let k = at.now.ledger.role in let f = frame_in k in
-        IsFollowing f (lists_in k) k.player (totals_at at.now) (moves_in k picks.now) at.now.point row.new }
+    requires picks { let k = at.now.ledger.role in start_of (role_frame k) (role_lists k) (point_count (role_frame k)) ≤ length picks.now }
+    requires worths { IsWide (role_frame at.now.ledger.role) (role_lists at.now.ledger.role) (length worths.old) }
+    requires row { IsWide (role_frame at.now.ledger.role) (role_lists at.now.ledger.role) (length row.old) }
+    ensures { let k = at.now.ledger.role in let f = role_frame k in
+        IsFollowing f (role_lists k) k.player (totals_at at.now) (moves_in k picks.now) at.now.point row.new }
 {
     if chooser(at.ledger.role.form, at.point) == at.ledger.role.player {
         chosen_moves(at, picks, worths, row);

@@ -4,7 +4,7 @@ ghost use Rattle.std.specs.Prelude.{◌+◌, ◌<◌, ◌≤◌, length};
 ghost use Rattle.gs_model.specs.Frame.{end_count};
 ghost use Rattle.gs_seq.specs.Payoffs.{end_classes};
 ghost use Rattle.gs_best.specs.Sizes.{IsWide};
-ghost use Rattle.gs_totals.specs.{Ledgers.{IsPaidAt}, Roles.{frame_in, lists_in}};
+ghost use Rattle.gs_totals.specs.{Ledgers.{IsPaidAt}, Roles.{role_frame, role_lists}};
 
 use crate::ledger::Ledger;
 
@@ -16,9 +16,9 @@ pub(crate) fn read_end(
     sums: &mut [i128],
     numbers: &mut [u64],
 )
-    requires end { end < end_count (frame_in ledger.now.role) }
-    requires wide { IsWide (frame_in ledger.now.role) (lists_in ledger.now.role) (length numbers.old) }
-    requires room { start + end_classes (frame_in ledger.now.role) (lists_in ledger.now.role) end ≤ length sums.old }
+    requires end { end < end_count (role_frame ledger.now.role) }
+    requires wide { IsWide (role_frame ledger.now.role) (role_lists ledger.now.role) (length numbers.old) }
+    requires room { start + end_classes (role_frame ledger.now.role) (role_lists ledger.now.role) end ≤ length sums.old }
     ensures { IsPaidAt ledger.now end start sums.old sums.new }
 {
     let role = ledger.role;

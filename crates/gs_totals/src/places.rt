@@ -2,7 +2,7 @@
 
 ghost use Rattle.std.specs.Prelude.{◌≡◌, ◌≤◌, IfOk, length};
 ghost use Rattle.gs_model.specs.Frame.{end_count, point_count};
-ghost use Rattle.gs_seq.specs.Abstracts.{frame_of, lists_of};
+ghost use Rattle.gs_seq.specs.Abstracts.{abstract_frame, lists_of};
 ghost use Rattle.gs_best.specs.Tables.{start_of};
 ghost use Rattle.gs_totals.specs.{Places.{AreEndStarts, end_start}, Room.{HasRows, HasScratch, IsPlaced}};
 
@@ -39,8 +39,8 @@ pub struct Scratch {
 
 /// Writes the place where the row of each end starts.
 fn place_ends(form: &Abstract, starts: &mut [u32])
-    requires { end_count (frame_of form.now) ≤ length starts.old }
-    ensures { AreEndStarts (frame_of form.now) (lists_of form.now) starts.new }
+    requires { end_count (abstract_frame form.now) ≤ length starts.old }
+    ensures { AreEndStarts (abstract_frame form.now) (lists_of form.now) starts.new }
 {
     let mut start = 0;
     for end in 0..end_total(form) {
@@ -51,7 +51,7 @@ fn place_ends(form: &Abstract, starts: &mut [u32])
 
 /// Returns the number of entries in the rows of all ends.
 pub(crate) fn end_room(form: &Abstract) -> u32
-    ensures { result ≡ end_start (frame_of form.now) (lists_of form.now) (end_count (frame_of form.now)) }
+    ensures { result ≡ end_start (abstract_frame form.now) (lists_of form.now) (end_count (abstract_frame form.now)) }
 {
     let mut total = 0;
     for end in 0..end_total(form) {
@@ -63,7 +63,7 @@ pub(crate) fn end_room(form: &Abstract) -> u32
 impl Places {
     /// Returns the places where the rows of a game start.
     pub fn of(alloc: Global, form: &Abstract) -> Result<Places, AllocError>
-        ensures { IfOk result (IsPlaced (frame_of form.now) (lists_of form.now)) }
+        ensures { IfOk result (IsPlaced (abstract_frame form.now) (lists_of form.now)) }
     {
         let mut ends = vec![in alloc; 0u32; end_total(form) as usize]?;
         let mut points = vec![in alloc; 0u32; point_total(form) as usize]?;
@@ -76,7 +76,7 @@ impl Places {
 impl Totals {
     /// Returns room for the class totals of a game.
     pub fn of(alloc: Global, form: &Abstract) -> Result<Totals, AllocError>
-        ensures { IfOk result (HasRows (frame_of form.now) (lists_of form.now)) }
+        ensures { IfOk result (HasRows (abstract_frame form.now) (lists_of form.now)) }
     {
         let ends = vec![in alloc; 0i128; end_room(form) as usize]?;
         let points = vec![in alloc; 0i128; value_total(form) as usize]?;
@@ -86,7 +86,7 @@ impl Totals {
 
 /// Returns a list with a move for each entry of the rows of points.
 pub fn picks_for(alloc: Global, form: &Abstract) -> Result<Vec<u8>, AllocError>
-    ensures { IfOk result (λ v. start_of (frame_of form.now) (lists_of form.now) (point_count (frame_of form.now)) ≤ length v.items) }
+    ensures { IfOk result (λ v. start_of (abstract_frame form.now) (lists_of form.now) (point_count (abstract_frame form.now)) ≤ length v.items) }
 {
     let picks = vec![in alloc; 0u8; value_total(form) as usize]?;
     Ok(picks)
@@ -95,7 +95,7 @@ pub fn picks_for(alloc: Global, form: &Abstract) -> Result<Vec<u8>, AllocError>
 impl Scratch {
     /// Returns scratch rows that are long enough for the classes of any round of a game.
     pub fn of(alloc: Global, form: &Abstract) -> Result<Scratch, AllocError>
-        ensures { IfOk result (HasScratch (frame_of form.now) (lists_of form.now)) }
+        ensures { IfOk result (HasScratch (abstract_frame form.now) (lists_of form.now)) }
     {
         let wide = widest(form) as usize;
         Ok(Scratch {

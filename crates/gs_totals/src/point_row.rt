@@ -3,7 +3,7 @@
 ghost use Rattle.std.specs.Prelude.{◌≡◌, ◌+◌, ◌<◌};
 ghost use Rattle.gs_model.specs.Frame.{point_count};
 ghost use Rattle.gs_best.specs.Tables.{classes_at, start_of};
-ghost use Rattle.gs_totals.specs.{Merged.{AreModestFrom}, Roles.{ArePaid, frame_in, lists_in, totals_in}, Room.{HasRows}};
+ghost use Rattle.gs_totals.specs.{Merged.{AreModestFrom}, Roles.{ArePaid, role_frame, role_lists, totals_in}, Room.{HasRows}};
 
 use crate::ledger::Ledger;
 use crate::places::Totals;
@@ -17,23 +17,23 @@ pub(crate) struct PointRow<'a, 'b> {
     pub(crate) point: u32,
     pub(crate) start: usize,
     pub(crate) count: usize,
-    pub(crate) ghost inside: { point < point_count (frame_in ledger.role) },
-    pub(crate) ghost start_is: { start ≡ start_of (frame_in ledger.role) (lists_in ledger.role) point },
-    pub(crate) ghost count_is: { count ≡ classes_at (frame_in ledger.role) (lists_in ledger.role) point },
-    pub(crate) ghost rows: { HasRows (frame_in ledger.role) (lists_in ledger.role) totals.now },
+    pub(crate) ghost inside: { point < point_count (role_frame ledger.role) },
+    pub(crate) ghost start_is: { start ≡ start_of (role_frame ledger.role) (role_lists ledger.role) point },
+    pub(crate) ghost count_is: { count ≡ classes_at (role_frame ledger.role) (role_lists ledger.role) point },
+    pub(crate) ghost rows: { HasRows (role_frame ledger.role) (role_lists ledger.role) totals.now },
     pub(crate) ghost paid: { ArePaid ledger.role ledger.other.now totals.now },
-    pub(crate) ghost modest: { AreModestFrom (frame_in ledger.role) (lists_in ledger.role)
+    pub(crate) ghost modest: { AreModestFrom (role_frame ledger.role) (role_lists ledger.role)
         (totals_in ledger.role ledger.other.now totals.now.points.items) (point + 1) },
 }
 
 impl<'a, 'b> PointRow<'a, 'b> {
     /// Returns a point with its row in a player's class totals.
     pub(crate) fn of(ledger: &Ledger<'a>, totals: &'b Totals, point: u32) -> PointRow<'a, 'b>
-        requires inside { point < point_count (frame_in ledger.now.role) }
-        requires rows { HasRows (frame_in ledger.now.role) (lists_in ledger.now.role) totals.now }
+        requires inside { point < point_count (role_frame ledger.now.role) }
+        requires rows { HasRows (role_frame ledger.now.role) (role_lists ledger.now.role) totals.now }
         requires paid { ArePaid ledger.now.role ledger.now.other.now totals.now }
         requires modest { let k = ledger.now.role in
-            AreModestFrom (frame_in k) (lists_in k) (totals_in k ledger.now.other.now totals.now.points.items) (point + 1) }
+            AreModestFrom (role_frame k) (role_lists k) (totals_in k ledger.now.other.now totals.now.points.items) (point + 1) }
         ensures ledger { result.ledger ≡ ledger.now }
         ensures totals { result.totals.now ≡ totals.now }
         ensures point { result.point ≡ point }

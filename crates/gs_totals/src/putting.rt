@@ -2,7 +2,7 @@
 
 ghost use Rattle.std.specs.Prelude.{◌≡◌, ◌<◌, ◌≤◌, length};
 ghost use Rattle.gs_model.specs.Frame.{point_count};
-ghost use Rattle.gs_seq.specs.{Abstracts.{frame_of, lists_of}, Firsts.{IsClear}, Slots.{slot_count}};
+ghost use Rattle.gs_seq.specs.{Abstracts.{abstract_frame, lists_of}, Firsts.{IsClear}, Slots.{slot_count}};
 ghost use Rattle.gs_best.specs.{Puts.{ArePutBefore}, Tables.{AreInMoves, moves_of, start_of}};
 ghost use Rattle.gs_totals.specs.Room.{IsPlaced};
 
@@ -23,11 +23,11 @@ fn clear(weights: &mut [u64])
 pub fn put_all(form: &Abstract, player: u8, places: &Places, picks: &[u8], weights: &mut [u64])
     requires some { 0 < player }
     requires two { player ≤ 2 }
-    requires placed { IsPlaced (frame_of form.now) (lists_of form.now) places.now }
-    requires picks { let f = frame_of form.now in start_of f (lists_of form.now) (point_count f) ≤ length picks.now }
-    requires moves { let f = frame_of form.now in let lists = lists_of form.now in AreInMoves f lists player (moves_of f lists picks.now) }
-    requires long { length weights.old ≡ slot_count (frame_of form.now) (lists_of form.now) player }
-    ensures { let f = frame_of form.now in let lists = lists_of form.now in
+    requires placed { IsPlaced (abstract_frame form.now) (lists_of form.now) places.now }
+    requires picks { let f = abstract_frame form.now in start_of f (lists_of form.now) (point_count f) ≤ length picks.now }
+    requires moves { let f = abstract_frame form.now in let lists = lists_of form.now in AreInMoves f lists player (moves_of f lists picks.now) }
+    requires long { length weights.old ≡ slot_count (abstract_frame form.now) (lists_of form.now) player }
+    ensures { let f = abstract_frame form.now in let lists = lists_of form.now in
         ArePutBefore f lists player (moves_of f lists picks.now) weights.new (point_count f) }
 {
     clear(weights);

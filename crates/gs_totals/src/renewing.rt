@@ -4,10 +4,10 @@ ghost use Rattle.std.specs.Prelude.{◌≡◌, ◌↔◌, ◌+◌, ◌-◌, ◌<
 ghost use Rattle.gs_game.specs.Seen.{step_of};
 ghost use Rattle.gs_model.specs.{Classes.{IsClass}, Frame.{end_count, move_count, other_player, player_at, point_count, round_of}};
 ghost use Rattle.gs_model.specs.Positions.{at_end};
-ghost use Rattle.gs_seq.specs.{Abstracts.{frame_of, lists_of}, Payoffs.{end_classes, end_sum}, Slots.{plan_of, slot_count}};
+ghost use Rattle.gs_seq.specs.{Abstracts.{abstract_frame, lists_of}, Payoffs.{end_classes, end_sum}, Slots.{plan_of, slot_count}};
 ghost use Rattle.gs_best.specs.Sizes.{IsWide};
 ghost use Rattle.gs_totals.specs.{Ledgers.{IsPaidAt}, Places.{AreEndSums, end_start}, Renewed.{AgreeAt, AreSameAt}};
-ghost use Rattle.gs_totals.specs.{Roles.{ArePaid, frame_in, lists_in, plan_in}, Room.{HasRows, HasScratch}};
+ghost use Rattle.gs_totals.specs.{Roles.{ArePaid, role_frame, role_lists, role_plan}, Room.{HasRows, HasScratch}};
 
 use crate::ledger::Ledger;
 use crate::paying::read_end;
@@ -18,11 +18,11 @@ use gs_seq::{Abstract, end_step};
 
 /// Returns whether two lists of a player's weights agree at an own step, at each class of its point.
 fn agree_at(form: &Abstract, step: Step, before: &[u64], now: &[u64]) -> bool
-    requires point { step.point < point_count (frame_of form.now) }
-    requires choice { step.choice < move_count (frame_of form.now) step.point }
-    requires before { length before.now ≡ slot_count (frame_of form.now) (lists_of form.now) (player_at (frame_of form.now) step.point) }
-    requires now { length now.now ≡ slot_count (frame_of form.now) (lists_of form.now) (player_at (frame_of form.now) step.point) }
-    ensures { IsTrue result ↔ AgreeAt (frame_of form.now) (lists_of form.now) (step_of step) before.now now.now }
+    requires point { step.point < point_count (abstract_frame form.now) }
+    requires choice { step.choice < move_count (abstract_frame form.now) step.point }
+    requires before { length before.now ≡ slot_count (abstract_frame form.now) (lists_of form.now) (player_at (abstract_frame form.now) step.point) }
+    requires now { length now.now ≡ slot_count (abstract_frame form.now) (lists_of form.now) (player_at (abstract_frame form.now) step.point) }
+    ensures { IsTrue result ↔ AgreeAt (abstract_frame form.now) (lists_of form.now) (step_of step) before.now now.now }
 {
     for class in 0..class_total(form, round_at(form, step.point)) {
         let slot = form.slot(step.point, class + 1, step.choice) as usize;
@@ -38,11 +38,11 @@ fn agree_at(form: &Abstract, step: Step, before: &[u64], now: &[u64]) -> bool
 /// Returns true only if the other player's plan has the same numbers at an end as with the weights `before`. It compares the weights of that player's last
 /// step.
 fn is_same_at(ledger: &Ledger<'_>, before: &[u64], end: u32) -> bool
-    requires before { let k = ledger.now.role in length before.now ≡ slot_count (frame_in k) (lists_in k) (other_player k.player) }
-    requires end { end < end_count (frame_in ledger.now.role) }
+    requires before { let k = ledger.now.role in length before.now ≡ slot_count (role_frame k) (role_lists k) (other_player k.player) }
+    requires end { end < end_count (role_frame ledger.now.role) }
     ensures { let k = ledger.now.role in let other = ledger.now.other.now in
-        IsTrue result → AreSameAt (frame_in k) (lists_in k) (other_player k.player) (plan_of (frame_in k) (lists_in k) other.total before.now)
-        (plan_in k other) end }
+        IsTrue result → AreSameAt (role_frame k) (role_lists k) (other_player k.player) (plan_of (role_frame k) (role_lists k) other.total before.now)
+        (role_plan k other) end }
 {
     let form = ledger.role.form;
     match end_step(game(form), ledger.other.player, end) {
@@ -60,13 +60,13 @@ fn renew_end(
     sums: &mut [i128],
     numbers: &mut [u64],
 )
-    requires before { let k = ledger.now.role in length before.now ≡ slot_count (frame_in k) (lists_in k) (other_player k.player) }
-    requires end { end < end_count (frame_in ledger.now.role) }
-    requires wide { IsWide (frame_in ledger.now.role) (lists_in ledger.now.role) (length numbers.old) }
-    requires room { start + end_classes (frame_in ledger.now.role) (lists_in ledger.now.role) end ≤ length sums.old }
+    requires before { let k = ledger.now.role in length before.now ≡ slot_count (role_frame k) (role_lists k) (other_player k.player) }
+    requires end { end < end_count (role_frame ledger.now.role) }
+    requires wide { IsWide (role_frame ledger.now.role) (role_lists ledger.now.role) (length numbers.old) }
+    requires room { start + end_classes (role_frame ledger.now.role) (role_lists ledger.now.role) end ≤ length sums.old }
     requires paid { let k = ledger.now.role in
-        (c : ℕ) → IsClass (lists_in k) (round_of (frame_in k) (at_end end)) c → get_or sums.old (start + (c - 1)) (pos 0)
-        ≡ end_sum (frame_in k) (lists_in k) k.player (plan_of (frame_in k) (lists_in k) ledger.now.other.now.total before.now) end c }
+        (c : ℕ) → IsClass (role_lists k) (round_of (role_frame k) (at_end end)) c → get_or sums.old (start + (c - 1)) (pos 0)
+        ≡ end_sum (role_frame k) (role_lists k) k.player (plan_of (role_frame k) (role_lists k) ledger.now.other.now.total before.now) end c }
     ensures { IsPaidAt ledger.now end start sums.old sums.new }
 {
     if is_same_at(ledger, before, end) {
@@ -77,12 +77,12 @@ fn renew_end(
 
 /// Computes again what ends pay, at all ends where the other player's plan differs from the one with the weights `before`.
 fn renew_all(ledger: &Ledger<'_>, before: &[u64], sums: &mut [i128], numbers: &mut [u64])
-    requires before { let k = ledger.now.role in length before.now ≡ slot_count (frame_in k) (lists_in k) (other_player k.player) }
-    requires wide { IsWide (frame_in ledger.now.role) (lists_in ledger.now.role) (length numbers.old) }
-    requires room { end_start (frame_in ledger.now.role) (lists_in ledger.now.role) (end_count (frame_in ledger.now.role)) ≤ length sums.old }
+    requires before { let k = ledger.now.role in length before.now ≡ slot_count (role_frame k) (role_lists k) (other_player k.player) }
+    requires wide { IsWide (role_frame ledger.now.role) (role_lists ledger.now.role) (length numbers.old) }
+    requires room { end_start (role_frame ledger.now.role) (role_lists ledger.now.role) (end_count (role_frame ledger.now.role)) ≤ length sums.old }
     requires paid { let k = ledger.now.role in
-        AreEndSums (frame_in k) (lists_in k) k.player (plan_of (frame_in k) (lists_in k) ledger.now.other.now.total before.now) sums.old }
-    ensures { let k = ledger.now.role in AreEndSums (frame_in k) (lists_in k) k.player (plan_in k ledger.now.other.now) sums.new }
+        AreEndSums (role_frame k) (role_lists k) k.player (plan_of (role_frame k) (role_lists k) ledger.now.other.now.total before.now) sums.old }
+    ensures { let k = ledger.now.role in AreEndSums (role_frame k) (role_lists k) k.player (role_plan k ledger.now.other.now) sums.new }
 {
     for end in 0..end_total(ledger.role.form) {
         let start = ledger.role.places.ends[end as usize] as usize;
@@ -92,13 +92,13 @@ fn renew_all(ledger: &Ledger<'_>, before: &[u64], sums: &mut [i128], numbers: &m
 
 /// Changes what ends pay a player from the payoffs against the weights `before` to those against the other's plan.
 pub fn renew_ends(ledger: &Ledger<'_>, before: &[u64], totals: &mut Totals, scratch: &mut Scratch)
-    requires before { let k = ledger.now.role in length before.now ≡ slot_count (frame_in k) (lists_in k) (other_player k.player) }
-    requires scratch { HasScratch (frame_in ledger.now.role) (lists_in ledger.now.role) scratch.old }
-    requires rows { HasRows (frame_in ledger.now.role) (lists_in ledger.now.role) totals.old }
+    requires before { let k = ledger.now.role in length before.now ≡ slot_count (role_frame k) (role_lists k) (other_player k.player) }
+    requires scratch { HasScratch (role_frame ledger.now.role) (role_lists ledger.now.role) scratch.old }
+    requires rows { HasRows (role_frame ledger.now.role) (role_lists ledger.now.role) totals.old }
     requires paid { let k = ledger.now.role in
-        AreEndSums (frame_in k) (lists_in k) k.player (plan_of (frame_in k) (lists_in k) ledger.now.other.now.total before.now) totals.old.ends.items }
-    ensures scratch { HasScratch (frame_in ledger.now.role) (lists_in ledger.now.role) scratch.new }
-    ensures rows { HasRows (frame_in ledger.now.role) (lists_in ledger.now.role) totals.new }
+        AreEndSums (role_frame k) (role_lists k) k.player (plan_of (role_frame k) (role_lists k) ledger.now.other.now.total before.now) totals.old.ends.items }
+    ensures scratch { HasScratch (role_frame ledger.now.role) (role_lists ledger.now.role) scratch.new }
+    ensures rows { HasRows (role_frame ledger.now.role) (role_lists ledger.now.role) totals.new }
     ensures paid { ArePaid ledger.now.role ledger.now.other.now totals.new }
 {
     renew_all(ledger, before, &mut totals.ends, &mut scratch.numbers);

@@ -1,7 +1,7 @@
 //! A player, and where the player's class totals are.
 
 ghost use Rattle.std.specs.Prelude.{◌<◌, ◌≤◌};
-ghost use Rattle.gs_seq.specs.Abstracts.{frame_of, lists_of};
+ghost use Rattle.gs_seq.specs.Abstracts.{abstract_frame, lists_of};
 ghost use Rattle.gs_totals.specs.Room.{IsPlaced};
 
 use crate::places::Places;
@@ -15,5 +15,5 @@ pub struct Role<'a> {
     pub places: &'a Places,
     pub ghost some: { 0 < player },
     pub ghost two: { player ≤ 2 },
-    pub ghost placed: { IsPlaced (frame_of form.now) (lists_of form.now) places.now },
+    pub ghost placed: { IsPlaced (abstract_frame form.now) (lists_of form.now) places.now },
 }

@@ -2,10 +2,10 @@
 
 ghost use Rattle.std.specs.Prelude.{◌≡◌, ◌<◌, ◌≤◌, ℕ, pos, length, get_or};
 ghost use Rattle.gs_model.specs.{Classes.{class_count}, Frame.{leads_to, move_count, round_of}, Positions.{at_point}};
-ghost use Rattle.gs_seq.specs.Abstracts.{frame_of, lists_of};
+ghost use Rattle.gs_seq.specs.Abstracts.{abstract_frame, lists_of};
 ghost use Rattle.gs_best.specs.{Rows.{AreWorths}, Sizes.{IsWide}};
 ghost use Rattle.gs_totals.specs.{ClassTotals.{total_worth}, Merged.{AreGathered}, PointRows.{totals_at}};
-ghost use Rattle.gs_totals.specs.{Roles.{frame_in, lists_in}, Rows.{IsLaterRow, IsRowOf}};
+ghost use Rattle.gs_totals.specs.{Roles.{role_frame, role_lists}, Rows.{IsLaterRow, IsRowOf}};
 
 use crate::point_row::PointRow;
 use gs_best::{class_above, class_total, end_round, round_at, target_at};
@@ -33,10 +33,10 @@ fn clear(sums: &mut [i128], count: usize)
 /// Adds each number of a row of a later round to a cleared row of round `to`, at the class above.
 fn gather(form: &Abstract, row: Row<'_>, to: u8, sums: &mut [i128])
     requires some { 0 < to }
-    requires row { IsLaterRow (frame_of form.now) (lists_of form.now) to row }
+    requires row { IsLaterRow (abstract_frame form.now) (lists_of form.now) to row }
     requires wide { class_count (lists_of form.now) to ≤ length sums.old }
     requires clear { (k : ℕ) → k < class_count (lists_of form.now) to → get_or sums.old k (pos 0) ≡ pos 0 }
-    ensures { AreGathered (frame_of form.now) (lists_of form.now) row.entry.round to row.entry.values.now row.entry.start sums.new }
+    ensures { AreGathered (abstract_frame form.now) (lists_of form.now) row.entry.round to row.entry.values.now row.entry.start sums.new }
 {
     for class in 0..class_total(form, row.round) {
         let place = class_above(form, row.round, to, class + 1) as usize - 1;
@@ -47,9 +47,9 @@ fn gather(form: &Abstract, row: Row<'_>, to: u8, sums: &mut [i128])
 /// Returns for each class of round `to` the sum of a row over the classes below. `sums` is a scratch row; a row of round `to` itself is returned as it is.
 fn read_row<'a>(form: &Abstract, row: Row<'a>, to: u8, sums: &'a mut [i128]) -> &'a [i128]
     requires some { 0 < to }
-    requires row { IsLaterRow (frame_of form.now) (lists_of form.now) to row }
+    requires row { IsLaterRow (abstract_frame form.now) (lists_of form.now) to row }
     requires wide { class_count (lists_of form.now) to ≤ length sums.old }
-    ensures gathered { AreGathered (frame_of form.now) (lists_of form.now) row.entry.round to row.entry.values.now row.entry.start result.now }
+    ensures gathered { AreGathered (abstract_frame form.now) (lists_of form.now) row.entry.round to row.entry.values.now row.entry.start result.now }
     ensures long { class_count (lists_of form.now) to ≤ length result.now }
 {
     let count = class_total(form, to) as usize;
@@ -63,9 +63,9 @@ fn read_row<'a>(form: &Abstract, row: Row<'a>, to: u8, sums: &'a mut [i128]) -> 
 
 /// Returns the row of class totals at the target of a move.
 fn target_row<'a>(at: &'a PointRow<'_, '_>, choice: u8) -> Row<'a>
-    requires { choice < move_count (frame_in at.now.ledger.role) at.now.point }
-    ensures later { let k = at.now.ledger.role in IsLaterRow (frame_in k) (lists_in k) (round_of (frame_in k) (at_point at.now.point)) result }
-    ensures held { let k = at.now.ledger.role in IsRowOf (frame_in k) (lists_in k) (totals_at at.now) (leads_to (frame_in k) at.now.point choice) result }
+    requires { choice < move_count (role_frame at.now.ledger.role) at.now.point }
+    ensures later { let k = at.now.ledger.role in IsLaterRow (role_frame k) (role_lists k) (round_of (role_frame k) (at_point at.now.point)) result }
+    ensures held { let k = at.now.ledger.role in IsRowOf (role_frame k) (role_lists k) (totals_at at.now) (leads_to (role_frame k) at.now.point choice) result }
 {
     let form = at.ledger.role.form;
     match target_at(form, at.point, choice) {
@@ -88,10 +88,10 @@ pub(crate) fn read_worths<'a>(
     choice: u8,
     sums: &'a mut [i128],
 ) -> &'a [i128]
-    requires choice { choice < move_count (frame_in at.now.ledger.role) at.now.point }
-    requires wide { IsWide (frame_in at.now.ledger.role) (lists_in at.now.ledger.role) (length sums.old) }
+    requires choice { choice < move_count (role_frame at.now.ledger.role) at.now.point }
+    requires wide { IsWide (role_frame at.now.ledger.role) (role_lists at.now.ledger.role) (length sums.old) }
     ensures worths { let k = at.now.ledger.role in
-        AreWorths (frame_in k) (lists_in k) (total_worth (frame_in k) (lists_in k) (totals_at at.now)) at.now.point choice result.now }
+        AreWorths (role_frame k) (role_lists k) (total_worth (role_frame k) (role_lists k) (totals_at at.now)) at.now.point choice result.now }
     ensures long { at.now.count ≤ length result.now }
 {
     let form = at.ledger.role.form;

@@ -4,7 +4,7 @@ ghost use Rattle.std.specs.Prelude.{ℕ, ◌≡◌, ◌≢◌, ◌+◌, ◌-◌,
 ghost use Rattle.std.specs.Prelude.{nat_lt, unsigned_abs};
 ghost use Rattle.gs_model.specs.Frame.{move_count, player_at, point_count};
 ghost use Rattle.gs_best.specs.Sizes.{IsWide};
-ghost use Rattle.gs_totals.specs.{Courses.{Lasts, LastsAt, StaysBehind}, Roles.{frame_in, lists_in}, Room.{HasScratch}};
+ghost use Rattle.gs_totals.specs.{Courses.{Lasts, LastsAt, StaysBehind}, Roles.{role_frame, role_lists}, Room.{HasScratch}};
 ghost use Rattle.gs_totals.specs.Lasting.{AreBehind, IsBehind, IsNotAhead, IsWithinGap};
 
 use crate::course::Course;
@@ -117,11 +117,11 @@ fn lasting_move(
     rises: &mut [i128],
     times: u32,
 ) -> u32
-    requires point { point < point_count (frame_in course.now.role) }
-    requires own { player_at (frame_in course.now.role) point ≡ course.now.role.player }
-    requires choice { choice < move_count (frame_in course.now.role) point }
-    requires worths { IsWide (frame_in course.now.role) (lists_in course.now.role) (length worths.old) }
-    requires rises { IsWide (frame_in course.now.role) (lists_in course.now.role) (length rises.old) }
+    requires point { point < point_count (role_frame course.now.role) }
+    requires own { player_at (role_frame course.now.role) point ≡ course.now.role.player }
+    requires choice { choice < move_count (role_frame course.now.role) point }
+    requires worths { IsWide (role_frame course.now.role) (role_lists course.now.role) (length worths.old) }
+    requires rises { IsWide (role_frame course.now.role) (role_lists course.now.role) (length rises.old) }
     ensures behind { StaysBehind course.now point choice result }
     ensures greatest { result < times → StaysBehind course.now point choice (result + 1) → ⊥ }
     ensures most { result ≤ times }
@@ -157,10 +157,10 @@ fn lasting_move(
 
 /// Returns the greatest number of turns, at most `times`, in which no choice at an own point changes.
 fn lasting_point(course: &Course<'_>, point: u32, scratch: &mut Scratch, times: u32) -> u32
-    requires point { point < point_count (frame_in course.now.role) }
-    requires own { player_at (frame_in course.now.role) point ≡ course.now.role.player }
-    requires scratch { HasScratch (frame_in course.now.role) (lists_in course.now.role) scratch.old }
-    ensures scratch { HasScratch (frame_in course.now.role) (lists_in course.now.role) scratch.new }
+    requires point { point < point_count (role_frame course.now.role) }
+    requires own { player_at (role_frame course.now.role) point ≡ course.now.role.player }
+    requires scratch { HasScratch (role_frame course.now.role) (role_lists course.now.role) scratch.old }
+    ensures scratch { HasScratch (role_frame course.now.role) (role_lists course.now.role) scratch.new }
     ensures lasts { LastsAt course.now point result }
     ensures greatest { result < times → LastsAt course.now point (result + 1) → ⊥ }
     ensures most { result ≤ times }
@@ -182,8 +182,8 @@ fn lasting_point(course: &Course<'_>, point: u32, scratch: &mut Scratch, times: 
 
 /// Returns the greatest number of turns, at most `times`, in which no choice of the player changes.
 pub fn lasting(course: &Course<'_>, scratch: &mut Scratch, times: u32) -> u32
-    requires { HasScratch (frame_in course.now.role) (lists_in course.now.role) scratch.old }
-    ensures scratch { HasScratch (frame_in course.now.role) (lists_in course.now.role) scratch.new }
+    requires { HasScratch (role_frame course.now.role) (role_lists course.now.role) scratch.old }
+    ensures scratch { HasScratch (role_frame course.now.role) (role_lists course.now.role) scratch.new }
     ensures lasts { Lasts course.now result }
     ensures greatest { result < times → Lasts course.now (result + 1) → ⊥ }
     ensures most { result ≤ times }

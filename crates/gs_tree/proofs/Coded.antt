@@ -8,7 +8,7 @@ use lib.Pointwise.{pointwise}
 use Rattle.gs_card.specs.Decks.{DeckValue, IsDeck, kinds}
 use Rattle.gs_model.specs.{Game.{Game, round_count}, Signals.{public_cards, signal_at}}
 use Rattle.gs_model.proofs.Basics.{product_le}
-use Rattle.gs_tree.specs.{Boards.{code_behind, seen_last}, Kept.{AreHands}, Walk.{last_count}}
+use Rattle.gs_tree.specs.{Boards.{code_behind, seen_last}, Kept.{AreKeptCards}, Walk.{last_count}}
 use Rattle.gs_tree.proofs.{Hands.{dealt}, Linked.{equal, unequal, last_place}}
 
 -- one digit more
@@ -137,7 +137,7 @@ table_more key n count k size last t l h =
 
 -- the public cards of a signal are a board of the deck
 pub shown_board : (g : Game) (d : DeckValue) (paths owns publics : List ℕ) (own public i : ℕ) → IsDeck d → d.counts ≡ g.copies
-    → AreHands g (round_count g) paths owns publics own public → i < last_count g → IsBoardOf (kinds d) public (public_cards (signal_at g (round_count g) i))
+    → AreKeptCards g (round_count g) paths owns publics own public → i < last_count g → IsBoardOf (kinds d) public (public_cards (signal_at g (round_count g) i))
 shown_board g d paths owns publics own public i deck e h l =
     let counted : length g.copies ≡ kinds d = ap (λ (x : List ℕ). length x) (sym e) ∙ deck.counted in
     let P : ℕ → Type 0 = λ n. All (λ c. c < n) (public_cards (signal_at g (round_count g) i)) in

@@ -3,7 +3,7 @@ use Rattle.std.proofs.Common.{◌≡◌, ℕ, zero, suc, ◌+◌, ◌-◌, ◌<�
 use Rattle.std.proofs.{lemmas.Bool.{eqb-true}, lemmas.List.Concat.{flat_map-append}, lemmas.List.Elements.{All-append}, lemmas.List.Sums.{sum_by_more}}
 use Rattle.std.specs.Prelude.{true}
 use Rattle.gs_card.specs.Decks.{DeckValue, kinds}
-use Rattle.gs_game.specs.{Limits.{IsDealable}, Refusals.{ranks, own_cards as own_count, public_cards as public_count}}
+use Rattle.gs_game.specs.{Limits.{IsDealable}, Refusals.{ranks, own_card_total as own_count, public_card_total as public_count}}
 use Rattle.gs_model.specs.{Betting.{even}, Game.{Game, Round, Ranking, High, Pair, Three, round_at, round_count}}
 use Rattle.gs_model.specs.Signals.{Seen, Signal, signals, signal_at, parents, own_cards, public_cards}
 use Rattle.gs_rank.specs.Hands.{IsHand, IsSized}

@@ -6,7 +6,7 @@ use Rattle.std.proofs.Math.Seq.{get_or-append_seam}
 use Rattle.std.specs.{Bool.{Decides}, Prelude.{IfSome, nat_eq, slice_set}}
 use lib.Pointwise.{pointwise}
 use Rattle.gs_model.specs.{Game.{Game, round_count}, Signals.{public_cards, signal_at}}
-use Rattle.gs_tree.specs.{Boards.{AreBoards, first_beside, linked}, Walk.{last_count}}
+use Rattle.gs_tree.specs.{Boards.{AreBoards, first_on_board, linked}, Walk.{last_count}}
 use Rattle.gs_tree.proofs.Same.{same_list, other_list}
 
 -- the last place below n with this key
@@ -203,7 +203,7 @@ take_before (x ∷ xs) (suc n) (suc i) y = ap (λ l. x ∷ l) (take_before xs n 
 
 -- one more place, from the last one with its key
 pub linked_more : (key : ℕ → List ℕ) (n count : ℕ) (firsts nexts : List ℕ) → AreBegun key n count firsts nexts → (before : Option ℕ) (more next : List ℕ)
-    → n < count → before ≡ last_place key n (key n) → more ≡ slice_set firsts n (first_beside before n firsts) → next ≡ linked before n nexts
+    → n < count → before ≡ last_place key n (key n) → more ≡ slice_set firsts n (first_on_board before n firsts) → next ≡ linked before n nexts
     → AreBegun key (n + 1) count more next
 linked_more key n count firsts nexts h None more next l e f k =
     let fs : List ℕ = take n firsts in

@@ -2,7 +2,7 @@
 use Rattle.std.proofs.Common.{◌≡◌, ℕ, zero, suc, ◌+◌, ◌-◌, ◌<◌, ◌≤◌, List, [], ◌∷◌, ◌++◌, length, map, get_or, refl, sym, ap, ◌∙◌, arith, subst, ⊎_elim, length-append, All, append-nil, append_assoc, vec_len}
 use Rattle.std.proofs.{lemmas.Bool.{cases_lt}, lemmas.List.{length-map, get_or-map, get_or_append_left, get_or-append_right}, Math.Seq.{get_or-append_seam}}
 use Rattle.std.specs.{Prelude.{flat_map}, Global.{Vec}}
-use Rattle.gs_game.specs.{Games.{round_of}, declared.game.Round.{Round as GameRound}}
+use Rattle.gs_game.specs.{Games.{round_rules}, declared.game.Round.{Round as GameRound}}
 use Rattle.gs_model.specs.{Game.{Game, Round, round_at}, Signals.{Seen, Signal, edge, last_edge, left_by, owners, showings, signals, signal_at, parents}}
 use Rattle.gs_model.specs.Cards.{left_after}
 use Rattle.gs_card.specs.Decks.{DeckValue}
@@ -182,12 +182,12 @@ tables_push g ps ls row l t e h =
     }
 
 -- what all rounds keep, one keeps
-pub small_round : (rounds : List GameRound) (i : ℕ) (r : GameRound) → All (λ (r : Round). (r.private ≤ 2) × (r.public ≤ 3)) (map round_of rounds)
+pub small_round : (rounds : List GameRound) (i : ℕ) (r : GameRound) → All (λ (r : Round). (r.private ≤ 2) × (r.public ≤ 3)) (map round_rules rounds)
     → i < length rounds → r ≡ get_or rounds i r → (r.private ≤ 2) × (r.public ≤ 3)
 small_round rounds i r h l e =
-    let at : get_or (map round_of rounds) i (round_of r) ≡ round_of r = get_or-map round_of rounds i r (round_of r) l ∙ ap round_of (sym e) in
+    let at : get_or (map round_rules rounds) i (round_rules r) ≡ round_rules r = get_or-map round_rules rounds i r (round_rules r) l ∙ ap round_rules (sym e) in
     let P : Round → Type 0 = λ x. (x.private ≤ 2) × (x.public ≤ 3) in
-    subst P at (h i (round_of r) (omega (arith, length-map rounds round_of)))
+    subst P at (h i (round_rules r) (omega (arith, length-map rounds round_rules)))
 
 -- ---- texts
 

@@ -2,7 +2,7 @@
 use Rattle.std.proofs.{Common.{◌≡◌, ◌+◌, ◌*◌, ◌<◌, ◌≤◌, ◌∙◌, ℕ, List, [], length, take, drop, get_or, ap, arith}, lemmas.List.{length-map}}
 use Rattle.std.specs.Prelude.{flat_map}
 use Rattle.gs_model.specs.{Deals.{path_weight}, Game.{Game}, Signals.{Signal, own_cards, public_cards, signal_at, signals}}
-use Rattle.gs_tree.specs.Kept.{AreHands}
+use Rattle.gs_tree.specs.Kept.{AreKeptCards}
 use Rattle.gs_tree.proofs.Rows.{part_in, part_is, parts_length}
 
 module _ (f : Signal → List ℕ) (each : ℕ) (ss : List Signal) (kept : List ℕ) (is : kept ≡ flat_map f ss) (sized : (i : ℕ) → i < length ss
@@ -18,7 +18,7 @@ module _ (f : Signal → List ℕ) (each : ℕ) (ss : List Signal) (kept : List 
   pub kept_part : (i : ℕ) → i < length ss → take each (drop (i * each) kept) ≡ f (get_or ss i [])
   kept_part i l = ap (λ (x : List ℕ). take each (drop (i * each) x)) is ∙ part_is f each ss [] sized i l
 
-module _ (g : Game) (round : ℕ) (paths owns publics : List ℕ) (own public : ℕ) (h : AreHands g round paths owns publics own public) where
+module _ (g : Game) (round : ℕ) (paths owns publics : List ℕ) (own public : ℕ) (h : AreKeptCards g round paths owns publics own public) where
   -- there is a way for each signal
   pub paths_long : length paths ≡ length (signals g round)
   paths_long = ap (λ (x : List ℕ). length x) h.weighed ∙ length-map (signals g round) (path_weight g.copies)

@@ -6,7 +6,8 @@ use Rattle.gs_game.specs.Limits.{IsDealable}
 use Rattle.gs_model.specs.{Deals.{path_weight}, Game.{Game, round_count}}
 use Rattle.gs_model.specs.Signals.{Seen, Signal, last_edge, own_cards, parents, public_cards, signal_at, signals}
 use Rattle.gs_model.proofs.Ranges.{length-parents}
-use Rattle.gs_tree.specs.{Kept.{AreHands}, Layers.{last_seen}, Shown.{seen_of}, Tables.{AreTables}, declared.layer.Layer.{Layer}, declared.layer.Shown.{Shown}}
+use Rattle.gs_tree.specs.{Kept.{AreKeptCards}, Layers.{last_seen}, Shown.{seen_of}, Tables.{AreTables}, declared.layer.Layer.{Layer}}
+use Rattle.gs_tree.specs.declared.layer.Shown.{Shown}
 use Rattle.gs_tree.proofs.{Lookups.{is_child, layer_of}, Paths.{last_edge_small, path_small, path_step, power_fits, power_step}}
 
 -- what the tables hold of a signal of the round after the first n
@@ -112,7 +113,7 @@ one_way g ps ls n t in' row l r e before count b w =
     h.path_is ∙ ap (λ k. k * last_edge g.copies (signal_at g (suc n) i)) path ∙ ap (λ k. 1 * k) edge)
 
 -- the empty signal has no cards
-pub no_hands : (g : Game) (paths owns publics : List ℕ) → paths ≡ 1 ∷ [] → owns ≡ [] → publics ≡ [] → AreHands g 0 paths owns publics 0 0
+pub no_hands : (g : Game) (paths owns publics : List ℕ) → paths ≡ 1 ∷ [] → owns ≡ [] → publics ≡ [] → AreKeptCards g 0 paths owns publics 0 0
 no_hands g paths owns publics p o q = record {
   weighed = p;
   owned = o;

@@ -6,7 +6,7 @@ use Rattle.std.proofs.{lemmas.List.Concat.{flat_map-append}, lemmas.Slice.{betwe
 use Rattle.std.specs.{Prelude.{flat_map, max}, List.{between}}
 use Rattle.gs_model.specs.{Cards.{ways, left_after}, Deals.{own_ways}, Betting.{even}, Game.{Game, Round, round_at, round_count}}
 use Rattle.gs_model.specs.Signals.{Seen, Signal, own_cards, parents, signal_at, signals}
-use Rattle.gs_game.specs.{Games.{round_of}, declared.game.Round.{Round as GameRound}, Limits.{IsDealable}}
+use Rattle.gs_game.specs.{Games.{round_rules}, declared.game.Round.{Round as GameRound}, Limits.{IsDealable}}
 use Rattle.gs_model.proofs.Basics.{product_le}
 use Rattle.gs_tree.specs.{Layers.{last_seen}, Walk.{last_count}}
 use Rattle.gs_tree.proofs.{Beside.{own_ways-push}, Dealt.{IsShown, last_is_shown}, Hands.{own_cards-push}, Lookups.{grown_from}, Grown.{nothing_seen}}
@@ -86,14 +86,14 @@ has_rounds g (suc n) i l =
     })
 
 -- as many own cards as the game's list of rounds says
-pub width_at : (g : Game) (rounds : List GameRound) (n k : ℕ) (r : GameRound) (s : Signal) → g.rounds ≡ map round_of rounds → HasRounds g n s → k < n
+pub width_at : (g : Game) (rounds : List GameRound) (n k : ℕ) (r : GameRound) (s : Signal) → g.rounds ≡ map round_rules rounds → HasRounds g n s → k < n
     → k < length rounds → r ≡ get_or rounds k r → length (get_or s k nothing_seen).own ≡ r.private
 width_at g rounds n k r s e h l m at =
     let none : Round = record { private = 0; public = 0; tree = even } in
     let before : suc k - 1 ≡ k = omega arith in
     let private : Round → ℕ = λ x. x.private in
     (h.each k l).own_counted ∙ ap (λ j. private (get_or g.rounds j none)) before ∙ ap (λ (x : List Round). private (get_or x k none)) e
-    ∙ ap private (get_or-map round_of rounds k r none m ∙ ap round_of (sym at))
+    ∙ ap private (get_or-map round_rules rounds k r none m ∙ ap round_rules (sym at))
 
 -- the own cards of one round more
 pub record IsOwnStep (left : List ℕ) (t : Signal) (k start end : ℕ) (own : List ℕ) : Type 0 where
@@ -130,13 +130,13 @@ pub record IsTurn (g : Game) (left : List ℕ) (t : Signal) (k start end : ℕ) 
   pub few : length (between start end own) ≤ 3
 
 pub turn : (g : Game) (left : List ℕ) (rounds : List GameRound) (i k : ℕ) (r : GameRound) (start end : ℕ) (own : List ℕ) → IsDealable g
-    → g.rounds ≡ map round_of rounds → i < last_count g → own ≡ own_cards (signal_at g (round_count g) i) → k < length rounds → r ≡ get_or rounds k r
+    → g.rounds ≡ map round_rules rounds → i < last_count g → own ≡ own_cards (signal_at g (round_count g) i) → k < length rounds → r ≡ get_or rounds k r
     → start ≡ length (own_cards (take k (signal_at g (round_count g) i))) → end ≡ start + r.private →
     IsTurn g left (signal_at g (round_count g) i) k start end own
 turn g left rounds i k r start end own d e l o m at s w =
     let t : Signal = signal_at g (round_count g) i in
     let h = has_rounds g (round_count g) i l in
-    let here : k < round_count g = omega (arith, ap (λ (x : List Round). length x) e, length-map rounds round_of) in
+    let here : k < round_count g = omega (arith, ap (λ (x : List Round). length x) e, length-map rounds round_rules) in
     let width = width_at g rounds (round_count g) k r t e h here m at in
     let step = own_step left t k start end own o (omega (arith, h.long)) s (omega (arith, width)) in
     let none : Round = record { private = 0; public = 0; tree = even } in

@@ -2,7 +2,7 @@
 use Rattle.std.proofs.Common.{◌≡◌, ℕ, suc, ◌-◌, ◌*◌, ◌<◌, ◌++◌, List, [], ◌∷◌, length, map, drop, take, get_or, refl, sym, ap, ◌∙◌, append-nil, arith}
 use Rattle.std.proofs.lemmas.List.{drop_more, get_or-map}
 use Rattle.std.specs.Prelude.{flat_map}
-use Rattle.gs_game.specs.{Games.{round_of}, declared.game.Round.{Round as GameRound}}
+use Rattle.gs_game.specs.{Games.{round_rules}, declared.game.Round.{Round as GameRound}}
 use Rattle.gs_model.specs.{Betting.{even}, Game.{Game, Round, round_at}, Signals.{Seen, Signal, own_cards, public_cards, signal_at, signals}}
 use Rattle.gs_tree.specs.{Layers.{last_seen}, Shown.{cards_on, seen_on, shown_by}, declared.layer.Side.{Side}, declared.layer.Side.TheVariants.{Own, Public}}
 use Rattle.gs_tree.proofs.{Dealt.{last_is_shown}, Hands.{own_cards-push, public_cards-push}}
@@ -23,19 +23,19 @@ hand_on Own s front last part cards e p c = own_hand s front last part cards e p
 hand_on Public s front last part cards e p c = public_hand s front last part cards e p c
 
 -- a signal shows as many cards on one side as its last round says
-pub shows_many : (g : Game) (n i : ℕ) (rounds : List GameRound) (r : GameRound) (side : Side) → g.rounds ≡ map round_of rounds → n < length rounds
-    → r ≡ get_or rounds n r → i < length (signals g (suc n)) → length (seen_on side (last_seen (signal_at g (suc n) i))) ≡ shown_by side (round_of r)
+pub shows_many : (g : Game) (n i : ℕ) (rounds : List GameRound) (r : GameRound) (side : Side) → g.rounds ≡ map round_rules rounds → n < length rounds
+    → r ≡ get_or rounds n r → i < length (signals g (suc n)) → length (seen_on side (last_seen (signal_at g (suc n) i))) ≡ shown_by side (round_rules r)
 shows_many g n i rounds r side e m at l =
     let none : Round = record { private = 0; public = 0; tree = even } in
     let before : suc n - 1 ≡ n = omega arith in
     let shown = last_is_shown g (suc n) i (omega arith) l in
-    let is : round_at g (suc n) ≡ round_of r = ap (λ j. get_or g.rounds j none) before ∙ ap (λ (x : List Round). get_or x n none) e
-    ∙ get_or-map round_of rounds n r none m ∙ ap round_of (sym at) in
+    let is : round_at g (suc n) ≡ round_rules r = ap (λ j. get_or g.rounds j none) before ∙ ap (λ (x : List Round). get_or x n none) e
+    ∙ get_or-map round_rules rounds n r none m ∙ ap round_rules (sym at) in
     go side shown.own_counted shown.public_counted is
   where
     go : (side : Side) → length (last_seen (signal_at g (suc n) i)).own ≡ (round_at g (suc n)).private
-        → length (last_seen (signal_at g (suc n) i)).public ≡ (round_at g (suc n)).public → round_at g (suc n) ≡ round_of r
-        → length (seen_on side (last_seen (signal_at g (suc n) i))) ≡ shown_by side (round_of r)
+        → length (last_seen (signal_at g (suc n) i)).public ≡ (round_at g (suc n)).public → round_at g (suc n) ≡ round_rules r
+        → length (seen_on side (last_seen (signal_at g (suc n) i))) ≡ shown_by side (round_rules r)
     go Own own public is = own ∙ ap (λ (x : Round). x.private) is
     go Public own public is = public ∙ ap (λ (x : Round). x.public) is
 

@@ -16,9 +16,9 @@ pub record AreBoards (g : Game) (firsts nexts : List ℕ) : Type 0 where
   pub none_between : (i k : ℕ) → i < last_count g → i < k → k < slice_index nexts i → k < last_count g → shows_same g i k ≡ false
 
 -- the first signal with the public cards of `signal`: that of the last one before it with these cards, or else itself
-abbrev pub first_beside : Option ℕ → ℕ → List ℕ → ℕ
-first_beside None signal firsts = signal
-first_beside (Some last) signal firsts = slice_index firsts last
+abbrev pub first_on_board : Option ℕ → ℕ → List ℕ → ℕ
+first_on_board None signal firsts = signal
+first_on_board (Some last) signal firsts = slice_index firsts last
 
 -- the last signal before `signal` with the same public cards, if there is one, gets `signal` as its next
 abbrev pub linked : Option ℕ → ℕ → List ℕ → List ℕ

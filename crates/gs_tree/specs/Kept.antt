@@ -4,7 +4,7 @@ use Rattle.std.specs.Prelude.{ℕ, ◌≡◌, ◌<◌, List, length, map, flat_m
 use Rattle.gs_model.specs.{Deals.{path_weight}, Game.{Game}, Signals.{own_cards, public_cards, signal_at, signals}}
 
 -- for each signal of a round the ways to take what it shows, its own cards and its public cards; each signal has `own` own and `public` public cards
-pub record AreHands (g : Game) (round : ℕ) (paths owns publics : List ℕ) (own public : ℕ) : Type 0 where
+pub record AreKeptCards (g : Game) (round : ℕ) (paths owns publics : List ℕ) (own public : ℕ) : Type 0 where
   pub weighed : paths ≡ map (path_weight g.copies) (signals g round)
   pub owned : owns ≡ flat_map own_cards (signals g round)
   pub shown : publics ≡ flat_map public_cards (signals g round)

@@ -19,8 +19,8 @@ abbrev pub deals_between : Game → ℕ → ℕ → List Deal
 deals_between g from to = filter (λ d. nat_lt 0 d.weight) (map (pair_at g) (range_with_len from (to - from)))
 
 -- the number of a pair
-abbrev pub number_of : Game → ℕ → ℕ → ℕ
-number_of g one two = one * last_count g + two
+abbrev pub pair_number : Game → ℕ → ℕ → ℕ
+pair_number g one two = one * last_count g + two
 
 -- whether the last-round signals at two places show the same public cards
 abbrev pub shows_same : Game → ℕ → ℕ → Bool
@@ -35,10 +35,10 @@ pub record IsOnWalk (g : Game) (one two end : ℕ) : Type 0 where
 -- the walk of row `one` begins at signal `two`: no pair before it in this row is a deal
 pub record IsRowStart (g : Game) (one two : ℕ) : Type 0 where
   pub start : IsOnWalk g one two (last_count g)
-  pub passes : (end : ℕ) → deals_between g (one * last_count g) end ≡ deals_between g (number_of g one two) end
+  pub passes : (end : ℕ) → deals_between g (one * last_count g) end ≡ deals_between g (pair_number g one two) end
 
 -- the walk goes on from one pair to a later one, and no pair between them is a deal
 pub record IsNextPair (g : Game) (one two next other : ℕ) : Type 0 where
   pub on : IsOnWalk g next other (last_count g)
-  pub later : number_of g one two < number_of g next other
-  pub passes : (end : ℕ) → deals_between g (number_of g one two + 1) end ≡ deals_between g (number_of g next other) end
+  pub later : pair_number g one two < pair_number g next other
+  pub passes : (end : ℕ) → deals_between g (pair_number g one two + 1) end ≡ deals_between g (pair_number g next other) end

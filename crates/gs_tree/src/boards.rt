@@ -4,7 +4,7 @@ ghost use Rattle.std.specs.Prelude.{◌≡◌, ◌≤◌, ◌<◌, All, ◌^◌,
 ghost use Rattle.gs_card.specs.Decks.{kinds};
 ghost use Rattle.gs_game.specs.{Games.{game_of}, Limits.{IsWithinLimits}};
 ghost use Rattle.gs_model.specs.{Game.{round_count}, Signals.{public_cards, signal_at}};
-ghost use Rattle.gs_tree.specs.{Boards.{AreBoards, code_behind, first_beside, linked, seen_last}, Kept.{AreHands}, Walk.{last_count}};
+ghost use Rattle.gs_tree.specs.{Boards.{AreBoards, code_behind, first_on_board, linked, seen_last}, Kept.{AreKeptCards}, Walk.{last_count}};
 
 use crate::kept::{Hands, part};
 use gs_card::Card;
@@ -30,7 +30,7 @@ fn numbers_of(alloc: Global, cards: &[Card]) -> Result<Vec<u8>, AllocError>
 
 /// Returns the public cards that a last-round signal shows.
 fn board_of(alloc: Global, game: &Game, hands: &Hands, signal: u32) -> Result<Vec<u8>, AllocError>
-    requires hands { AreHands (game_of game.now) (round_count (game_of game.now)) hands.now.paths hands.now.owns.items hands.now.publics.items hands.now.own
+    requires hands { AreKeptCards (game_of game.now) (round_count (game_of game.now)) hands.now.paths hands.now.owns.items hands.now.publics.items hands.now.own
         hands.now.public }
     requires signal_in { signal < last_count (game_of game.now) }
     ensures { IfOk result (λ v. v.items ≡ public_cards (signal_at (game_of game.now) (round_count (game_of game.now)) signal)) }
@@ -83,7 +83,7 @@ fn code(kinds: usize, cards: &[Card]) -> usize
 
 /// Returns the number of the public cards that a last-round signal shows.
 fn board_code(game: &Game, hands: &Hands, signal: u32) -> usize
-    requires hands { AreHands (game_of game.now) (round_count (game_of game.now)) hands.now.paths hands.now.owns.items hands.now.publics.items hands.now.own
+    requires hands { AreKeptCards (game_of game.now) (round_count (game_of game.now)) hands.now.paths hands.now.owns.items hands.now.publics.items hands.now.own
         hands.now.public }
     requires few { hands.now.public ≤ 3 }
     requires signal_in { signal < last_count (game_of game.now) }
@@ -109,7 +109,7 @@ fn link(boards: &mut Boards, before: Option<u32>, signal: u32)
     requires long { length boards.old.nexts.items ≡ length boards.old.firsts.items }
     requires signal_in { signal < length boards.old.firsts.items }
     requires before_in { IfSome before (λ last. last < signal) }
-    ensures firsts { boards.new.firsts.items ≡ slice_set boards.old.firsts.items signal (first_beside before signal boards.old.firsts.items) }
+    ensures firsts { boards.new.firsts.items ≡ slice_set boards.old.firsts.items signal (first_on_board before signal boards.old.firsts.items) }
     ensures nexts { boards.new.nexts.items ≡ linked before signal boards.old.nexts.items }
 {
     let first = match before {
@@ -124,7 +124,7 @@ fn link(boards: &mut Boards, before: Option<u32>, signal: u32)
 
 /// Links the last-round signals that show the same public cards, at most three. A table has a place for each list of that many cards.
 fn link_by_table(alloc: Global, game: &Game, hands: &Hands) -> Result<Boards, AllocError>
-    requires hands { AreHands (game_of game.now) (round_count (game_of game.now)) hands.now.paths hands.now.owns.items hands.now.publics.items hands.now.own
+    requires hands { AreKeptCards (game_of game.now) (round_count (game_of game.now)) hands.now.paths hands.now.owns.items hands.now.publics.items hands.now.own
         hands.now.public }
     requires limits { IsWithinLimits (game_of game.now) }
     requires few { hands.now.public ≤ 3 }
@@ -146,7 +146,7 @@ fn link_by_table(alloc: Global, game: &Game, hands: &Hands) -> Result<Boards, Al
 
 /// Links the last-round signals that show the same public cards, by a map from boards to the last signal on each.
 fn link_by_map(alloc: Global, game: &Game, hands: &Hands) -> Result<Boards, AllocError>
-    requires hands { AreHands (game_of game.now) (round_count (game_of game.now)) hands.now.paths hands.now.owns.items hands.now.publics.items hands.now.own
+    requires hands { AreKeptCards (game_of game.now) (round_count (game_of game.now)) hands.now.paths hands.now.owns.items hands.now.publics.items hands.now.own
         hands.now.public }
     requires limits { IsWithinLimits (game_of game.now) }
     ensures { IfOk result (λ b. AreBoards (game_of game.now) b.firsts.items b.nexts.items) }
@@ -164,7 +164,7 @@ fn link_by_map(alloc: Global, game: &Game, hands: &Hands) -> Result<Boards, Allo
 
 /// Links the last-round signals that show the same public cards. Fails only if memory runs out.
 pub(crate) fn link_boards(alloc: Global, game: &Game, hands: &Hands) -> Result<Boards, AllocError>
-    requires hands { AreHands (game_of game.now) (round_count (game_of game.now)) hands.now.paths hands.now.owns.items hands.now.publics.items hands.now.own
+    requires hands { AreKeptCards (game_of game.now) (round_count (game_of game.now)) hands.now.paths hands.now.owns.items hands.now.publics.items hands.now.own
         hands.now.public }
     requires limits { IsWithinLimits (game_of game.now) }
     ensures { IfOk result (λ b. AreBoards (game_of game.now) b.firsts.items b.nexts.items) }

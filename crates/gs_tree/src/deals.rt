@@ -26,9 +26,9 @@ impl<'s> Model for Deals<'s> {
 
     ghost Value = { List Dealt };
 
-    ghost use Rattle.gs_tree.specs.{Trees.{rules_of}, Walk.{deals_between, last_count, number_of, IsOnWalk}};
+    ghost use Rattle.gs_tree.specs.{Trees.{rules_of}, Walk.{deals_between, last_count, pair_number, IsOnWalk}};
 
-    ghost view = { λ d. deals_between (rules_of d.signals.now) (number_of (rules_of d.signals.now) d.one d.two)
+    ghost view = { λ d. deals_between (rules_of d.signals.now) (pair_number (rules_of d.signals.now) d.one d.two)
         (d.end * last_count (rules_of d.signals.now)) };
 
     ghost invariant = { λ d. IsOnWalk (rules_of d.signals.now) d.one d.two d.end };

@@ -1,9 +1,9 @@
 //! What is kept of the last-round signals to weigh deals: the ways to take what each shows, and their cards.
 
 ghost use Rattle.std.specs.Prelude.{◌≡◌, ◌≤◌, ◌<◌, ◌+◌, ◌*◌, ◌++◌, ◌∷◌, ℕ, [], suc, All, IfOk, OnOk, drop, flat_map, length, map, slice_index, take};
-ghost use Rattle.gs_game.specs.{Games.{game_of, round_of}, Limits.{IsDealable, IsWithinLimits}};
+ghost use Rattle.gs_game.specs.{Games.{game_of, round_rules}, Limits.{IsDealable, IsWithinLimits}};
 ghost use Rattle.gs_model.specs.{Deals.{path_weight}, Game.{round_count}, Signals.{signal_at, signals}};
-ghost use Rattle.gs_tree.specs.{Kept.{AreHands}, Layers.{last_seen}, Shown.{cards_on, seen_on, shown_by}, Tables.{AreTables}};
+ghost use Rattle.gs_tree.specs.{Kept.{AreKeptCards}, Layers.{last_seen}, Shown.{cards_on, seen_on, shown_by}, Tables.{AreTables}};
 
 use crate::layer::Side;
 use crate::tables::Tables;
@@ -98,7 +98,7 @@ fn parent_cards(alloc: Global, parents: &[u32], before: &[Card]) -> Result<Vec<C
 
 /// Returns the number of cards that a round shows on one side.
 fn cards_shown(round: &Round, side: Side) -> usize
-    ensures { result ≡ shown_by side (round_of round.now) }
+    ensures { result ≡ shown_by side (round_rules round.now) }
 {
     match side {
         Side::Own => usize::from(round.private),
@@ -184,8 +184,8 @@ fn next_hands(
     requires limits { IsWithinLimits (game_of game.now) }
     requires dealable { IsDealable (game_of game.now) }
     requires round_in { round < length tables.now.layers.items }
-    requires before { AreHands (game_of game.now) round before.now.paths before.now.owns.items before.now.publics.items before.now.own before.now.public }
-    ensures { IfOk result (λ h. AreHands (game_of game.now) (suc round) h.paths h.owns.items h.publics.items h.own h.public) }
+    requires before { AreKeptCards (game_of game.now) round before.now.paths before.now.owns.items before.now.publics.items before.now.own before.now.public }
+    ensures { IfOk result (λ h. AreKeptCards (game_of game.now) (suc round) h.paths h.owns.items h.publics.items h.own h.public) }
 {
     let paths = next_paths(alloc, game, tables, round, &before.paths)?;
     let owns = next_cards(
@@ -224,7 +224,7 @@ pub(crate) fn gather(alloc: Global, game: &Game, tables: &Tables) -> Result<Hand
     requires all { length tables.now.layers.items ≡ round_count (game_of game.now) }
     requires limits { IsWithinLimits (game_of game.now) }
     requires dealable { IsDealable (game_of game.now) }
-    ensures { IfOk result (λ h. AreHands (game_of game.now) (round_count (game_of game.now)) h.paths h.owns.items h.publics.items h.own h.public) }
+    ensures { IfOk result (λ h. AreKeptCards (game_of game.now) (round_count (game_of game.now)) h.paths h.owns.items h.publics.items h.own h.public) }
 {
     let paths = first_path(alloc)?;
     let owns = Vec::new(alloc);

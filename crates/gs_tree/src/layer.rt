@@ -4,7 +4,7 @@ ghost use Rattle.std.specs.Prelude.{◌≡◌, ◌≤◌, ◌<◌, ◌++◌, ◌
 ghost use Rattle.gs_card.specs.Decks.{kinds};
 ghost use Rattle.gs_tree.specs.{Shown.{cards_of, seen_of}, Layers.{showing}};
 ghost use Rattle.gs_model.specs.{Cards.{left_after}, Cards.{groups, groups_above, groups_with, ways}, Signals.{showings, edge}};
-ghost use Rattle.gs_game.specs.Games.{round_of};
+ghost use Rattle.gs_game.specs.Games.{round_rules};
 
 use crate::few::FewCards;
 use crate::ways::Ways;
@@ -185,9 +185,9 @@ pub(crate) fn push_showings(
     requires few_copies { All (λ n. n ≤ 9) left.now }
     requires small_private { round.now.private ≤ 3 }
     requires small_public { round.now.public ≤ 3 }
-    ensures shown { OnOk result (map seen_of layer.new.shown.items ≡ map seen_of layer.old.shown.items ++ showings left.now (round_of round.now)) }
+    ensures shown { OnOk result (map seen_of layer.new.shown.items ≡ map seen_of layer.old.shown.items ++ showings left.now (round_rules round.now)) }
     ensures firsts { layer.new.firsts.items ≡ layer.old.firsts.items }
-    ensures edges { OnOk result (layer.new.edges ≡ layer.old.edges ++ map (edge left.now) (showings left.now (round_of round.now))) }
+    ensures edges { OnOk result (layer.new.edges ≡ layer.old.edges ++ map (edge left.now) (showings left.now (round_rules round.now))) }
 {
     for own in &deck.groups(alloc, left, round.private)? {
         let rest = left_without(alloc, left, own.cards())?;

@@ -5,7 +5,7 @@ ghost use Rattle.gs_card.specs.Rankings.{ranking_of};
 ghost use Rattle.gs_game.specs.{Games.{game_of}, Limits.{IsDealable, IsWithinLimits}};
 ghost use Rattle.gs_model.specs.{Game.{round_count}, Signals.{signal_at, signals}, ViewTree.{signal_strength}};
 ghost use Rattle.gs_rank.specs.Hands.{IsStrength};
-ghost use Rattle.gs_tree.specs.{Kept.{AreHands}, Plain.{IsPlain}, Walk.{last_count}};
+ghost use Rattle.gs_tree.specs.{Kept.{AreKeptCards}, Plain.{IsPlain}, Walk.{last_count}};
 
 use crate::kept::{Hands, part};
 use gs_game::{Game, are_single};
@@ -14,7 +14,7 @@ use std::alloc::{AllocError, Global};
 
 /// Returns whether no kind of card has more than one copy and each player is dealt one private card.
 pub(crate) fn is_plain(game: &Game, hands: &Hands) -> bool
-    requires { AreHands (game_of game.now) (round_count (game_of game.now)) hands.now.paths hands.now.owns.items hands.now.publics.items hands.now.own
+    requires { AreKeptCards (game_of game.now) (round_count (game_of game.now)) hands.now.paths hands.now.owns.items hands.now.publics.items hands.now.own
         hands.now.public }
     ensures plain { IsTrue result → IsPlain (game_of game.now) }
     ensures not_plain { result ≡ false → IsPlain (game_of game.now) → last_count (game_of game.now) ≡ 0 }
@@ -26,7 +26,7 @@ pub(crate) fn is_plain(game: &Game, hands: &Hands) -> bool
 /// Returns the strength of the hand that a last-round signal holds.
 fn strength_of(ranker: &Ranker, game: &Game, hands: &Hands, signal: u32) -> u32
     requires deck { ranker.now.deck.now ≡ game.now.deck }
-    requires hands { AreHands (game_of game.now) (round_count (game_of game.now)) hands.now.paths hands.now.owns.items hands.now.publics.items hands.now.own
+    requires hands { AreKeptCards (game_of game.now) (round_count (game_of game.now)) hands.now.paths hands.now.owns.items hands.now.publics.items hands.now.own
         hands.now.public }
     requires dealable { IsDealable (game_of game.now) }
     requires signal_in { signal < last_count (game_of game.now) }
@@ -42,7 +42,7 @@ fn strength_of(ranker: &Ranker, game: &Game, hands: &Hands, signal: u32) -> u32
 
 /// Returns the strengths of the hands of all last-round signals. Fails only if memory runs out.
 pub(crate) fn strengths(alloc: Global, game: &Game, hands: &Hands) -> Result<Vec<u32>, AllocError>
-    requires hands { AreHands (game_of game.now) (round_count (game_of game.now)) hands.now.paths hands.now.owns.items hands.now.publics.items hands.now.own
+    requires hands { AreKeptCards (game_of game.now) (round_count (game_of game.now)) hands.now.paths hands.now.owns.items hands.now.publics.items hands.now.own
         hands.now.public }
     requires limits { IsWithinLimits (game_of game.now) }
     requires dealable { IsDealable (game_of game.now) }

@@ -5,7 +5,7 @@ ghost use Rattle.gs_model.specs.{Game.{round_count}, Signals.{parents as parents
 ghost use Rattle.gs_card.specs.Rankings.{ranking_of};
 ghost use Rattle.gs_rank.specs.Hands.{IsStrength};
 ghost use Rattle.gs_game.specs.Games.{game_of};
-ghost use Rattle.gs_tree.specs.{Boards.{AreBoards}, Kept.{AreHands}, Plain.{IsPlain}, Tables.{AreTables}, Walk.{last_count}};
+ghost use Rattle.gs_tree.specs.{Boards.{AreBoards}, Kept.{AreKeptCards}, Plain.{IsPlain}, Tables.{AreTables}, Walk.{last_count}};
 
 use crate::boards::{Boards, link_boards};
 use crate::deal::Deal;
@@ -45,7 +45,7 @@ pub struct Signals<'g> {
     ghost listed: { AreTables (game_of game.now.game) tables.parents.items tables.layers.items },
     ghost ranked: { strengths.items ≡ map (signal_strength (game_of game.now.game)) (signals (game_of game.now.game) (round_count (game_of game.now.game))) },
     ghost beside: { AreBoards (game_of game.now.game) boards.firsts.items boards.nexts.items },
-    ghost dealt: { AreHands (game_of game.now.game) (round_count (game_of game.now.game)) hands.paths hands.owns.items hands.publics.items hands.own
+    ghost dealt: { AreKeptCards (game_of game.now.game) (round_count (game_of game.now.game)) hands.paths hands.owns.items hands.publics.items hands.own
         hands.public },
     ghost strong: { All (IsStrength (ranking_of game.now.game.ranking)) strengths.items },
     ghost even: { IsTrue plain → IsPlain (game_of game.now.game) },

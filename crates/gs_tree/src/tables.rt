@@ -1,7 +1,7 @@
 //! The tables of all signals of a game.
 
 ghost use Rattle.std.specs.Prelude.{◌≡◌, ◌≤◌, ◌<◌, ◌+◌, suc, [], ◌++◌, ◌/◌, All, IfOk, OnOk, length, string_bytes};
-ghost use Rattle.gs_game.specs.{Games.{game_of, round_of}, Limits.{IsDealable, IsWithinLimits}};
+ghost use Rattle.gs_game.specs.{Games.{game_of, round_rules}, Limits.{IsDealable, IsWithinLimits}};
 ghost use Rattle.gs_model.specs.{Game.{round_at, round_count}, Signals.{signals, signal_at, left_by}};
 ghost use Rattle.gs_model.specs.{Signals.{parents as parents_in}, Cards.{ways, left_after}};
 ghost use Rattle.gs_card.specs.Decks.{kinds};
@@ -108,7 +108,7 @@ impl Tables {
     ) -> Result<Grown, AllocError>
         requires tables { AreTables (game_of game.now) self.now.parents.items self.now.layers.items }
         requires counted { count ≡ length (signals (game_of game.now) (length self.now.layers.items)) }
-        requires round { round_of next.now ≡ round_at (game_of game.now) (suc (length self.now.layers.items)) }
+        requires round { round_rules next.now ≡ round_at (game_of game.now) (suc (length self.now.layers.items)) }
         requires few { length (signals (game_of game.now) (suc (length self.now.layers.items))) ≤ 200000 }
         requires private { next.now.private ≤ 3 }
         requires public { next.now.public ≤ 3 }

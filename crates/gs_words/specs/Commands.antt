@@ -18,12 +18,12 @@ abbrev pub classes : OptionOf
 classes = record { name = codes "classes"; is_required = false; rule = Some (λ word. is_some (grouping_of word)) }
 
 -- a required option with a value that obeys a rule
-abbrev pub required : List ℕ → (List ℕ → Bool) → OptionOf
-required name obeys = record { name = name; is_required = true; rule = Some obeys }
+abbrev pub required_option : List ℕ → (List ℕ → Bool) → OptionOf
+required_option name obeys = record { name = name; is_required = true; rule = Some obeys }
 
 -- a required option with a number from `least` to `most`
 abbrev pub numbered : List ℕ → ℕ → ℕ → OptionOf
-numbered name least most = required name (λ word. is_some (number_in least most word))
+numbered name least most = required_option name (λ word. is_some (number_in least most word))
 
 -- a command of the program: the word that names it, and its options
 pub record CommandEntry : Type 0 where
@@ -39,12 +39,13 @@ entry_of Play = record { word = codes "play"; options = classes ∷ numbered (co
 entry_of Evaluate = record { word = codes "evaluate"; options = [] }
 entry_of Query = record {
   word = codes "query";
-  options = numbered (codes "player") 1 2 ∷ required (codes "line") (λ word. true) ∷ required (codes "signal") (λ word. true) ∷ [];
+  options = numbered (codes "player") 1 2 ∷ required_option (codes "line") (λ word. true) ∷ required_option (codes "signal") (λ word. true) ∷ [];
 }
 entry_of Make = record {
   word = codes "make";
   options =
-      required (codes "kind") (λ word. is_some (kind_of word)) ∷ numbered (codes "ranks") 1 13 ∷ numbered (codes "suits") 1 4 ∷ numbered (codes "cap") 0 8
+      required_option (codes "kind") (λ word. is_some (kind_of word)) ∷ numbered (codes "ranks") 1 13 ∷ numbered (codes "suits") 1 4
+      ∷ numbered (codes "cap") 0 8
       ∷ summary ∷ [];
 }
 entry_of Upgrade = record { word = codes "upgrade"; options = [] }

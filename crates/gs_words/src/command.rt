@@ -2,7 +2,7 @@
 
 ghost use Rattle.std.specs.Prelude.{◌≡◌, List, [], ◌∷◌, ◌++◌, IfOk, false, true};
 ghost use Rattle.clap.specs.Words.{rule_of};
-ghost use Rattle.gs_words.specs.Commands.{classes, required, summary};
+ghost use Rattle.gs_words.specs.Commands.{classes, required_option, summary};
 ghost use Rattle.gs_words.specs.Program.{Is, app_for, bare, program as whole, rule_for, with_commands};
 ghost use Rattle.gs_words.specs.declared.names.CommandName.{CommandName};
 ghost use Rattle.gs_words.specs.declared.names.CommandName.TheVariants as name;
@@ -31,7 +31,7 @@ fn classes_option<'a>(alloc: Global) -> Arg<'a>
 
 // Returns a required option with one value.
 fn required_value<'a>(alloc: Global, name: &'a str) -> Arg<'a>
-    ensures rule { rule_of result ≡ rule_for (required name.entry.now (λ _. true)) }
+    ensures rule { rule_of result ≡ rule_for (required_option name.entry.now (λ _. true)) }
     ensures local { result.global ≡ false }
 {
     Arg::new(alloc, name).long(name).required(true)

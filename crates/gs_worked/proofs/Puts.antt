@@ -3,7 +3,7 @@ use Rattle.std.proofs.{Common.{ℕ, ◌≡◌, ◌+◌, ◌==◌, [], ◌∷◌,
 use Rattle.std.specs.Prelude.{if◌then◌else◌}
 use Rattle.gs_model.specs.{Betting.{Bet, Moves, act, fold, even, none, move}, Positions.{End}}
 use Rattle.gs_model.specs.Walk.{Place, Walked, after_move, fold_end, walk_moves, walk_rounds, walk_start, walk_tree}
-use Rattle.gs_worked.specs.Puts.{Paid, PutChips, chips_one, chips_two, ways, ways_from, ways_of}
+use Rattle.gs_worked.specs.Puts.{Paid, PutChips, chips_one, chips_two, ways, ways_through, ways_of}
 
 -- what both have put at a place, behind the moves so far
 record HasPut (ante : ℕ) (p : Place) (before : List Paid) : Type 0 where
@@ -66,10 +66,10 @@ mutual
       joined ante first.ends _ _ _ (in_tree ante go_on on h next here _ (moved ante p before player point choice chips k))
       (in_moves ante go_on on h moves player point (choice + 1) _ before (record { one = k.one; two = k.two }))
 
-in_rounds : (ante : ℕ) (ts : List Bet) → GoesOn ante (walk_rounds ts) (ways_from ts)
+in_rounds : (ante : ℕ) (ts : List Bet) → GoesOn ante (walk_rounds ts) (ways_through ts)
 in_rounds ante [] p before k = (k.one, tt)
 in_rounds ante (t ∷ ts) p before k =
-    in_tree ante (walk_rounds ts) (ways_from ts) (in_rounds ante ts) t (record p { round = p.round + 1 }) before (record { one = k.one; two = k.two })
+    in_tree ante (walk_rounds ts) (ways_through ts) (in_rounds ante ts) t (record p { round = p.round + 1 }) before (record { one = k.one; two = k.two })
 
-pub puts_are_chips : (ante : ℕ) (trees : List Bet) → PutChips ante (walk_rounds trees (walk_start ante)).ends (ways_from trees [])
+pub puts_are_chips : (ante : ℕ) (trees : List Bet) → PutChips ante (walk_rounds trees (walk_start ante)).ends (ways_through trees [])
 puts_are_chips ante trees = in_rounds ante trees (walk_start ante) [] (record { one = omega arith; two = omega arith })

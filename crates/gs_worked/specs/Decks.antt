@@ -15,8 +15,8 @@ single_cards suits kinds = record {
 }
 
 -- the signal of one own card
-abbrev pub seen : ℕ → Signal
-seen card = record { own = card ∷ []; public = [] } ∷ []
+abbrev pub card_signal : ℕ → Signal
+card_signal card = record { own = card ∷ []; public = [] } ∷ []
 
 -- jack, queen and king in two suits
 abbrev pub two_suits : Game
@@ -28,12 +28,12 @@ one_rank = single_cards 4 4
 
 -- six hands, thirty deals; both jacks tie once and lose four times, both queens win twice, tie once and lose twice, both kings win four times and tie once
 pub record TwoSuits : Type 0 where
-  pub hands : signals two_suits 1 ≡ seen 0 ∷ seen 1 ∷ seen 2 ∷ seen 3 ∷ seen 4 ∷ seen 5 ∷ []
+  pub hands : signals two_suits 1 ≡ card_signal 0 ∷ card_signal 1 ∷ card_signal 2 ∷ card_signal 3 ∷ card_signal 4 ∷ card_signal 5 ∷ []
   pub count : length (deals two_suits) ≡ 30
   pub weight : sum_by (λ (d : Deal). d.weight) (deals two_suits) ≡ 30
-  pub jack : leaves two_suits (seen 0) ≡ (1, pos 0) ∷ (1, negsuc 0) ∷ (1, negsuc 0) ∷ (1, negsuc 0) ∷ (1, negsuc 0) ∷ []
-  pub queen : leaves two_suits (seen 2) ≡ (1, pos 1) ∷ (1, pos 1) ∷ (1, pos 0) ∷ (1, negsuc 0) ∷ (1, negsuc 0) ∷ []
-  pub king : leaves two_suits (seen 4) ≡ (1, pos 1) ∷ (1, pos 1) ∷ (1, pos 1) ∷ (1, pos 1) ∷ (1, pos 0) ∷ []
+  pub jack : leaves two_suits (card_signal 0) ≡ (1, pos 0) ∷ (1, negsuc 0) ∷ (1, negsuc 0) ∷ (1, negsuc 0) ∷ (1, negsuc 0) ∷ []
+  pub queen : leaves two_suits (card_signal 2) ≡ (1, pos 1) ∷ (1, pos 1) ∷ (1, pos 0) ∷ (1, negsuc 0) ∷ (1, negsuc 0) ∷ []
+  pub king : leaves two_suits (card_signal 4) ≡ (1, pos 1) ∷ (1, pos 1) ∷ (1, pos 1) ∷ (1, pos 1) ∷ (1, pos 0) ∷ []
   pub jacks : SameClass two_suits 1 (signal_at two_suits 1 0) (signal_at two_suits 1 1)
   pub queens : SameClass two_suits 1 (signal_at two_suits 1 2) (signal_at two_suits 1 3)
   pub kings : SameClass two_suits 1 (signal_at two_suits 1 4) (signal_at two_suits 1 5)
@@ -43,9 +43,9 @@ pub record TwoSuits : Type 0 where
 
 -- four hands, twelve deals, all ties, one class
 pub record OneRank : Type 0 where
-  pub hands : signals one_rank 1 ≡ seen 0 ∷ seen 1 ∷ seen 2 ∷ seen 3 ∷ []
+  pub hands : signals one_rank 1 ≡ card_signal 0 ∷ card_signal 1 ∷ card_signal 2 ∷ card_signal 3 ∷ []
   pub count : length (deals one_rank) ≡ 12
   pub weight : sum_by (λ (d : Deal). d.weight) (deals one_rank) ≡ 12
-  pub ties : leaves one_rank (seen 1) ≡ (1, pos 0) ∷ (1, pos 0) ∷ (1, pos 0) ∷ []
-  pub alike : SameClass one_rank 1 (seen 0) (signal_at one_rank 1 0) × SameClass one_rank 1 (seen 0) (signal_at one_rank 1 1)
-      × SameClass one_rank 1 (seen 0) (signal_at one_rank 1 2) × SameClass one_rank 1 (seen 0) (signal_at one_rank 1 3)
+  pub ties : leaves one_rank (card_signal 1) ≡ (1, pos 0) ∷ (1, pos 0) ∷ (1, pos 0) ∷ []
+  pub alike : SameClass one_rank 1 (card_signal 0) (signal_at one_rank 1 0) × SameClass one_rank 1 (card_signal 0) (signal_at one_rank 1 1)
+      × SameClass one_rank 1 (card_signal 0) (signal_at one_rank 1 2) × SameClass one_rank 1 (card_signal 0) (signal_at one_rank 1 3)

@@ -21,9 +21,9 @@ abbrev mutual
       ways go_on (before ++ record { player = player; chips = chips } ∷ []) next ++ ways_of go_on before player moves
 
 -- the ways through the rounds that are left; after the last one each even leaf is an end
-abbrev pub ways_from : List Bet → List Paid → List (List Paid)
-ways_from [] before = before ∷ []
-ways_from (t ∷ ts) before = ways (ways_from ts) before t
+abbrev pub ways_through : List Bet → List Paid → List (List Paid)
+ways_through [] before = before ∷ []
+ways_through (t ∷ ts) before = ways (ways_through ts) before t
 
 -- the chips that player 1 puts on a way
 abbrev pub chips_one : List Paid → ℕ
@@ -34,18 +34,18 @@ abbrev pub chips_two : List Paid → ℕ
 chips_two way = sum_by (λ (m : Paid). if m.player == 1 then 0 else m.chips) way
 
 -- the chips of the player who folded; at a showdown those of player 1, which in a valid game equal those of player 2
-abbrev pub chips_at : EndKind → List Paid → ℕ
-chips_at Folded1 way = chips_one way
-chips_at Folded2 way = chips_two way
-chips_at Show way = chips_one way
+abbrev pub chips_at_end : EndKind → List Paid → ℕ
+chips_at_end Folded1 way = chips_one way
+chips_at_end Folded2 way = chips_two way
+chips_at_end Show way = chips_one way
 
 -- there are as many ends as ways, and each end puts the ante and the chips of its way
 abbrev pub PutChips : ℕ → List End → List (List Paid) → Type 0
 PutChips ante [] [] = Unit {0}
 PutChips ante [] (way ∷ ways) = ⊥
 PutChips ante (z ∷ zs) [] = ⊥
-PutChips ante (z ∷ zs) (way ∷ ways) = (z.put ≡ ante + chips_at z.kind way) × PutChips ante zs ways
+PutChips ante (z ∷ zs) (way ∷ ways) = (z.put ≡ ante + chips_at_end z.kind way) × PutChips ante zs ways
 
 -- each end of a game, from its ante and its trees, puts the ante and the chips of its way
 abbrev pub PutsAreChips : Type 0
-PutsAreChips = (ante : ℕ) (trees : List Bet) → PutChips ante (walk ante trees).ends (ways_from trees [])
+PutsAreChips = (ante : ℕ) (trees : List Bet) → PutChips ante (walk ante trees).ends (ways_through trees [])

@@ -1,7 +1,7 @@
 use Rattle.std.proofs.{Common.{Result, Ok, Err, ◌≡◌, ℕ, ◌+◌, List, ◌++◌, ℤ, length, take, drop, sym, subst, ◌∙◌, arith}, lemmas.List.{take_at}}
 use Rattle.gs_rows.specs.{declared.Program.{Program}, Program.{Listing}, Path.{PathStops, ends}}
 use Rattle.gs_simplex.specs.{declared.answer.Best.{Best}, declared.table.Table.{Table}, Table.{IsTableOf}, State.{IsEnd}}
-use Rattle.gs_simplex.specs.{Answer.{IsSmall, IsStop, IsAnswer, IsBest, IsBestAt, IsBestTable}, declared.answer.Stop.{Stop}}
+use Rattle.gs_simplex.specs.{Answer.{IsSmallTable, IsStop, IsAnswer, IsBest, IsBestAt, IsBestTable}, declared.answer.Stop.{Stop}}
 use Rattle.std.specs.Result.{IsErrAnd}
 use Rattle.gs_simplex.proofs.Paths.{rows_of_so_far, ends_stops}
 use Rattle.gs_simplex.proofs.run.Goals as goal
@@ -14,7 +14,7 @@ end_rows p o limit n l l' t xs u el ex =
     let P : Listing → Type 0 = λ x. IsTableOf p x xs in let Q : List ℤ → Type 0 = λ x. IsTableOf p l x in
     subst P (sym el) (subst Q (sym ex) (rows_of_so_far p o (length o + n) l t.numbers.items u.state.so_far))
 
-best_of : (p : Program) (o : Listing) (limit n : ℕ) (l l' : Listing) (t : Table) (b : Best) → IsSmall p → IsEnd p o limit n l t → l' ≡ l → IsBestTable p l' n b → IsBest p o limit b
+best_of : (p : Program) (o : Listing) (limit n : ℕ) (l l' : Listing) (t : Table) (b : Best) → IsSmallTable p → IsEnd p o limit n l t → l' ≡ l → IsBestTable p l' n b → IsBest p o limit b
 best_of p o limit n l l' t b small u el w =
     let stop : PathStops p o limit (ends n l) = ends_stops p o limit n l t.numbers.items u.state.so_far u.state.table u.within u.none in
     let P : ℕ → Type 0 = λ k. PathStops p o limit (ends k b.basis.items) in let Q : Listing → Type 0 = λ x. PathStops p o limit (ends n x) in

@@ -1,5 +1,5 @@
 use Rattle.std.proofs.{Common.{◌≡◌, ◌+◌, ◌*◌, ◌<◌, ◌∙◌, ℕ, List, ap, arith, get_or, length, subst, sym}, lemmas.List.{get_or-map}}
-use Rattle.gs_alike.specs.{Boards.{levels_in, signals_in}, declared.board.Seat.{Seat}}
+use Rattle.gs_alike.specs.{Boards.{levels_in, seat_signals}, declared.board.Seat.{Seat}}
 use Rattle.gs_alike.proofs.{Filled.{hand_of, none_filled, one_filled}, Seats.{none}}
 use Rattle.gs_alike.proofs.kinds.list_hands.Goals as goal
 
@@ -17,6 +17,6 @@ loop-place-preserved c =
     let l : n < length seats = subst (λ (s : List Seat). n < length s) read c.loop-place-test.true in
     let level : c.from.result ≡ get_or (levels_in seats) n 0 =
     c.from.ensures ∙ ap (λ (s : List Seat). (get_or s n none).level) read ∙ sym (get_or-map (λ (s : Seat). s.level) seats n none 0 l) in
-    let key : c.from-in-loop-place.result ≡ get_or keys (get_or (signals_in seats) n 0) 0 =
+    let key : c.from-in-loop-place.result ≡ get_or keys (get_or (seat_signals seats) n 0) 0 =
     c.from-in-loop-place.ensures ∙ ap (λ (s : List Seat). get_or keys (get_or s n none).signal 0) read ∙ ap (λ (k : ℕ). get_or keys k 0) (sym (get_or-map (λ (s : Seat). s.signal) seats n none 0 l)) in
     one_filled (hand_of c.args.board.now keys) c.loop-place.hands.items seats n (c.from.result * 4294967296 + c.from-in-loop-place.result) c.loop-place.invariant l (omega (arith, level, key))

@@ -1,10 +1,10 @@
 use Rattle.std.proofs.Common.{◌<◌, ℕ, List, arith, get_or, length, subst, sym}
-use Rattle.gs_alike.specs.{Boards.{signals_in}, declared.board.Seat.{Seat}}
+use Rattle.gs_alike.specs.{Boards.{seat_signals}, declared.board.Seat.{Seat}}
 use Rattle.gs_alike.proofs.{Marked.{MayMark, may_none, may_seat}, Seats.{none}, marks.mark_board.Goals.{in-Some, in_default}}
 use Rattle.gs_alike.proofs.marks.mark_board.Goals as goal
 
 pub loop-place-init : goal.loop-place-init
-loop-place-init c = may_none (signals_in c.args.seats.now) c.args.hands.now (signals_in c.args.others.now) c.args.other_hands.now c.args.marks.now
+loop-place-init c = may_none (seat_signals c.args.seats.now) c.args.hands.now (seat_signals c.args.others.now) c.args.other_hands.now c.args.marks.now
 
 pub loop-place-preserved : goal.loop-place-preserved
 loop-place-preserved c =
@@ -15,7 +15,7 @@ loop-place-preserved c =
     let old : List ℕ = c.args.marks.now in
     let now : List ℕ = c.loop-place.marks in
     let place : ℕ = c.loop-place.place in
-    let M : List ℕ → Type 0 = λ m. MayMark (signals_in seats) hands (signals_in others) other_hands old m in
+    let M : List ℕ → Type 0 = λ m. MayMark (seat_signals seats) hands (seat_signals others) other_hands old m in
     elim c.match-find.branch [
       | in-Some w ↦
           let one : place < length seats = omega (arith, c.loop-place-test.true, c.requires.hands) in

@@ -1,7 +1,7 @@
 use Rattle.std.proofs.lemmas.Result.{IfOk-weaker}
 use Rattle.gs_game.specs.Games.{game_of}
 use Rattle.gs_model.proofs.Exchanged.{exchanged_one}
-use Rattle.gs_seq.specs.{Abstracts.{frame_of, lists_of}, Plans.{class_plan}}
+use Rattle.gs_seq.specs.{Abstracts.{abstract_frame, lists_of}, Plans.{class_plan}}
 use Rattle.gs_best.specs.Forms.{game_in}
 use Rattle.gs_best.proofs.{Forms.{form_classes, form_in_range, form_lossless, form_walked}, Paid.{first_is_paid}, Totals.{first_gains_most}}
 use Rattle.gs_best.proofs.answers.best.Goals as goal
@@ -10,14 +10,14 @@ pub returns-clause-bound : goal.returns-clause-bound
 returns-clause-bound c =
     let a = c.args.form.now in
     IfOk-weaker c.put_all.result _ _
-    (λ x h. first_gains_most (frame_of a) (form_in_range a) (lists_of a) (form_classes a) (form_lossless a) c.args.player (form_walked a c.args.player c.requires.some c.requires.two) (class_plan (frame_of a) (lists_of a) x)
-    (class_plan (frame_of a) (lists_of a) c.args.other.now) h)
+    (λ x h. first_gains_most (abstract_frame a) (form_in_range a) (lists_of a) (form_classes a) (form_lossless a) c.args.player (form_walked a c.args.player c.requires.some c.requires.two) (class_plan (abstract_frame a) (lists_of a) x)
+    (class_plan (abstract_frame a) (lists_of a) c.args.other.now) h)
     c.put_all.ensures.best
 
 pub returns-clause-paid : goal.returns-clause-paid
 returns-clause-paid c =
     let a = c.args.form.now in
     IfOk-weaker c.put_all.result _ _
-    (λ x h. first_is_paid (frame_of a) (form_in_range a) (lists_of a) (form_classes a) (form_lossless a) (exchanged_one (game_of (game_in a).game)) c.args.player c.requires.some c.requires.two
-    (form_walked a c.args.player c.requires.some c.requires.two) (class_plan (frame_of a) (lists_of a) x) (class_plan (frame_of a) (lists_of a) c.args.other.now) h)
+    (λ x h. first_is_paid (abstract_frame a) (form_in_range a) (lists_of a) (form_classes a) (form_lossless a) (exchanged_one (game_of (game_in a).game)) c.args.player c.requires.some c.requires.two
+    (form_walked a c.args.player c.requires.some c.requires.two) (class_plan (abstract_frame a) (lists_of a) x) (class_plan (abstract_frame a) (lists_of a) c.args.other.now) h)
     c.put_all.ensures.best

@@ -4,7 +4,7 @@ use mir.Syntax.{w128}
 use Rattle.gs_filter.specs.Filter.{Filter}
 use Rattle.gs_lossless.specs.declared.checking.Lossless.{Lossless}
 use Rattle.gs_model.specs.{BestAnswers.{end_worth}, Classes.{IsClass, class_size, first_member}, Frame.{round_of}, Positions.{at_end}}
-use Rattle.gs_seq.specs.{Abstracts.{frame_of, lists_of}, Plans.{class_plan, lifted}}
+use Rattle.gs_seq.specs.{Abstracts.{abstract_frame, lists_of}, Plans.{class_plan, lifted}}
 use Rattle.gs_best.proofs.{Shares.{end_share, some_member}, Forms.{form_classes, form_in_range, form_lossless, form_walked}, Sides.{frame, lists}}
 use Rattle.gs_best.proofs.ends.end_value.Goals as goal
 
@@ -13,7 +13,7 @@ over-requires c =
     let a = c.args.side.now.form.now in
     let held : c.classes.result.now ≡ a.lossless.now.classes.now = c.classes.ensures.held ∙ ap (λ (l : Lossless). l.classes.now) c.lossless.ensures in
     let here = subst (λ j. IsClass (lists_of a) j c.args.class) (sym c.end_round.ensures.value) c.requires.class in
-    let some = some_member (frame_of a) (lists_of a) (form_classes a) c.end_round.result c.args.class c.end_round.ensures.some c.end_round.ensures.top here in
+    let some = some_member (abstract_frame a) (lists_of a) (form_classes a) c.end_round.result c.args.class c.end_round.ensures.some c.end_round.ensures.top here in
     omega (arith, c.size-members.ensures, ap (λ (k : Filter). class_size k.lists c.end_round.result c.args.class) held, some)
 
 pub returns : goal.returns

@@ -4,7 +4,7 @@ use mir.Syntax.{w128}
 use Rattle.gs_filter.specs.Filter.{Filter}
 use Rattle.gs_lossless.specs.declared.checking.Lossless.{Lossless}
 use Rattle.gs_model.specs.Classes.{class_size}
-use Rattle.gs_seq.specs.Abstracts.{frame_of, lists_of}
+use Rattle.gs_seq.specs.Abstracts.{abstract_frame, lists_of}
 use Rattle.gs_best.proofs.{Forms.{form_classes}, Shares.{some_member}}
 use Rattle.gs_best.proofs.ends.share.Goals as goal
 
@@ -12,7 +12,7 @@ pub over-requires : goal.over-requires
 over-requires c =
     let a = c.args.form.now in
     let held : c.classes.result.now ≡ a.lossless.now.classes.now = c.classes.ensures.held ∙ ap (λ (l : Lossless). l.classes.now) c.lossless.ensures in
-    let some = some_member (frame_of a) (lists_of a) (form_classes a) c.args.round c.args.class c.requires.some c.requires.top c.requires.class in
+    let some = some_member (abstract_frame a) (lists_of a) (form_classes a) c.args.round c.args.class c.requires.some c.requires.top c.requires.class in
     omega (arith, c.size.ensures, ap (λ (k : Filter). class_size k.lists c.args.round c.args.class) held, some)
 
 pub returns : goal.returns

@@ -1,11 +1,11 @@
 use Rattle.std.proofs.Common.{◌≡◌, ap, arith, vec_len}
 use Rattle.gs_game.specs.declared.positions.Point.{Point}
 use Rattle.gs_model.specs.Frame.{move_count}
-use Rattle.gs_seq.specs.Abstracts.{frame_of}
+use Rattle.gs_seq.specs.Abstracts.{abstract_frame}
 use Rattle.gs_best.proofs.{Forms.{form_moves, form_reads}, form.move_total.Goals.{After-len}}
 use Rattle.gs_best.proofs.form.move_total.Goals as goal
 
-counted : (c : After-len) → c.len.result ≡ move_count (frame_of c.args.form.now) c.args.point
+counted : (c : After-len) → c.len.result ≡ move_count (abstract_frame c.args.form.now) c.args.point
 counted c =
     let r = form_reads c.args.form.now c.game.result.now c.points.result.now c.args.point c.index-points-point.result c.game.ensures c.points.ensures c.requires c.index-points-point.is in
     omega (arith, c.len.ensures, ap (λ (p : Point). vec_len p.moves) c.index-points-point.is, c.index-points-point.result.moves.ok.0, r.moves)

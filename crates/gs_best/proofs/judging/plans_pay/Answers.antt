@@ -1,18 +1,18 @@
 use Rattle.std.proofs.Common.{ℕ, List, length, ap, arith}
 use Rattle.std.specs.Prelude.{ℤ}
 use Rattle.gs_model.specs.{Frame.{round_of}, Positions.{at_end}}
-use Rattle.gs_seq.specs.Abstracts.{frame_of}
+use Rattle.gs_seq.specs.Abstracts.{abstract_frame}
 use Rattle.gs_best.proofs.Forms.{form_walked}
 use Rattle.gs_best.proofs.judging.plans_pay.Goals as goal
 
 pub payoff_in-requires-clause-sums : goal.payoff_in-requires-clause-sums
 payoff_in-requires-clause-sums c =
-    let f = frame_of c.args.form.now in
+    let f = abstract_frame c.args.form.now in
     let w = form_walked c.args.form.now 1 (omega arith) (omega arith) in
     λ z l. omega (arith, c.requires.room.ends (round_of f (at_end z)) (w.end_round z l) (w.end_in z l), ap (λ (l : List ℤ). length l) c.deref_mut.ensures.value)
 
 pub payoff_in-requires-clause-numbers : goal.payoff_in-requires-clause-numbers
 payoff_in-requires-clause-numbers c =
-    let f = frame_of c.args.form.now in
+    let f = abstract_frame c.args.form.now in
     let w = form_walked c.args.form.now 1 (omega arith) (omega arith) in
     λ z l. omega (arith, c.requires.room.numbers (round_of f (at_end z)) (w.end_round z l) (w.end_in z l), ap (λ (l : List ℕ). length l) c.deref_mut-2.ensures.value)

@@ -4,38 +4,38 @@ use mir.Syntax.{w128}
 use Rattle.gs_game.specs.Games.{game_of}
 use Rattle.gs_model.specs.{BestAnswers.{spread, start_sum}, Frame.{total_weight}, Payoff.{raw_payoff}, Plans.{lift}}
 use Rattle.gs_model.proofs.{Exchanged.{exchanged_one}, FirstBest.{verdict_from}}
-use Rattle.gs_seq.specs.{Abstracts.{frame_of, lists_of}, Plans.{class_plan}}
+use Rattle.gs_seq.specs.{Abstracts.{abstract_frame, lists_of}, Plans.{class_plan}}
 use Rattle.gs_best.specs.{Forms.{game_in}, Judged.{parts}, Sizes.{IsRoomy}}
 use Rattle.gs_best.proofs.{Forms.{form_classes, form_in_range, form_lossless, form_walked}, Rooms.{has_room, holds_all, roomy}, Totals.{paid_small}}
 use Rattle.gs_best.proofs.judging.verdict.Goals.{After-plans_pay-paid}
 use Rattle.gs_best.proofs.judging.verdict.Goals as goal
 
-paid_is : (c : After-plans_pay-paid) → let f = frame_of c.args.form.now in let lists = lists_of c.args.form.now in
+paid_is : (c : After-plans_pay-paid) → let f = abstract_frame c.args.form.now in let lists = lists_of c.args.form.now in
     to_z w128 (of_z w128 c.plans_pay-paid.result) ≡ raw_payoff f (lift f lists (class_plan f lists c.args.one.now)) (lift f lists (class_plan f lists c.args.two.now))
 paid_is c = to_z-of_z w128 c.plans_pay-paid.result (record { sfits = c.plans_pay-paid.type_inv }) ∙ c.plans_pay-paid.ensures.paid
 
 pub best_total-requires-clause-holds : goal.best_total-requires-clause-holds
 best_total-requires-clause-holds c =
     let a = c.args.form.now in
-    holds_all (frame_of a) (lists_of a) (form_walked a 1 (omega arith) (omega arith)) c.work.inside.table c.work.inside.scratch (subst (λ l. IsRoomy l c.work.inside.table c.work.inside.scratch) (c.work.view_is ∙ c.requires.room) c.work.invariant)
+    holds_all (abstract_frame a) (lists_of a) (form_walked a 1 (omega arith) (omega arith)) c.work.inside.table c.work.inside.scratch (subst (λ l. IsRoomy l c.work.inside.table c.work.inside.scratch) (c.work.view_is ∙ c.requires.room) c.work.invariant)
 
 pub best_total-requires-clause-room : goal.best_total-requires-clause-room
-best_total-requires-clause-room c = has_room (frame_of c.args.form.now) (lists_of c.args.form.now) c.work.inside.table c.work.inside.scratch (subst (λ l. IsRoomy l c.work.inside.table c.work.inside.scratch) (c.work.view_is ∙ c.requires.room) c.work.invariant)
+best_total-requires-clause-room c = has_room (abstract_frame c.args.form.now) (lists_of c.args.form.now) c.work.inside.table c.work.inside.scratch (subst (λ l. IsRoomy l c.work.inside.table c.work.inside.scratch) (c.work.view_is ∙ c.requires.room) c.work.invariant)
 
 pub judged-requires-clause-paid : goal.judged-requires-clause-paid
 judged-requires-clause-paid c =
     let a = c.args.form.now in
     let paid = paid_is (goal.at.judged-requires-clause-paid c).After-plans_pay-paid in
     let small =
-    paid_small (frame_of a) (form_in_range a) (lists_of a) (form_classes a) (form_lossless a) (form_walked a 1 (omega arith) (omega arith)) (form_walked a 2 (omega arith) (omega arith)) (exchanged_one (game_of (game_in a).game))
-    (class_plan (frame_of a) (lists_of a) c.args.one.now) (class_plan (frame_of a) (lists_of a) c.args.two.now) c.requires.one.plan.plan c.requires.two.plan.plan c.best_total.result c.best_total-2.result c.best_total.ensures.total c.best_total-2.ensures.total
+    paid_small (abstract_frame a) (form_in_range a) (lists_of a) (form_classes a) (form_lossless a) (form_walked a 1 (omega arith) (omega arith)) (form_walked a 2 (omega arith) (omega arith)) (exchanged_one (game_of (game_in a).game))
+    (class_plan (abstract_frame a) (lists_of a) c.args.one.now) (class_plan (abstract_frame a) (lists_of a) c.args.two.now) c.requires.one.plan.plan c.requires.two.plan.plan c.best_total.result c.best_total-2.result c.best_total.ensures.total c.best_total-2.ensures.total
     c.best_total.ensures.small c.best_total-2.ensures.small in
     omega (arith, ap unsigned_abs paid, small)
 
 pub invariant_of-work : goal.invariant_of-work
 invariant_of-work c =
     let a = c.args.form.now in
-    let f = frame_of a in
+    let f = abstract_frame a in
     let lists = lists_of a in
     let w1 = form_walked a 1 (omega arith) (omega arith) in
     let t = c.best_total-2.new.table in
@@ -45,7 +45,7 @@ invariant_of-work c =
 pub returns-clause-verdict : goal.returns-clause-verdict
 returns-clause-verdict c =
     let a = c.args.form.now in
-    let f = frame_of a in
+    let f = abstract_frame a in
     let lists = lists_of a in
     let w1 = form_walked a 1 (omega arith) (omega arith) in
     let w2 = form_walked a 2 (omega arith) (omega arith) in

@@ -1,7 +1,7 @@
 use Rattle.std.proofs.Common.{◌≡◌, ◌≢◌, ◌+◌, ◌^◌, ◌<◌, ◌≤◌, ℕ, List, ◌++◌, length, take, drop, sym, ap, ◌∙◌, subst, arith, Vec}
 use Rattle.std.specs.{Prelude.{ℤ}, declared.alloc.Global.{Global}}
 use Rattle.gs_model.specs.{Classes.{ClassLists, class_count}, Frame.{Frame, move_count, player_at, round_of}, Positions.{at_point}}
-use Rattle.gs_best.specs.{Rows.{AreGreatest, AreSums, AreWorths, IsMergedBy}, Sizes.{HasRoom, IsWide}, declared.deviator.Deviator.{Deviator}}
+use Rattle.gs_best.specs.{Rows.{AreGreatest, AreSums, AreWorths, IsMergedBy}, Sizes.{HasRoomForClasses, IsWide}, declared.deviator.Deviator.{Deviator}}
 use Rattle.gs_best.specs.declared.room.Scratch.{Scratch}
 use Rattle.gs_best.proofs.{Filled.{written}, Greatest.{greatest_step, sum_fits, sum_step}, Rooms.{written_wide}}
 use Rattle.gs_best.proofs.{Sides.{frame, known_worth, known_worths, lists, worths_in}, merging.merge_moves.Goals.{After-class_total-count, then-own, else-own}}
@@ -16,7 +16,7 @@ sums_so_far : (d : Deviator) (values : List ℤ) (q n : ℕ) (old row : List ℤ
 sums_so_far d values q n old row moves so_far same other some = subst (AreSums (frame d) (lists d) (worths_in d values) q n) same ((so_far some).others other)
 
 -- rows of which two were written keep their room
-written_room : (f : Frame) (ls : ClassLists) (s : Scratch) (best : Vec ℤ Global) (moves : Vec ℕ Global) → HasRoom f ls s → IsWide f ls (length best.items) → IsWide f ls (length moves.items) → HasRoom f ls (record s { best = best; moves = moves })
+written_room : (f : Frame) (ls : ClassLists) (s : Scratch) (best : Vec ℤ Global) (moves : Vec ℕ Global) → HasRoomForClasses f ls s → IsWide f ls (length best.items) → IsWide f ls (length moves.items) → HasRoomForClasses f ls (record s { best = best; moves = moves })
 written_room f ls s best moves room wide_best wide_moves = record { numbers = room.numbers; ends = room.ends; worths = room.worths; best = wide_best; moves = wide_moves }
 
 pub add-requires-clause-fits : goal.add-requires-clause-fits
@@ -63,7 +63,7 @@ loop-choice-preserved c =
           let greatest = greatest_step f ls v q n c.class_total-count.result count w.deref.result.now worths w.deref_mut.result.now best w.deref_mut-then-own.result.now moves w.raise.ensures.raised
           (λ some. subst (λ l. AreGreatest f ls v q n l w.deref_mut-then-own.result.now) best_was (subst (λ l. AreGreatest f ls v q n c.loop-choice.scratch.best.items l) moves_were ((c.loop-choice.invariant.so_far some).own own))) in
           record {
-            room = subst (HasRoom f ls) (sym w.scratch-is)
+            room = subst (HasRoomForClasses f ls) (sym w.scratch-is)
                 (written_room f ls s _ _ room (written_wide f ls s.best.len s.best.items best (omega (arith, s.best.ok.0)) best_long room.best) (written_wide f ls s.moves.len s.moves.items moves (omega (arith, s.moves.ok.0)) moves_long room.moves));
             so_far = λ some. record {
               own = λ is. subst (λ x. AreGreatest f ls v q (n + 1) x.best.items x.moves.items) (sym w.scratch-is)
@@ -81,7 +81,7 @@ loop-choice-preserved c =
           let sums = sum_step f ls v q n c.class_total-count.result count w.deref-else-own.result.now worths w.deref_mut-else-own.result.now new w.add.ensures.added
           (sums_so_far d c.args.table.now.values.items q n _ _ c.loop-choice.scratch.moves.items c.loop-choice.invariant.so_far was other) in
           record {
-            room = subst (HasRoom f ls) (sym w.scratch-is) (written_room f ls s _ s.moves room (written_wide f ls s.best.len s.best.items new (omega (arith, s.best.ok.0)) long room.best) room.moves);
+            room = subst (HasRoomForClasses f ls) (sym w.scratch-is) (written_room f ls s _ s.moves room (written_wide f ls s.best.len s.best.items new (omega (arith, s.best.ok.0)) long room.best) room.moves);
             so_far = λ some. record {
               own = λ is. absurd (other is);
               others = λ not. subst (λ x. AreSums f ls v q (n + 1) x.best.items) (sym w.scratch-is) (subst (AreSums f ls v q (n + 1)) (sym sums_are) sums);

@@ -1,6 +1,6 @@
 use Rattle.std.proofs.Common.{◌≡◌, ◌+◌, ◌<◌, length, ap, sym, ◌∙◌, subst, arith}
 use Rattle.gs_model.specs.Frame.{player_at, point_count}
-use Rattle.gs_seq.specs.{Abstracts.{frame_of, lists_of}, Firsts.{IsClear}, Slots.{slots_before}}
+use Rattle.gs_seq.specs.{Abstracts.{abstract_frame, lists_of}, Firsts.{IsClear}, Slots.{slots_before}}
 use Rattle.gs_seq.proofs.Leaks.{slots_none}
 use Rattle.gs_best.specs.{Puts.{ArePutBefore}, Tables.{moves_of}}
 use Rattle.gs_best.proofs.{AllOn.{puts_more, puts_same}, Forms.{form_classes, form_in_range, form_walked}}
@@ -10,7 +10,7 @@ use Rattle.gs_best.proofs.putting.put_moves.Goals as goal
 pub loop-point-preserved : goal.loop-point-preserved
 loop-point-preserved c =
     let a = c.args.form.now in
-    let f = frame_of a in
+    let f = abstract_frame a in
     let lists = lists_of a in
     let move = moves_of f lists c.args.picks.now in
     let q = c.loop-point.point in
@@ -40,6 +40,6 @@ loop-point-preserved c =
 pub returns : goal.returns
 returns c =
     let a = c.args.form.now in
-    let f = frame_of a in
+    let f = abstract_frame a in
     let all : c.loop-point.point ≡ point_count f = omega (arith, c.loop-point-test.false, c.point_total-point-end.ensures, c.loop-point.auto.point-end) in
     subst (ArePutBefore f (lists_of a) c.args.player (moves_of f (lists_of a) c.args.picks.now) c.loop-point.weights) all c.loop-point.invariant.puts

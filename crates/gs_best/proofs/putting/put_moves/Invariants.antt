@@ -1,11 +1,11 @@
 use Rattle.std.proofs.Common.{◌≡◌, length}
-use Rattle.gs_seq.specs.{Abstracts.{frame_of, lists_of}, Firsts.{IsClear}, Slots.{slot_count, slots_before}}
+use Rattle.gs_seq.specs.{Abstracts.{abstract_frame, lists_of}, Firsts.{IsClear}, Slots.{slot_count, slots_before}}
 use Rattle.gs_best.specs.{Puts.{ArePutBefore}, Tables.{moves_of}}
 use Rattle.gs_best.proofs.putting.put_moves.Given as goal
 
 abbrev pub invariant-loop-point : goal.invariant-loop-point
 invariant-loop-point l =
-    let f = frame_of l.form in let lists = lists_of l.form in
+    let f = abstract_frame l.form in let lists = lists_of l.form in
     record {
       long : length l.weights ≡ slot_count f lists l.player;
       puts : ArePutBefore f lists l.player (moves_of f lists l.picks) l.weights l.point;

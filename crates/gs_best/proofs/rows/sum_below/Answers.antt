@@ -2,7 +2,7 @@ use Rattle.std.proofs.{Common.{ℕ, ◌+◌, cond, sym, ◌∙◌, arith}, lemma
 use Rattle.std.specs.Prelude.{◌==◌, ℤ, pos}
 use mir.Syntax.{w128}
 use Rattle.gs_model.specs.{Classes.{first_member}, Frame.{ancestor, signals_in}, Sums.{sum_z}}
-use Rattle.gs_seq.specs.Abstracts.{frame_of, lists_of}
+use Rattle.gs_seq.specs.Abstracts.{abstract_frame, lists_of}
 use Rattle.gs_best.specs.Rows.{value_at}
 use Rattle.gs_best.proofs.{Filled.{by_class, row_more}, Ranges.{run_is}}
 use Rattle.gs_best.proofs.rows.sum_below.Goals as goal
@@ -10,7 +10,7 @@ use Rattle.gs_best.proofs.rows.sum_below.Goals as goal
 pub loop-class-preserved : goal.loop-class-preserved
 loop-class-preserved c =
     let a = c.args.form.now in
-    let f = frame_of a in
+    let f = abstract_frame a in
     let lists = lists_of a in
     let u = value_at lists c.args.to c.args.values.now c.args.start in
     let F : ℕ → ℤ = λ k. sum_z (λ r. cond (ancestor f c.args.to c.args.from r == first_member lists c.args.from (k + 1)) (u r) (pos 0)) (signals_in f c.args.to) in
@@ -22,7 +22,7 @@ loop-class-preserved c =
 pub returns : goal.returns
 returns c =
     let a = c.args.form.now in
-    let f = frame_of a in
+    let f = abstract_frame a in
     let lists = lists_of a in
     let u = value_at lists c.args.to c.args.values.now c.args.start in
     let F : ℕ → ℤ = λ e. sum_z (λ r. cond (ancestor f c.args.to c.args.from r == first_member lists c.args.from e) (u r) (pos 0)) (signals_in f c.args.to) in

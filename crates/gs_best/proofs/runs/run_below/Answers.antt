@@ -1,7 +1,7 @@
 use Rattle.std.proofs.Common.{◌≡◌, ap, ◌∙◌, subst, arith}
 use Rattle.gs_lossless.specs.{Amounts.{IsRunIn}, declared.checking.Lossless.{Lossless}}
 use Rattle.gs_model.specs.Frame.{frame_of}
-use Rattle.gs_seq.specs.Abstracts.{frame_of as form_frame}
+use Rattle.gs_seq.specs.Abstracts.{abstract_frame as form_frame}
 use Rattle.gs_tree.specs.{Trees.{rules_of}, declared.signals.Signals.{Signals}}
 use Rattle.gs_best.proofs.Forms.{form_count, form_rounds}
 use Rattle.gs_best.proofs.runs.run_below.Goals as goal

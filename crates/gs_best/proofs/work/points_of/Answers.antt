@@ -2,14 +2,14 @@ use Rattle.std.proofs.{Common.{ℕ, cond, ap, sym, ◌∙◌, arith}, lemmas.Boo
 use Rattle.std.specs.Prelude.{◌==◌}
 use Rattle.gs_model.specs.{Frame.{round_of}, Positions.{at_point}}
 use Rattle.gs_model.proofs.Basics.{not_eq}
-use Rattle.gs_seq.specs.Abstracts.{frame_of}
+use Rattle.gs_seq.specs.Abstracts.{abstract_frame}
 use Rattle.gs_seq.proofs.SlotLaws.{sum_range_more}
 use Rattle.gs_best.proofs.work.points_of.Goals as goal
 use Rattle.gs_best.proofs.work.points_of.Goals.{then-round_at-round, else-round_at-round}
 
 pub loop-point-preserved : goal.loop-point-preserved
 loop-point-preserved c =
-    let f = frame_of c.args.form.now in
+    let f = abstract_frame c.args.form.now in
     let q = c.loop-point.point in
     let i = c.loop-point.invariant in
     let more = sum_range_more (λ q. cond (round_of f (at_point q) == c.args.round) 1 0) q in

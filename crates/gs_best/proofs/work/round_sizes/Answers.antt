@@ -2,20 +2,20 @@ use Rattle.std.proofs.{Common.{◌≡◌, ◌+◌, ◌++◌, ◌∷◌, [], List
 use Rattle.std.specs.List.{range_with_len}
 use Rattle.gs_model.specs.Classes.{class_count}
 use Rattle.gs_model.proofs.Sparse.{range_append}
-use Rattle.gs_seq.specs.Abstracts.{frame_of, lists_of}
-use Rattle.gs_best.specs.{Rounds.{size_of}, Sizes.{points_in}, declared.work.RoundSize.{RoundSize}}
+use Rattle.gs_seq.specs.Abstracts.{abstract_frame, lists_of}
+use Rattle.gs_best.specs.{Rounds.{size_of}, Sizes.{points_of_round}, declared.work.RoundSize.{RoundSize}}
 use Rattle.gs_best.proofs.work.round_sizes.Goals as goal
 
 pub loop-before-preserved : goal.loop-before-preserved
 loop-before-preserved c =
-    let f = frame_of c.args.form.now in
+    let f = abstract_frame c.args.form.now in
     let lists = lists_of c.args.form.now in
     let i = c.loop-before.before in
-    let size : ℕ → ℕ × ℕ = λ j. (points_in f j, class_count lists j) in
+    let size : ℕ → ℕ × ℕ = λ j. (points_of_round f j, class_count lists j) in
     let new : RoundSize = record { points = c.points_of.result; classes = c.class_total.result } in
     let next : i + 1 ≡ 1 + i = omega arith in
     let points : ℕ → ℕ × ℕ = λ n. (n, c.class_total.result) in
-    let classes : ℕ → ℕ × ℕ = λ n. (points_in f (i + 1), n) in
+    let classes : ℕ → ℕ × ℕ = λ n. (points_of_round f (i + 1), n) in
     let here : size_of new ≡ size (1 + i) = ap points c.points_of.ensures ∙ ap classes c.class_total.ensures.value ∙ ap size next in
     let front : List (ℕ × ℕ) = map size (range_with_len 1 i) in
     let join : ℕ × ℕ → List (ℕ × ℕ) = λ s. front ++ s ∷ [] in

@@ -1,6 +1,6 @@
 use Rattle.std.proofs.Common.{◌≡◌, ◌+◌, ◌-◌, ◌<◌, ◌^◌, ◌∙◌, ◌+ℤ◌, ℕ, ℤ, List, ap, arith, drop, get_or, length, pos, subst, sym, to_z, of_z}
 use Rattle.std.specs.{Int.{w128}, Prelude.{All, unsigned_abs}}
-use Rattle.gs_boards.specs.{Runs.{paid_by, worth_at}, declared.place.Place.{Place}}
+use Rattle.gs_boards.specs.{Runs.{paid_by, place_worth}, declared.place.Place.{Place}}
 use Rattle.gs_boards.proofs.{Added.{added}, Payments.{lost_is}, Steps.{come_down, come_within, go_down, one_back, stronger_behind, written}}
 use Rattle.gs_boards.proofs.walks.descend.Goals as goal
 
@@ -9,7 +9,7 @@ as_small : (a b : ℤ) → a ≡ b → unsigned_abs b < 2 ^ 120 → unsigned_abs
 as_small a b e h = subst (λ z. unsigned_abs z < 2 ^ 120) (sym e) h
 
 pub lost-requires-clause-within : goal.lost-requires-clause-within
-lost-requires-clause-within c = (come_down (worth_at c.args.pays c.args.numbers.now) _ c.requires.order _ _ (omega arith) _ _ c.at-here.ensures (one_back _ _ _ _ c.loop-at-test.true c.loop-at.invariant.walked)).within
+lost-requires-clause-within c = (come_down (place_worth c.args.pays c.args.numbers.now) _ c.requires.order _ _ (omega arith) _ _ c.at-here.ensures (one_back _ _ _ _ c.loop-at-test.true c.loop-at.invariant.walked)).within
 
 pub overflow_add-sums : goal.overflow_add-sums
 overflow_add-sums c =
@@ -19,13 +19,13 @@ overflow_add-sums c =
     (added (get_or c.loop-at.sums (get_or c.args.places.now n d).signal (pos 0)) c.lost.result (as_small _ _ was (c.requires.small n d (omega arith))) c.lost.ensures.small).fits
 
 pub past-behind-requires-clause-within : goal.past-behind-requires-clause-within
-past-behind-requires-clause-within c = (come_down (worth_at c.args.pays c.args.numbers.now) _ c.requires.order _ _ (omega arith) _ _ c.at-here.ensures (one_back _ _ _ _ c.loop-at-test.true c.loop-at.invariant.walked)).within
+past-behind-requires-clause-within c = (come_down (place_worth c.args.pays c.args.numbers.now) _ c.requires.order _ _ (omega arith) _ _ c.at-here.ensures (one_back _ _ _ _ c.loop-at-test.true c.loop-at.invariant.walked)).within
 
 pub loop-at-preserved : goal.loop-at-preserved
 loop-at-preserved c =
     let places : List Place = c.args.places.now in
     let numbers : List ℕ = c.args.numbers.now in
-    let worth : Place → ℕ = worth_at c.args.pays numbers in
+    let worth : Place → ℕ = place_worth c.args.pays numbers in
     let n : ℕ = c.loop-at.at - 1 in
     let d : Place = record { board = 0; strength = 0; win = 0; signal = 0 } in
     let p : Place = get_or places n d in

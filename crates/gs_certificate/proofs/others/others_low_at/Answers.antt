@@ -3,18 +3,18 @@ use Rattle.std.specs.{Int.{w128}, Int.Signed.{lt_z}}
 use Rattle.gs_model.specs.Classes.{IsClass}
 use Rattle.gs_seq.proofs.Signed.{read_back}
 use Rattle.gs_best.proofs.Sides.{frame, lists, values_in}
-use Rattle.gs_certificate.specs.Numbers.{IsHighForSum, IsLowForSum, Tells}
+use Rattle.gs_certificate.specs.Numbers.{IsHighForSum, IsLowForSum, TellsWhether}
 use Rattle.gs_certificate.proofs.{Shares.{compared}, others.others_low_at.Goals.{After-number_at}}
 use Rattle.gs_certificate.proofs.others.others_low_at.Goals as goal
 
 -- what the test of the next class tells
 told : (c : After-number_at) {says : Bool} → lt_z (to_z w128 (of_z w128 c.number_at.result)) (to_z w128 (of_z w128 c.moves_sum-least.result)) ≡ says
-    → let d = c.args.claim.now.side.now in let v = values_in d c.args.claim.now.values.now in let n = c.loop-before.before + 1 in Tells says (IsLowForSum (frame d) (lists d) v c.args.spot.point n) (IsHighForSum (frame d) (lists d) v c.args.spot.point n)
+    → let d = c.args.claim.now.side.now in let v = values_in d c.args.claim.now.values.now in let n = c.loop-before.before + 1 in TellsWhether says (IsLowForSum (frame d) (lists d) v c.args.spot.point n) (IsHighForSum (frame d) (lists d) v c.args.spot.point n)
 told c e =
     let d = c.args.claim.now.side.now in
     let v = values_in d c.args.claim.now.values.now in
     let n = c.loop-before.before + 1 in
-    subst (λ b. Tells b (IsLowForSum (frame d) (lists d) v c.args.spot.point n) (IsHighForSum (frame d) (lists d) v c.args.spot.point n)) e
+    subst (λ b. TellsWhether b (IsLowForSum (frame d) (lists d) v c.args.spot.point n) (IsHighForSum (frame d) (lists d) v c.args.spot.point n)) e
     (compared _ _ _ _ (read_back c.number_at.result _ (record { sfits = c.number_at.type_inv }) c.number_at.ensures.value) (read_back c.moves_sum-least.result _ (record { sfits = c.moves_sum-least.type_inv }) c.moves_sum-least.ensures))
 
 pub returns-then-number_at-least : goal.returns-then-number_at-least

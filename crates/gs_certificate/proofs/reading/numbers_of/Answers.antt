@@ -1,6 +1,6 @@
 use Rattle.std.proofs.Common.{◌≡◌, ◌+◌, ◌++◌, ◌∷◌, [], List, length, sym, ap, ◌∙◌, arith, Ok, Err, rules, append-nil}
 use Rattle.std.specs.Prelude.{ℤ}
-use Rattle.gs_certificate.specs.Reading.{number_at}
+use Rattle.gs_certificate.specs.Reading.{number_in_text}
 use Rattle.gs_certificate.specs.declared.text_fault.CertTextFault.TheVariants as fault
 use Rattle.gs_certificate.proofs.Numbers.{joined, rest_from, joined_none, joined_more, rest_read, rest_refused, rest_done}
 use Rattle.gs_certificate.proofs.reading.numbers_of.Goals as goal
@@ -16,7 +16,7 @@ loop-text-preserved c =
     let zs : List ℤ = c.loop-text.numbers.items in
     let z : ℤ = c.in-Some.number in
     let one_more : c.push.new.self.items ≡ zs ++ z ∷ [] = search rules in
-    let found = sym (ap number_at c.as_bytes.ensures.value) ∙ sym c.number_of.ensures ∙ c.in-Some.is in
+    let found = sym (ap number_in_text c.as_bytes.ensures.value) ∙ sym c.number_of.ensures ∙ c.in-Some.is in
     record {
       long = omega (arith, c.in_ok-push-in-Some.ensures.len);
       so_far = ap (λ all. joined all (rest_from c.args.player (c.loop-text.text-index + 1) c.args.texts.now)) one_more
@@ -31,7 +31,7 @@ returns c = sym c.loop-text.invariant.so_far
 
 pub returns-in-None : goal.returns-in-None
 returns-in-None c =
-    let none = sym (ap number_at c.as_bytes.ensures.value) ∙ sym c.number_of.ensures ∙ c.in-None.is in
+    let none = sym (ap number_in_text c.as_bytes.ensures.value) ∙ sym c.number_of.ensures ∙ c.in-None.is in
     let at : c.loop-text.text-index ≡ c.len.result = omega (arith, c.len.ensures, c.loop-text.invariant.long) in
     sym c.loop-text.invariant.so_far
     ∙ ap (joined c.loop-text.numbers.items) (rest_refused c.args.player c.loop-text.text-index c.args.texts.now _ c.loop-text-test.true none)

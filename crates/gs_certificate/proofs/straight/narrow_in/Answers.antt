@@ -3,15 +3,15 @@ use Rattle.std.proofs.lemmas.List.{length-drop, take_all}
 use Rattle.std.specs.{Prelude.{ℤ, unsigned_abs}, Fmt.{signed_decimal}}
 use mir.Syntax.{w128}
 use mir.Val.{of_z, to_z}
-use Rattle.gs_frac.specs.Texts.{number_of}
+use Rattle.gs_frac.specs.Texts.{number_with_sign}
 use Rattle.gs_frac.proofs.Made.{size_of}
 use Rattle.gs_certificate.proofs.PlainTexts.{kept, narrow_is}
 use Rattle.gs_certificate.proofs.straight.narrow_in.Goals as goal
 
 -- the number, as it is handed on, is small
-narrow : (negative : Bool) (size wide : ℕ) (z : ℤ) → wide ≡ size → size < 10 ^ 18 → z ≡ number_of negative wide → (z ≡ number_of negative size) × (unsigned_abs z < 2 ^ 90)
+narrow : (negative : Bool) (size wide : ℕ) (z : ℤ) → wide ≡ size → size < 10 ^ 18 → z ≡ number_with_sign negative wide → (z ≡ number_with_sign negative size) × (unsigned_abs z < 2 ^ 90)
 narrow negative size wide z same few is =
-    let so : z ≡ number_of negative size = is ∙ ap (number_of negative) same in
+    let so : z ≡ number_with_sign negative size = is ∙ ap (number_with_sign negative) same in
     let long : unsigned_abs z ≡ size = ap unsigned_abs so ∙ size_of negative size in
     (so, omega (arith, long, few))
 

@@ -2,7 +2,7 @@ use Rattle.std.proofs.Common.{◌++◌, ap, ◌∙◌}
 use Rattle.gs_best.specs.Answers.{AreBestValues}
 use Rattle.gs_certificate.specs.{Checks.{IsSound}, Promises.{AreReached, BoundsAll}}
 use Rattle.gs_certificate.proofs.Promised.{bounds_all}
-use Rattle.gs_seq.specs.{Abstracts.{frame_of, lists_of}, Plans.{class_plan, lifted}}
+use Rattle.gs_seq.specs.{Abstracts.{abstract_frame, lists_of}, Plans.{class_plan, lifted}}
 use Rattle.gs_file.specs.declared.version.Version.TheVariants.{Two}
 use Rattle.gs_strategy.specs.{Texts.{strategy_text}, Views.{stored_view}}
 use Rattle.gs_certify.proofs.Moved.{moved}
@@ -15,8 +15,8 @@ returns c =
     let l = a.lossless.now in
     let k = c.in_ok-c.c in
     let made = c.in_ok-c.ensures in
-    let x = class_plan (frame_of a) (lists_of a) s.one in
-    let y = class_plan (frame_of a) (lists_of a) s.two in
+    let x = class_plan (abstract_frame a) (lists_of a) s.one in
+    let y = class_plan (abstract_frame a) (lists_of a) s.two in
     record {
       certificate = k;
       holds = record {

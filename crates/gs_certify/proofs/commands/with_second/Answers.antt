@@ -1,5 +1,5 @@
 use Rattle.std.proofs.{Common.{◌≢◌, inl, inr, refl, rules}, lemmas.Result.{IfOk-weaker}}
-use Rattle.gs_certificate.specs.{FaultTexts.{cert_text_fault_text}, Reading.{Reads}, declared.text_fault.CertTextFault.TheVariants.{Memory}}
+use Rattle.gs_certificate.specs.{FaultTexts.{cert_text_fault_text}, Reading.{ReadsCertificate}, declared.text_fault.CertTextFault.TheVariants.{Memory}}
 use Rattle.gs_reply.proofs.Refused.{answers_more, tells_answer}
 use Rattle.gs_reply.specs.{Refusals.{Bad_certificate}, Replies.{Refuses}}
 use Rattle.gs_strategy.specs.Views.{stored_view}
@@ -18,5 +18,5 @@ returns-in-Err c =
     let s = stored_view c.args.stored.now in
     let why = c.in-Err.fault in
     let told : why ≢ Memory = search rules in
-    let no : IsNoText c.args.bytes.now (Refuses (Bad_certificate (cert_text_fault_text why))) = record { why = why; reads = fault_is why (Reads c.args.bytes.now) told c.in-Err.ensures.exact; told = refl } in
+    let no : IsNoText c.args.bytes.now (Refuses (Bad_certificate (cert_text_fault_text why))) = record { why = why; reads = fault_is why (ReadsCertificate c.args.bytes.now) told c.in-Err.ensures.exact; told = refl } in
     IfOk-weaker c.no_text.result _ _ (λ a. tells_answer (SaysVerified c.args.bytes.now s) a (Bad_certificate (cert_text_fault_text why)) (inl no)) c.no_text.ensures

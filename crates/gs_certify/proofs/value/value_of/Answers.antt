@@ -2,7 +2,7 @@ use Rattle.std.proofs.{Common.{◌≡◌, ◌*◌, ◌<◌, ◌^◌, refl, sym, 
 use Rattle.std.specs.Prelude.{pos, ◌*ℤ◌, unsigned_abs}
 use mir.Syntax.{w128}
 use Rattle.gs_model.specs.Frame.{end_count, total_weight}
-use Rattle.gs_seq.specs.{Abstracts.{frame_of, lists_of}, Plans.{class_plan}}
+use Rattle.gs_seq.specs.{Abstracts.{abstract_frame, lists_of}, Plans.{class_plan}}
 use Rattle.gs_seq.proofs.{EndTotals.{ends_few, payoff_is}, Forms.{given}}
 use Rattle.gs_best.specs.{Forms.{game_in}, Judged.{parts}}
 use Rattle.gs_best.proofs.Forms.{form_classes}
@@ -11,7 +11,7 @@ use Rattle.gs_certify.proofs.value.value_of.Goals as goal
 pub fraction-requires-clause-fits : goal.fraction-requires-clause-fits
 fraction-requires-clause-fits c =
     let a = c.args.form.now in
-    let f = frame_of a in
+    let f = abstract_frame a in
     let ls = lists_of a in
     let x = class_plan f ls c.args.one.now in
     let y = class_plan f ls c.args.two.now in
@@ -25,7 +25,7 @@ fraction-requires-clause-fits c =
 pub returns : goal.returns
 returns c =
     let a = c.args.form.now in
-    let f = frame_of a in
+    let f = abstract_frame a in
     let x = c.args.one.now in
     let y = c.args.two.now in
     let v = parts c.fraction.result in

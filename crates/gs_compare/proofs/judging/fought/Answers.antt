@@ -1,6 +1,6 @@
 use Rattle.std.proofs.{Common.{◌≡◌, ◌≤◌, ◌++◌, List, map, length, inl, sym, ap, ◌∙◌, subst, arith}, lemmas.Result.{IfOk-weaker}}
 use Rattle.gs_card.specs.Decks.{DeckValue}
-use Rattle.gs_file.specs.Reading.{FileGame, rules_of as rules_in}
+use Rattle.gs_file.specs.Reading.{FileGame, file_rules as rules_in}
 use Rattle.gs_frac.specs.declared.value.Fraction.{Fraction}
 use Rattle.gs_game.specs.{Games.{game_of}, declared.valid.ValidGame.{ValidGame}}
 use Rattle.gs_model.specs.{Frame.{Frame, frame_of as frame}, Game.{Game}}
@@ -10,7 +10,7 @@ use Rattle.gs_reply.specs.{Replies.{Prints}, VerdictText.{verdict_text}}
 use Rattle.gs_seq.specs.{Games.{frame_in}, Plans.{IsPlanOf}}
 use Rattle.gs_strategy.specs.{Values.{FractionParts}, Views.{numbers_of, parts_of, stored_view}}
 use Rattle.gs_tree.specs.Trees.{deck_of, rules_of}
-use Rattle.gs_compare.specs.Judging.{AreHands, hands_text}
+use Rattle.gs_compare.specs.Judging.{AreHandValues, hands_text}
 use Rattle.gs_compare.proofs.{Judged.{are_hands, are_judged}, TooMany.{too_many}}
 use Rattle.gs_compare.proofs.judging.fought.Goals as goal
 
@@ -66,5 +66,5 @@ returns-in-Err-TooManyCells c =
     let y = stored_view c.args.two.now in
     let f = frame_in c.in_ok-signals.signals.game.now in
     IfOk-weaker c.many_raw_cells.result _ _
-    (λ a t. too_many f x y (λ n reply. (hands : List FractionParts) × AreHands x y hands × (reply ≡ Prints (verdict_text n ++ hands_text x.game.deck (rules_in x.game) hands))) c.in-Err-TooManyCells.count c.in-Err-TooManyCells.field-0 a
+    (λ a t. too_many f x y (λ n reply. (hands : List FractionParts) × AreHandValues x y hands × (reply ≡ Prints (verdict_text n ++ hands_text x.game.deck (rules_in x.game) hands))) c.in-Err-TooManyCells.count c.in-Err-TooManyCells.field-0 a
     (ap frame_in c.in_ok-signals.ensures) c.in-Err-TooManyCells.field-0-is c.in-Err-TooManyCells.ensures.refused t) c.many_raw_cells.ensures

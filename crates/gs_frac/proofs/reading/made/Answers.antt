@@ -1,6 +1,6 @@
 use Rattle.std.proofs.{Common.{◌≡◌, inl, inr, ◌<◌, arith, ◌∙◌, sym, pos, to_z, of_z}, lemmas.Int.{ints}}
 use Rattle.std.specs.Int.{w128}
-use Rattle.gs_frac.specs.{Texts.{number_of}, Gcd.{gcd_of}}
+use Rattle.gs_frac.specs.{Texts.{number_with_sign}, Gcd.{gcd_of}}
 use Rattle.gs_frac.proofs.Made.{wide, unreduced, reduces, fraction_is}
 use Rattle.gs_frac.proofs.reading.made.Goals.{then-num-ge-LIMIT-via-then-num-ge-LIMIT, then-num-ge-LIMIT-via-else-num-ge-LIMIT+then-den-ge-LIMIT, then-den-eq0-via-then-den-eq0, then-den-eq0-via-else-den-eq0+then-gcd-ne1}
 use Rattle.gs_frac.proofs.reading.made.Goals as goal
@@ -17,7 +17,7 @@ pub invariant_of-result : goal.invariant_of-result
 invariant_of-result c =
     let some : 0 < c.args.den = omega (arith, c.if-den-eq0.false) in
     let one : gcd_of c.args.num c.args.den ≡ 1 = sym c.gcd.ensures.value ∙ c.if-gcd-ne1.false in
-    let num : to_z w128 (of_z w128 c.with_sign-num.result) ≡ number_of c.args.negative c.args.num = omega (arith, ints, c.with_sign-num.ensures) in
+    let num : to_z w128 (of_z w128 c.with_sign-num.result) ≡ number_with_sign c.args.negative c.args.num = omega (arith, ints, c.with_sign-num.ensures) in
     let den : to_z w128 c.args.den ≡ pos c.args.den = omega (arith, ints) in
     record { reduced = rw (num, den) (fraction_is c.args.negative c.args.num c.args.den c.if-num-ge-LIMIT.false c.if-den-ge-LIMIT.false some one) }
 
@@ -25,6 +25,6 @@ pub returns : goal.returns
 returns c =
     let some : 0 < c.args.den = omega (arith, c.if-den-eq0.false) in
     let one : gcd_of c.args.num c.args.den ≡ 1 = sym c.gcd.ensures.value ∙ c.if-gcd-ne1.false in
-    let num : to_z w128 (of_z w128 c.with_sign-num.result) ≡ number_of c.args.negative c.args.num = omega (arith, ints, c.with_sign-num.ensures) in
+    let num : to_z w128 (of_z w128 c.with_sign-num.result) ≡ number_with_sign c.args.negative c.args.num = omega (arith, ints, c.with_sign-num.ensures) in
     let den : to_z w128 c.args.den ≡ pos c.args.den = omega (arith, ints) in
     rw (num, den) (reduces c.args.negative c.args.num c.args.den c.if-num-ge-LIMIT.false c.if-den-ge-LIMIT.false some one)

@@ -1,13 +1,13 @@
 use Rattle.std.proofs.Common.{◌<◌, List, ap, sym, subst, ◌∙◌, arith, map}
 use Rattle.std.specs.List.{AllByRecursion}
 use Rattle.gs_game.specs.declared.positions.Arrow.{Arrow}
-use Rattle.gs_seq.specs.{Abstracts.{frame_of, lists_of}, Plans.{lifted}}
+use Rattle.gs_seq.specs.{Abstracts.{abstract_frame, lists_of}, Plans.{lifted}}
 use Rattle.gs_lift.proofs.{Mixed.{mixed_all, mixed_long, mixed_more, mixed_none}, Moves.{moves_at, small_at}}
 use Rattle.gs_lift.proofs.mixture.mix.Goals as goal
 
 pub loop-choice-init : goal.loop-choice-init
 loop-choice-init c =
-    let f = frame_of c.args.a.now in
+    let f = abstract_frame c.args.a.now in
     mixed_none f (lifted f (lists_of c.args.a.now) c.args.plan.now) c.args.spot.point c.args.spot.signal c.deref-arrow-items.result.now c.clear.new.self c.clear.ensures
 
 pub overflow_cast-choice : goal.overflow_cast-choice
@@ -24,7 +24,7 @@ share-requires-clause-choice c =
 
 pub push-requires-clause-room : goal.push-requires-clause-room
 push-requires-clause-room c =
-    let f = frame_of c.args.a.now in
+    let f = abstract_frame c.args.a.now in
     let r = moves_at c.args.a.now c.lossless.result.now c.signals.result.now c.game.result.now c.points.result.now c.index-points-spot.result c.args.spot.point
     c.lossless.ensures c.signals.ensures.held c.game.ensures c.points.ensures c.index-points-spot.is c.requires.point in
     let long = mixed_long f (lifted f (lists_of c.args.a.now) c.args.plan.now) c.args.spot.point c.args.spot.signal c.deref-arrow-items.result.now c.loop-choice.choice c.loop-choice.out (omega (arith, c.loop-choice-test.true)) c.loop-choice.invariant in
@@ -38,14 +38,14 @@ push-requires-clause-letter c =
 
 pub loop-choice-preserved : goal.loop-choice-preserved
 loop-choice-preserved c =
-    let f = frame_of c.args.a.now in
+    let f = abstract_frame c.args.a.now in
     let e = c.push.ensures in
     mixed_more f (lifted f (lists_of c.args.a.now) c.args.plan.now) c.args.spot.point c.args.spot.signal c.deref-arrow-items.result.now c.loop-choice.choice _ c.loop-choice.out c.push.new.self c.share.result c.loop-choice-test.true c.push.ensures
     c.loop-choice.invariant c.share.ensures
 
 pub returns : goal.returns
 returns c =
-    let f = frame_of c.args.a.now in
+    let f = abstract_frame c.args.a.now in
     let r = moves_at c.args.a.now c.lossless.result.now c.signals.result.now c.game.result.now c.points.result.now c.index-points-spot.result c.args.spot.point
     c.lossless.ensures c.signals.ensures.held c.game.ensures c.points.ensures c.index-points-spot.is c.requires.point in
     let read = ap (λ (ms : List Arrow). map (λ (a : Arrow). a.letter) ms) c.deref-arrow-items.ensures.value in

@@ -2,7 +2,7 @@ use Rattle.std.proofs.{Common.{◌≡◌, ◌+◌, ◌≤◌, ℕ, true, false, 
 use Rattle.std.specs.Prelude.{IfSome, is_some}
 use Rattle.gs_model.specs.Game.{round_count}
 use Rattle.gs_tree.specs.Trees.{rules_of}
-use Rattle.gs_lift.specs.Queries.{NamesSignal}
+use Rattle.gs_lift.specs.Queries.{IsTextOfSignal}
 use Rattle.gs_lift.proofs.Spots.{names_found, names_none, rounds_are}
 use Rattle.gs_lift.proofs.query.is_signal.Goals as goal
 
@@ -29,7 +29,7 @@ loop-before-preserved c =
     let here = c.loop-before.before + 1 in
     let none = names_none s here c.args.text.now c.index_of.result (omega arith) (omega (arith, c.loop-before-test.true, c.rounds-before-end.ensures.value)) c.index_of.ensures.only (none_is c.index_of.result c.if-is_some.ensures) in
     λ round some top i h. elim (cases_eq round here) [
-      | inl e ↦ none i (subst (λ n. NamesSignal s n c.args.text.now i) e h)
+      | inl e ↦ none i (subst (λ n. IsTextOfSignal s n c.args.text.now i) e h)
       | inr other ↦ c.loop-before.invariant round some (omega (arith, top, other)) i h
     ]
 

@@ -1,12 +1,12 @@
 use Rattle.std.proofs.{Common.{◌≡◌, ◌*ℤ◌, ℤ, sym, ap, ◌∙◌, arith, to_z, of_z, cond}, lemmas.Bool.{eq-eqb, ne_eqb}, lemmas.Int.{ints, to_z_pos}}
 use Rattle.std.specs.Int.{w128}
-use Rattle.gs_seq.specs.{Abstracts.{frame_of, lists_of}, Plans.{lifted}}
+use Rattle.gs_seq.specs.{Abstracts.{abstract_frame, lists_of}, Plans.{lifted}}
 use Rattle.gs_lift.proofs.{Ratios.{share_none, share_of}, shares.share.Goals.{then-choice-eq0, else-choice-eq0}}
 use Rattle.gs_lift.proofs.shares.share.Goals as goal
 
 pub returns-then-total-eq0 : goal.returns-then-total-eq0
 returns-then-total-eq0 c =
-    let f = frame_of c.args.a.now in
+    let f = abstract_frame c.args.a.now in
     let x = lifted f (lists_of c.args.a.now) c.args.plan.now in
     let none = sym c.requires.total ∙ c.if-total-eq0.true in
     let den = c.new.result.den in
@@ -19,7 +19,7 @@ returns-then-total-eq0 c =
 
 pub returns : goal.returns
 returns c =
-    let f = frame_of c.args.a.now in
+    let f = abstract_frame c.args.a.now in
     let num = c.new-2.result.num in
     let den = c.new-2.result.den in
     let back : to_z w128 (of_z w128 c.from.result) ≡ c.from.result = omega (arith, ints) in

@@ -2,7 +2,7 @@ use Rattle.std.proofs.Common.{◌≡◌, ◌+◌, ℕ, ap, ◌∙◌, arith, sum
 use Rattle.std.specs.List.{range_with_len}
 use Rattle.gs_game.specs.declared.positions.Point.{Point}
 use Rattle.gs_model.specs.Frame.{move_count}
-use Rattle.gs_seq.specs.{Abstracts.{frame_of, lists_of}, Plans.{lifted}}
+use Rattle.gs_seq.specs.{Abstracts.{abstract_frame, lists_of}, Plans.{lifted}}
 use Rattle.gs_seq.proofs.SlotLaws.{sum_range_more}
 use Rattle.gs_lift.proofs.Moves.{moves_at}
 use Rattle.gs_lift.proofs.shares.total_weight.Goals as goal
@@ -27,7 +27,7 @@ weight-requires-clause-choice c =
 
 pub loop-choice-preserved : goal.loop-choice-preserved
 loop-choice-preserved c =
-    let f = frame_of c.args.a.now in
+    let f = abstract_frame c.args.a.now in
     let number : ℕ → ℕ = λ (m : ℕ). (lifted f (lists_of c.args.a.now) c.args.plan.now).number c.args.spot.point c.args.spot.signal m in
     record {
       sum_is = sum_more number c.loop-choice.choice c.loop-choice.total c.weight.result c.from-total.result c.loop-choice.invariant.sum_is c.from-total.ensures c.weight.ensures;
@@ -36,7 +36,7 @@ loop-choice-preserved c =
 
 pub returns-clause-value : goal.returns-clause-value
 returns-clause-value c =
-    let f = frame_of c.args.a.now in
+    let f = abstract_frame c.args.a.now in
     let number : ℕ → ℕ = λ (m : ℕ). (lifted f (lists_of c.args.a.now) c.args.plan.now).number c.args.spot.point c.args.spot.signal m in
     let r = moves_at c.args.a.now c.lossless.result.now c.signals.result.now c.game.result.now c.points.result.now c.index-points-spot.result c.args.spot.point
     c.lossless.ensures c.signals.ensures.held c.game.ensures c.points.ensures c.index-points-spot.is c.requires.point in

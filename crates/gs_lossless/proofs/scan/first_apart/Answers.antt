@@ -3,7 +3,7 @@ use Rattle.std.proofs.Common.{true, false, true≢false, rules, ◌≡◌, ◌�
 use Rattle.gs_model.specs.{Classes.{ClassLists, class_of, class_size, first_member, list_of}, Frame.{frame_of}, Numbering.{IsNumbered}, Signals.{signals}}
 use Rattle.gs_model.proofs.Walked.{last_round_of}
 use Rattle.gs_tree.specs.Trees.{rules_of}
-use Rattle.gs_lossless.specs.{Amounts.{Agree, AreAmounts, key_count, keys_of}, Scans.{StandFor, StoredBelow}, declared.parts.Part.{Part}}
+use Rattle.gs_lossless.specs.{Amounts.{HaveEqualAmounts, AreAmounts, key_count, keys_of}, Scans.{StandFor, StoredBelow}, declared.parts.Part.{Part}}
 use Rattle.gs_lossless.proofs.{Alike.{last_keys}, Descent.{keys_long, list_long, playable}}
 use Rattle.gs_lossless.proofs.Scanned.{agree_more, agree_self, side_in, stored_first, stored_later, stored_single, stood_agrees, stood_later}
 use Rattle.gs_lossless.proofs.Settled.{first_le, agree_if_same, same_if_agree, single_agrees}
@@ -107,7 +107,7 @@ returns-then-not-are_same c =
       c.loop-signal-test.true,
       c.loop-signal.invariant.agree,
       (λ a.
-          let own = subst (λ (x : ℕ). Agree f lists c.args.side c.args.round (first_member lists c.args.round x) c.loop-signal.signal) (sym c.class_of-class.ensures.value) a in
+          let own = subst (λ (x : ℕ). HaveEqualAmounts f lists c.args.side c.args.round (first_member lists c.args.round x) c.loop-signal.signal) (sym c.class_of-class.ensures.value) a in
           let items = same_if_agree f lists c.args.side c.args.round (first_member lists c.args.round c.class_of-class.result) c.loop-signal.signal kept.items sums.items first here own in
           let same = c.deref-else-first-signal.ensures.value ∙ ap (λ (v : Vec Part Global). v.items) c.index.ensures ∙ items ∙ sym c.deref-else-first-signal-2.ensures.value in
           true≢false (sym (c.are_same.ensures.1 same) ∙ no)),
@@ -152,6 +152,6 @@ loop-signal-preserved c =
             long = ap (λ (v : List (Vec Part Global)). length v) items ∙ c.loop-signal.invariant.long;
             stored = subst (StoredBelow f lists side round (signal + 1)) (sym items) (stored_later f lists side round signal kept n c.loop-signal.invariant.stored later);
             stand = standing at.In_ok-firsts;
-            agree = agree_more f lists side round signal c.loop-signal.invariant.agree (subst (λ (x : ℕ). Agree f lists side round (first_member lists round x) signal) is agrees);
+            agree = agree_more f lists side round signal c.loop-signal.invariant.agree (subst (λ (x : ℕ). HaveEqualAmounts f lists side round (first_member lists round x) signal) is agrees);
           }
     ]

@@ -1,11 +1,11 @@
 use Rattle.std.proofs.{Common.{◌≡◌, ◌+◌, ◌-◌, ℕ, List, [], ◌∷◌, ◌++◌, ap, map, sym, ◌∙◌, arith}, lemmas.List.FromFn.{map-range_with_len_more}}
 use Rattle.std.specs.List.{range_with_len}
-use Rattle.gs_lossless.specs.{Amounts.{child_part}, declared.parts.Part.{Part}}
+use Rattle.gs_lossless.specs.{Amounts.{counted_part}, declared.parts.Part.{Part}}
 use Rattle.gs_lossless.proofs.sides.child_parts.Goals as goal
 
 pub loop-child-preserved : goal.loop-child-preserved
 loop-child-preserved c =
-    let part = child_part c.args.keys.now in
+    let part = counted_part c.args.keys.now in
     let first = c.args.run.first in
     let x = c.loop-child.child in
     let here : first + (x - first) ≡ x = omega arith in

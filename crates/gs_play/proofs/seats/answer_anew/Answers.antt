@@ -4,7 +4,7 @@ use Rattle.gs_model.specs.Frame.{point_count}
 use Rattle.gs_seq.specs.Slots.{IsPlan, slot_count}
 use Rattle.gs_best.specs.{Puts.{ArePutBefore}, Tables.{start_of}}
 use Rattle.gs_best.proofs.Forms.{form_classes, form_in_range, form_lossless, form_walked}
-use Rattle.gs_totals.specs.{ClassTotals.{AreBestTotals}, Places.{AreEndSums}, Roles.{frame_in, lists_in, moves_in, plan_in, totals_in}}
+use Rattle.gs_totals.specs.{ClassTotals.{AreBestTotals}, Places.{AreEndSums}, Roles.{role_frame, role_lists, moves_in, role_plan, totals_in}}
 use Rattle.gs_totals.proofs.Slices.{through}
 use Rattle.gs_play.proofs.{Answering.{put_plan}, seats.answer_anew.Goals.{After-find, After-swap}}
 use Rattle.gs_play.proofs.seats.answer_anew.Goals as goal
@@ -23,11 +23,11 @@ pub returns-clause-answered : goal.returns-clause-answered
 returns-clause-answered c =
     let at = goal.at.returns-clause-answered c in
     let k = c.args.role.now in
-    let f = frame_in k in
-    let lists = lists_in k in
+    let f = role_frame k in
+    let lists = role_lists k in
     let other = c.args.other.now in
     record {
-      best = subst (λ l. AreBestTotals f lists k.player (plan_in k other) (totals_in k other c.find.new.totals.points.items) (moves_in k l)) (sym (picks_are at.After-find)) c.find.ensures.best;
+      best = subst (λ l. AreBestTotals f lists k.player (role_plan k other) (totals_in k other c.find.new.totals.points.items) (moves_in k l)) (sym (picks_are at.After-find)) c.find.ensures.best;
       puts = subst (λ l. ArePutBefore f lists k.player (moves_in k l) c.swap.new.y.items (point_count f)) (sym (picks_are at.After-find))
           (subst (λ l. ArePutBefore f lists k.player (moves_in k c.find.new.picks) l (point_count f)) (sym (answer_is at.After-swap)) c.find.ensures.puts);
     }
@@ -37,13 +37,13 @@ returns-clause-seat c =
     let at = goal.at.returns-clause-seat c in
     let k = c.args.role.now in
     let a = k.form.now in
-    let f = frame_in k in
-    let lists = lists_in k in
+    let f = role_frame k in
+    let lists = role_lists k in
     let room = c.requires.seat.room in
     let other = c.args.other.now in
     let weights = c.find.new.weights in
     let long : length weights ≡ slot_count f lists k.player = c.find.auto.weights ∙ ap (λ (l : List ℕ). length l) c.deref_mut-2.ensures.value ∙ room.next in
-    let plan = put_plan f (form_in_range a) lists (form_classes a) (form_lossless a) k.player (form_walked a k.player k.some k.two) (plan_in k other) (totals_in k other c.find.new.totals.points.items) (moves_in k c.find.new.picks) weights
+    let plan = put_plan f (form_in_range a) lists (form_classes a) (form_lossless a) k.player (form_walked a k.player k.some k.two) (role_plan k other) (totals_in k other c.find.new.totals.points.items) (moves_in k c.find.new.picks) weights
     c.find.ensures.best c.find.ensures.puts long in
     record {
       room = record {
@@ -56,7 +56,7 @@ returns-clause-seat c =
         rows = c.find.ensures.rows;
         picks = subst (λ l. start_of f lists (point_count f) ≤ length l) (sym (picks_are at.After-find)) (omega (arith, room.picks, c.find.auto.picks, ap (λ (l : List ℕ). length l) c.deref_mut.ensures.value));
       };
-      paid = subst (λ (l : Vec ℤ Global). AreEndSums f lists k.player (plan_in k other) l.items) (sym c.find.ensures.paid) c.requires.seat.paid;
+      paid = subst (λ (l : Vec ℤ Global). AreEndSums f lists k.player (role_plan k other) l.items) (sym c.find.ensures.paid) c.requires.seat.paid;
     }
 
 pub returns-clause-same : goal.returns-clause-same

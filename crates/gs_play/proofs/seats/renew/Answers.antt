@@ -1,6 +1,6 @@
 use Rattle.std.proofs.Common.{List, ℕ, length, sym, ap, ◌∙◌, subst}
 use Rattle.gs_seq.specs.Slots.{plan_of}
-use Rattle.gs_totals.specs.{Places.{AreEndSums}, Roles.{frame_in, lists_in}}
+use Rattle.gs_totals.specs.{Places.{AreEndSums}, Roles.{role_frame, role_lists}}
 use Rattle.gs_play.proofs.seats.renew.Goals as goal
 
 pub renew_ends-requires-clause-before : goal.renew_ends-requires-clause-before
@@ -9,4 +9,4 @@ renew_ends-requires-clause-before c = ap (λ (l : List ℕ). length l) c.deref.e
 pub renew_ends-requires-clause-paid : goal.renew_ends-requires-clause-paid
 renew_ends-requires-clause-paid c =
     let k = c.args.role.now in
-    subst (λ (l : List ℕ). AreEndSums (frame_in k) (lists_in k) k.player (plan_of (frame_in k) (lists_in k) c.args.other.now.answer.total l) c.args.steps.now.ends.items) (sym c.deref.ensures.value) (c.requires.paid c.if-same.false)
+    subst (λ (l : List ℕ). AreEndSums (role_frame k) (role_lists k) k.player (plan_of (role_frame k) (role_lists k) c.args.other.now.answer.total l) c.args.steps.now.ends.items) (sym c.deref.ensures.value) (c.requires.paid c.if-same.false)

@@ -1,11 +1,11 @@
 use Rattle.std.proofs.Common.{◌≡◌, ◌-◌, sym, ◌∙◌, subst, arith, true≢false}
 use Rattle.gs_model.specs.Play.{IsFictitiousPlay}
-use Rattle.gs_seq.specs.{Abstracts.{frame_of, lists_of}, Plans.{class_plan}}
+use Rattle.gs_seq.specs.{Abstracts.{abstract_frame, lists_of}, Plans.{class_plan}}
 use Rattle.gs_play.proofs.turns.read_pays.Goals as goal
 
 pub returns-clause-playing : goal.returns-clause-playing
 returns-clause-playing c =
-    let f = frame_of c.args.form.now in
+    let f = abstract_frame c.args.form.now in
     let lists = lists_of c.args.form.now in
     let one = c.requires.one in
     let two = c.requires.two in

@@ -1,10 +1,10 @@
 use Rattle.std.proofs.Common.{◌≡◌, ◌+◌, ◌-◌, ◌<◌, sym, ap, ◌∙◌, subst, arith}
 use Rattle.gs_model.specs.Play.{IsFictitiousPlay}
 use Rattle.gs_model.proofs.PlanLaws.{played_are_plans}
-use Rattle.gs_seq.specs.{Abstracts.{frame_of, lists_of}, Plans.{IsPlanOf, class_plan}, declared.plan.Plan.{Plan}}
+use Rattle.gs_seq.specs.{Abstracts.{abstract_frame, lists_of}, Plans.{IsPlanOf, class_plan}, declared.plan.Plan.{Plan}}
 use Rattle.gs_best.proofs.Forms.{form_classes, form_in_range, form_walked}
 use Rattle.gs_best.specs.Tables.{moves_of}
-use Rattle.gs_totals.specs.{Jumps.{AreBeforeChange}, PlanSums.{AreAlike, plus_times}, Places.{AreEndSums, totals_of}}
+use Rattle.gs_totals.specs.{Jumps.{AreBeforeChange}, PlanSums.{ArePlansAlike, plus_times}, Places.{AreEndSums, totals_of}}
 use Rattle.gs_totals.proofs.SmallEnds.{small_ends, small_points}
 use Rattle.gs_play.specs.{Seats.{HasAnswered}, Staying.{AnswerStays}}
 use Rattle.gs_play.proofs.{Answering.{known_on, paid_same}, Jumps.{jump}, Turned.{best_on, least_of, paid_on, stays_less}}
@@ -12,7 +12,7 @@ use Rattle.gs_play.proofs.turns.turn.Goals as goal
 
 pub look_ahead-first-requires-clause-answered : goal.look_ahead-first-requires-clause-answered
 look_ahead-first-requires-clause-answered c =
-    let f = frame_of c.args.form.now in
+    let f = abstract_frame c.args.form.now in
     let lists = lists_of c.args.form.now in
     subst (λ (p : Plan). HasAnswered f lists 1 (class_plan f lists p) c.answer-same_one.new.seat) (sym c.answer-same_two.ensures.plan) c.answer-same_one.ensures.answered
 
@@ -25,7 +25,7 @@ move_on-requires-clause-small_steps c =
 
 pub move_on-requires-2-clause-small : goal.move_on-requires-2-clause-small
 move_on-requires-2-clause-small c =
-    let f = frame_of c.args.form.now in
+    let f = abstract_frame c.args.form.now in
     let lists = lists_of c.args.form.now in
     let plan = subst (λ (p : Plan). IsPlanOf f lists 1 p) (sym c.answer-same_one.ensures.plan) c.requires.playing.plan_one in
     small_ends c.args.form.now 2 (omega arith) (omega arith) c.answer-same_one.new.seat.plan plan c.answer-same_two.new.seat.totals.ends.items c.answer-same_two.ensures.seat.paid
@@ -36,37 +36,37 @@ move_on-requires-2-clause-small_steps c =
 
 pub answer-same_two-requires-clause-known : goal.answer-same_two-requires-clause-known
 answer-same_two-requires-clause-known c =
-    let f = frame_of c.args.form.now in
+    let f = abstract_frame c.args.form.now in
     let lists = lists_of c.args.form.now in
     λ t. subst (λ (p : Plan). HasAnswered f lists 2 (class_plan f lists p) c.args.two.now) (sym c.answer-same_one.ensures.plan) (c.requires.playing.known_two t)
 
 pub look_ahead-first-requires-clause-kept : goal.look_ahead-first-requires-clause-kept
-look_ahead-first-requires-clause-kept c = λ t. paid_same (frame_of c.args.form.now) (lists_of c.args.form.now) 1 _ _ _ _ _ c.answer-same_two.ensures.seat.room.one c.requires.playing.seat_two.room.one (c.answer-same_two.ensures.same t) c.requires.steps.to_one
+look_ahead-first-requires-clause-kept c = λ t. paid_same (abstract_frame c.args.form.now) (lists_of c.args.form.now) 1 _ _ _ _ _ c.answer-same_two.ensures.seat.room.one c.requires.playing.seat_two.room.one (c.answer-same_two.ensures.same t) c.requires.steps.to_one
 
 pub look_ahead-first-requires-clause-paid : goal.look_ahead-first-requires-clause-paid
-look_ahead-first-requires-clause-paid c = λ t. paid_same (frame_of c.args.form.now) (lists_of c.args.form.now) 1 _ _ _ _ _ c.answer-same_two.ensures.seat.room.one c.requires.playing.seat_two.room.one (c.answer-same_two.ensures.next t) c.requires.steps.to_one
+look_ahead-first-requires-clause-paid c = λ t. paid_same (abstract_frame c.args.form.now) (lists_of c.args.form.now) 1 _ _ _ _ _ c.answer-same_two.ensures.seat.room.one c.requires.playing.seat_two.room.one (c.answer-same_two.ensures.next t) c.requires.steps.to_one
 
 pub look_ahead-second-requires-clause-kept : goal.look_ahead-second-requires-clause-kept
-look_ahead-second-requires-clause-kept c = λ t. paid_same (frame_of c.args.form.now) (lists_of c.args.form.now) 2 _ _ _ _ _ c.answer-same_one.ensures.seat.room.one c.requires.playing.seat_one.room.one (c.answer-same_one.ensures.same t) c.requires.steps.to_two
+look_ahead-second-requires-clause-kept c = λ t. paid_same (abstract_frame c.args.form.now) (lists_of c.args.form.now) 2 _ _ _ _ _ c.answer-same_one.ensures.seat.room.one c.requires.playing.seat_one.room.one (c.answer-same_one.ensures.same t) c.requires.steps.to_two
 
 pub look_ahead-second-requires-clause-paid : goal.look_ahead-second-requires-clause-paid
-look_ahead-second-requires-clause-paid c = λ t. paid_same (frame_of c.args.form.now) (lists_of c.args.form.now) 2 _ _ _ _ _ c.answer-same_one.ensures.seat.room.one c.requires.playing.seat_one.room.one (c.answer-same_one.ensures.next t) c.requires.steps.to_two
+look_ahead-second-requires-clause-paid c = λ t. paid_same (abstract_frame c.args.form.now) (lists_of c.args.form.now) 2 _ _ _ _ _ c.answer-same_one.ensures.seat.room.one c.requires.playing.seat_one.room.one (c.answer-same_one.ensures.next t) c.requires.steps.to_two
 
 pub move_on-requires-clause-small_points : goal.move_on-requires-clause-small_points
 move_on-requires-clause-small_points c =
     let picks = c.answer-same_one.new.seat.picks.items in
     λ l. small_points c.args.form.now 1 (omega arith) (omega arith) c.args.two.now.plan c.requires.playing.plan_two c.answer-same_one.new.seat.totals.points.items
-    (moves_of (frame_of c.args.form.now) (lists_of c.args.form.now) picks) c.answer-same_one.ensures.answered.best.followed
+    (moves_of (abstract_frame c.args.form.now) (lists_of c.args.form.now) picks) c.answer-same_one.ensures.answered.best.followed
 
 pub move_on-requires-clause-small_slopes : goal.move_on-requires-clause-small_slopes
 move_on-requires-clause-small_slopes c =
     let picks = c.answer-same_one.new.seat.picks.items in
     λ l. small_points c.args.form.now 1 (omega arith) (omega arith) c.answer-same_two.new.seat.answer c.answer-same_two.ensures.seat.room.answer c.look_ahead-first.new.steps.points.items
-    (moves_of (frame_of c.args.form.now) (lists_of c.args.form.now) picks) (c.look_ahead-first.ensures.rises (omega (arith, l, (least_of c.look_ahead-first.result c.look_ahead-second.result c.min-times.result c.min-times.ensures).some c.look_ahead-first.ensures.some c.look_ahead-second.ensures.some))).followed
+    (moves_of (abstract_frame c.args.form.now) (lists_of c.args.form.now) picks) (c.look_ahead-first.ensures.rises (omega (arith, l, (least_of c.look_ahead-first.result c.look_ahead-second.result c.min-times.result c.min-times.ensures).some c.look_ahead-first.ensures.some c.look_ahead-second.ensures.some))).followed
 
 pub move_on-requires-2-clause-small_points : goal.move_on-requires-2-clause-small_points
 move_on-requires-2-clause-small_points c =
-    let f = frame_of c.args.form.now in
+    let f = abstract_frame c.args.form.now in
     let lists = lists_of c.args.form.now in
     let plan = subst (λ (p : Plan). IsPlanOf f lists 1 p) (sym c.answer-same_one.ensures.plan) c.requires.playing.plan_one in
     λ l. small_points c.args.form.now 2 (omega arith) (omega arith) c.answer-same_one.new.seat.plan plan c.answer-same_two.new.seat.totals.points.items
@@ -76,11 +76,11 @@ pub move_on-requires-2-clause-small_slopes : goal.move_on-requires-2-clause-smal
 move_on-requires-2-clause-small_slopes c =
     let picks = c.answer-same_two.new.seat.picks.items in
     λ l. small_points c.args.form.now 2 (omega arith) (omega arith) c.answer-same_one.new.seat.answer c.answer-same_one.ensures.seat.room.answer c.look_ahead-second.new.steps.points.items
-    (moves_of (frame_of c.args.form.now) (lists_of c.args.form.now) picks) (c.look_ahead-second.ensures.rises (omega (arith, l, (least_of c.look_ahead-first.result c.look_ahead-second.result c.min-times.result c.min-times.ensures).some c.look_ahead-first.ensures.some c.look_ahead-second.ensures.some))).followed
+    (moves_of (abstract_frame c.args.form.now) (lists_of c.args.form.now) picks) (c.look_ahead-second.ensures.rises (omega (arith, l, (least_of c.look_ahead-first.result c.look_ahead-second.result c.min-times.result c.min-times.ensures).some c.look_ahead-first.ensures.some c.look_ahead-second.ensures.some))).followed
 
 pub returns-clause-steps : goal.returns-clause-steps
 returns-clause-steps c =
-    let f = frame_of c.args.form.now in
+    let f = abstract_frame c.args.form.now in
     let lists = lists_of c.args.form.now in
     record {
       to_one = subst (λ (p : Plan). AreEndSums f lists 1 (class_plan f lists p) c.look_ahead-first.new.steps.ends.items) (sym c.move_on-2.ensures.answer) c.look_ahead-first.ensures.paid;
@@ -90,7 +90,7 @@ returns-clause-steps c =
 pub returns-clause-playing : goal.returns-clause-playing
 returns-clause-playing c =
     let a = c.args.form.now in
-    let f = frame_of a in
+    let f = abstract_frame a in
     let lists = lists_of a in
     let r = form_in_range a in
     let k = form_classes a in
@@ -114,8 +114,8 @@ returns-clause-playing c =
     stays_less f lists 1 y by bx c.look_ahead-first.result times least.first
     (subst (λ (p : Plan). AnswerStays f lists 1 (class_plan f lists p) by bx c.look_ahead-first.result) c.answer-same_two.ensures.plan c.look_ahead-first.ensures.stays) in
     let stays2 : AnswerStays f lists 2 x bx by times = stays_less f lists 2 x bx by c.look_ahead-second.result times least.second c.look_ahead-second.ensures.stays in
-    let alike1 : AreAlike f lists 1 x' (plus_times x times bx) = c.move_on.ensures.sum in
-    let alike2 : AreAlike f lists 2 y' (plus_times y times by) = subst (λ (p : Plan). AreAlike f lists 2 y' (plus_times (class_plan f lists p) times by)) c.answer-same_two.ensures.plan c.move_on-2.ensures.sum in
+    let alike1 : ArePlansAlike f lists 1 x' (plus_times x times bx) = c.move_on.ensures.sum in
+    let alike2 : ArePlansAlike f lists 2 y' (plus_times y times by) = subst (λ (p : Plan). ArePlansAlike f lists 2 y' (plus_times (class_plan f lists p) times by)) c.answer-same_two.ensures.plan c.move_on-2.ensures.sum in
     let after : IsFictitiousPlay f lists (n + times) x' y' =
     jump f lists n times x y bx by played stays1 stays2 x' y' some alike1 alike2 in
     let positive = before.plan_one.plan.plan.total_in.0 in

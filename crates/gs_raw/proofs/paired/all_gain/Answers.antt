@@ -4,7 +4,7 @@ use mir.Syntax.{w128}
 use mir.Val.{to_z}
 use Rattle.gs_best.proofs.Forms.{form_modest}
 use Rattle.gs_model.specs.{Frame.{end_count}, Sums.{sum_z}}
-use Rattle.gs_seq.specs.{Abstracts.{frame_of, lists_of}, Plans.{lifted}}
+use Rattle.gs_seq.specs.{Abstracts.{abstract_frame, lists_of}, Plans.{lifted}}
 use Rattle.gs_raw.specs.Hands.{hand_pays_at}
 use Rattle.gs_raw.proofs.{HandDeals.{all_ends}, Running.{IsAdded, ends_added}, paired.all_gain.Goals.{After-end_gain}}
 use Rattle.gs_raw.proofs.paired.all_gain.Goals as goal
@@ -12,11 +12,11 @@ use Rattle.gs_raw.proofs.paired.all_gain.Goals as goal
 -- the sum with the end's part
 adding : (c : After-end_gain)
     → IsAdded (to_z w128 c.loop-end.sum-bits) c.end_gain.result
-    (sum_z (hand_pays_at (frame_of c.args.side.now.form.now) (lifted (frame_of c.args.side.now.form.now) (lists_of c.args.side.now.form.now) c.args.side.now.one.now)
-    (lifted (frame_of c.args.side.now.form.now) (lists_of c.args.side.now.form.now) c.args.side.now.two.now) c.args.signal) (range_with_len 0 (c.loop-end.end + 1))) ((c.loop-end.end + 1) * (2 ^ 110))
+    (sum_z (hand_pays_at (abstract_frame c.args.side.now.form.now) (lifted (abstract_frame c.args.side.now.form.now) (lists_of c.args.side.now.form.now) c.args.side.now.one.now)
+    (lifted (abstract_frame c.args.side.now.form.now) (lists_of c.args.side.now.form.now) c.args.side.now.two.now) c.args.signal) (range_with_len 0 (c.loop-end.end + 1))) ((c.loop-end.end + 1) * (2 ^ 110))
 adding c =
     let side = c.args.side.now in
-    let f = frame_of side.form.now in
+    let f = abstract_frame side.form.now in
     let lists = lists_of side.form.now in
     ends_added (hand_pays_at f (lifted f lists side.one.now) (lifted f lists side.two.now) c.args.signal) c.loop-end.end _ c.end_gain.result (omega (arith, c.loop-end-test.true, c.end_total-end-end.ensures, (form_modest side.form.now).ends)) c.loop-end.invariant.sum_is
     c.loop-end.invariant.within c.end_gain.ensures.value c.end_gain.ensures.few
@@ -31,7 +31,7 @@ loop-end-preserved c =
 pub returns : goal.returns
 returns c =
     let side = c.args.side.now in
-    let f = frame_of side.form.now in
+    let f = abstract_frame side.form.now in
     let lists = lists_of side.form.now in
     let x = lifted f lists side.one.now in
     let y = lifted f lists side.two.now in

@@ -3,7 +3,7 @@ use mir.Syntax.{w128}
 use Rattle.gs_best.proofs.Forms.{form_in_range, form_walked, form_signals}
 use Rattle.gs_lossless.specs.Amounts.{IsRunIn}
 use Rattle.gs_model.specs.{Classes.{first_member}, Frame.{round_of, signal_count}, Positions.{at_end}}
-use Rattle.gs_seq.specs.{Abstracts.{frame_of, lists_of}, Plans.{lifted}}
+use Rattle.gs_seq.specs.{Abstracts.{abstract_frame, lists_of}, Plans.{lifted}}
 use Rattle.gs_raw.proofs.SignalPays.{run_pays_hand, single_at}
 use Rattle.gs_raw.proofs.paired.end_gain.Goals as goal
 
@@ -22,14 +22,14 @@ run_below-run-requires-clause-class c =
 
 pub signals_gain-requires-clause-within : goal.signals_gain-requires-clause-within
 signals_gain-requires-clause-within c =
-    let f = frame_of c.args.side.now.form.now in
+    let f = abstract_frame c.args.side.now.form.now in
     omega (arith, c.run_below-run.ensures.within, ap (signal_count f) c.end_round.ensures.value)
 
 pub returns-clause-value : goal.returns-clause-value
 returns-clause-value c =
     let side = c.args.side.now in
     let a = side.form.now in
-    let f = frame_of a in
+    let f = abstract_frame a in
     let lists = lists_of a in
     let z = c.args.end in
     let is = (single_at a lists side.singles 1 c.args.signal (omega arith) (omega (arith, c.end_round.ensures.some, c.end_round.ensures.top)) c.requires.signal).1 in

@@ -4,7 +4,7 @@ use mir.Syntax.{w128}
 use mir.Val.{to_z}
 use Rattle.gs_best.proofs.Forms.{form_modest}
 use Rattle.gs_model.specs.{BestAnswers.{end_worth}, Pairs.{class_number}, Payoff.{number_at_end}}
-use Rattle.gs_seq.specs.{Abstracts.{frame_of, lists_of}, Plans.{IsPlanOf, class_plan, lifted}}
+use Rattle.gs_seq.specs.{Abstracts.{abstract_frame, lists_of}, Plans.{IsPlanOf, class_plan, lifted}}
 use Rattle.gs_raw.specs.Hands.{signal_pays}
 use Rattle.gs_raw.proofs.{Numbers.{abs_scaled}, SignalPays.{signal_share, signal_weighs_le, single_end, small_of}, paired.signal_gain.Goals.{After-end_value}}
 use Rattle.gs_raw.proofs.paired.signal_gain.Goals as goal
@@ -12,11 +12,11 @@ use Rattle.gs_raw.proofs.paired.signal_gain.Goals as goal
 -- the number times what the end pays is what the signal's deals pay
 product : (c : After-end_value)
     → pos c.number_at_end-number.result *ℤ to_z w128 (of_z w128 c.end_value.result)
-    ≡ signal_pays (frame_of c.args.side.now.form.now) (lifted (frame_of c.args.side.now.form.now) (lists_of c.args.side.now.form.now) c.args.side.now.one.now)
-    (lifted (frame_of c.args.side.now.form.now) (lists_of c.args.side.now.form.now) c.args.side.now.two.now) c.args.end c.args.signal
+    ≡ signal_pays (abstract_frame c.args.side.now.form.now) (lifted (abstract_frame c.args.side.now.form.now) (lists_of c.args.side.now.form.now) c.args.side.now.one.now)
+    (lifted (abstract_frame c.args.side.now.form.now) (lists_of c.args.side.now.form.now) c.args.side.now.two.now) c.args.end c.args.signal
 product c =
     let side = c.args.side.now in
-    let f = frame_of side.form.now in
+    let f = abstract_frame side.form.now in
     let lists = lists_of side.form.now in
     let z = c.args.end in
     let s = c.args.signal in
@@ -37,7 +37,7 @@ overflow_add-signal-2 c = omega (arith, (single_end c.args.side.now.form.now c.a
 
 pub number_at_end-number-requires-clause-plan : goal.number_at_end-number-requires-clause-plan
 number_at_end-number-requires-clause-plan c =
-    let side = c.args.side.now in subst (λ p. IsPlanOf (frame_of side.form.now) (lists_of side.form.now) p side.one.now) (sym side.one_plan.player_is) side.one_plan
+    let side = c.args.side.now in subst (λ p. IsPlanOf (abstract_frame side.form.now) (lists_of side.form.now) p side.one.now) (sym side.one_plan.player_is) side.one_plan
 
 pub number_at_end-number-requires-clause-class : goal.number_at_end-number-requires-clause-class
 number_at_end-number-requires-clause-class c = (single_end c.args.side.now.form.now c.args.side.now.singles c.args.end c.args.signal c.requires.end c.requires.signal).0
@@ -51,7 +51,7 @@ scaled-requires c =
     let a = side.form.now in
     let size = abs_scaled c.number_at_end-number.result (to_z w128 (of_z w128 c.end_value.result)) _ (sym (product (goal.at.scaled-requires c).After-end_value)) in
     let small = small_of a (lists_of a) side.singles side.one.now side.two.now side.one_plan side.two_plan c.args.end c.args.signal c.requires.end in
-    let up = mul-le-mul_left (2 ^ 84) (signal_weighs_le (frame_of a) c.args.end c.args.signal) in
+    let up = mul-le-mul_left (2 ^ 84) (signal_weighs_le (abstract_frame a) c.args.end c.args.signal) in
     omega (arith, size, small, up, mul-le-mul_left (2 ^ 84) (form_modest a).weight)
 
 pub returns-clause-value : goal.returns-clause-value

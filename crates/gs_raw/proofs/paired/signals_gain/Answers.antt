@@ -2,7 +2,7 @@ use Rattle.std.proofs.{Common.{◌+◌, ◌-◌, ◌*◌, ◌^◌, ap, ◌∙◌
 use mir.Val.{to_z}
 use mir.Syntax.{w128}
 use Rattle.gs_best.proofs.Forms.{form_modest}
-use Rattle.gs_seq.specs.{Abstracts.{frame_of, lists_of}, Plans.{lifted}}
+use Rattle.gs_seq.specs.{Abstracts.{abstract_frame, lists_of}, Plans.{lifted}}
 use Rattle.gs_raw.specs.Hands.{signal_pays, signal_weighs, signals_pay, signals_weigh}
 use Rattle.gs_raw.proofs.{Running.{IsAdded, run_added}, SignalPays.{signals_weigh_le}, paired.signals_gain.Goals.{After-signal_gain}}
 use Rattle.gs_raw.proofs.paired.signals_gain.Goals as goal
@@ -10,12 +10,12 @@ use Rattle.gs_raw.proofs.paired.signals_gain.Goals as goal
 -- the sum with the signal's part
 adding : (c : After-signal_gain)
     → IsAdded (to_z w128 c.loop-signal.sum-bits) c.signal_gain.result
-    (signals_pay (frame_of c.args.side.now.form.now) (lifted (frame_of c.args.side.now.form.now) (lists_of c.args.side.now.form.now) c.args.side.now.one.now)
-    (lifted (frame_of c.args.side.now.form.now) (lists_of c.args.side.now.form.now) c.args.side.now.two.now) c.args.run.first (c.loop-signal.signal + 1 - c.args.run.first) c.args.end)
-    ((2 ^ 84) * signals_weigh (frame_of c.args.side.now.form.now) c.args.run.first (c.loop-signal.signal + 1 - c.args.run.first) c.args.end)
+    (signals_pay (abstract_frame c.args.side.now.form.now) (lifted (abstract_frame c.args.side.now.form.now) (lists_of c.args.side.now.form.now) c.args.side.now.one.now)
+    (lifted (abstract_frame c.args.side.now.form.now) (lists_of c.args.side.now.form.now) c.args.side.now.two.now) c.args.run.first (c.loop-signal.signal + 1 - c.args.run.first) c.args.end)
+    ((2 ^ 84) * signals_weigh (abstract_frame c.args.side.now.form.now) c.args.run.first (c.loop-signal.signal + 1 - c.args.run.first) c.args.end)
 adding c =
     let side = c.args.side.now in
-    let f = frame_of side.form.now in
+    let f = abstract_frame side.form.now in
     let lists = lists_of side.form.now in
     let first = c.args.run.first in
     let i = c.loop-signal.signal in
@@ -32,7 +32,7 @@ loop-signal-preserved c =
 pub returns-clause-value : goal.returns-clause-value
 returns-clause-value c =
     let side = c.args.side.now in
-    let f = frame_of side.form.now in
+    let f = abstract_frame side.form.now in
     let lists = lists_of side.form.now in
     c.loop-signal.invariant.sum_is ∙ ap (λ k. signals_pay f (lifted f lists side.one.now) (lifted f lists side.two.now) c.args.run.first (k - c.args.run.first) c.args.end) (omega arith)
 
@@ -40,5 +40,5 @@ pub returns-clause-few : goal.returns-clause-few
 returns-clause-few c =
     let a = c.args.side.now.form.now in
     let first = c.args.run.first in
-    let all = mul-le-mul_left (2 ^ 84) (signals_weigh_le (frame_of a) c.args.end first (c.loop-signal.signal - first)) in
+    let all = mul-le-mul_left (2 ^ 84) (signals_weigh_le (abstract_frame a) c.args.end first (c.loop-signal.signal - first)) in
     omega (arith, c.loop-signal.invariant.within, all, mul-le-mul_left (2 ^ 84) (form_modest a).weight)

@@ -1,13 +1,13 @@
 use Rattle.std.proofs.Common.{◌≡◌, ◌-◌, ◌*◌, ◌≤◌, ◌^◌}
 use Rattle.std.specs.Prelude.{unsigned_abs}
-use Rattle.gs_seq.specs.{Abstracts.{frame_of, lists_of}, Plans.{lifted}}
+use Rattle.gs_seq.specs.{Abstracts.{abstract_frame, lists_of}, Plans.{lifted}}
 use Rattle.gs_raw.specs.Hands.{signals_pay, signals_weigh}
 use Rattle.gs_raw.proofs.paired.signals_gain.Given as goal
 
 abbrev pub invariant-loop-signal : goal.invariant-loop-signal
 invariant-loop-signal l =
     let side = l.side in
-    let f = frame_of side.form.now in
+    let f = abstract_frame side.form.now in
     let lists = lists_of side.form.now in
     let first = l.fn.run.first in
     record {

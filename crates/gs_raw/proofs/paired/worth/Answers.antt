@@ -6,7 +6,7 @@ use Rattle.gs_game.specs.Games.{game_of}
 use Rattle.gs_lossless.specs.declared.checking.Lossless.{Lossless}
 use Rattle.gs_model.specs.Payoff.{hand_weight}
 use Rattle.gs_model.proofs.Ranges.{deals_weigh}
-use Rattle.gs_seq.specs.{Abstracts.{frame_of, lists_of}, Games.{frame_in}, Plans.{lifted}}
+use Rattle.gs_seq.specs.{Abstracts.{abstract_frame, lists_of}, Games.{frame_in}, Plans.{lifted}}
 use Rattle.gs_tree.specs.declared.signals.Signals.{Signals}
 use Rattle.gs_raw.proofs.HandDeals.{no_weight}
 use Rattle.gs_raw.proofs.paired.worth.Goals as goal
@@ -15,7 +15,7 @@ pub paid_over-requires-clause-nothing : goal.paid_over-requires-clause-nothing
 paid_over-requires-clause-nothing c =
     let side = c.args.side.now in
     let a = side.form.now in
-    let f = frame_of a in
+    let f = abstract_frame a in
     let lists = lists_of a in
     let held = c.signals-signals.ensures.held ∙ ap (λ (l : Lossless). l.signals.now) c.lossless.ensures in
     let weight = c.hand_weight-weight.ensures.value ∙ ap (λ (s : Signals). hand_weight (frame_in s.game.now) c.args.signal) held in

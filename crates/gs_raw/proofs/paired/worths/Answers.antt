@@ -1,19 +1,19 @@
 use Rattle.std.proofs.Common.{sym, subst, arith}
-use Rattle.gs_seq.specs.Abstracts.{frame_of, lists_of}
+use Rattle.gs_seq.specs.Abstracts.{abstract_frame, lists_of}
 use Rattle.gs_raw.proofs.SignalPays.{HandsTo, hands_more, hands_none}
 use Rattle.gs_raw.proofs.paired.worths.Goals as goal
 
 pub loop-signal-init : goal.loop-signal-init
 loop-signal-init c =
     let side = c.args.side.now in
-    let f = frame_of side.form.now in
+    let f = abstract_frame side.form.now in
     let lists = lists_of side.form.now in
     subst (HandsTo f lists side.one.now lists side.two.now 0) (sym c.in_ok-hands.ensures.items) (hands_none f lists side.one.now lists side.two.now)
 
 pub loop-signal-preserved : goal.loop-signal-preserved
 loop-signal-preserved c =
     let side = c.args.side.now in
-    let f = frame_of side.form.now in
+    let f = abstract_frame side.form.now in
     let lists = lists_of side.form.now in
     hands_more f lists side.one.now lists side.two.now c.loop-signal.signal c.loop-signal.hands.items _ c.worth.result c.loop-signal.invariant c.in_ok-push.ensures.items c.worth.ensures
 

@@ -3,7 +3,7 @@ use Rattle.std.specs.declared.alloc.Global.{Global}
 use Rattle.gs_game.specs.Games.{game_of}
 use Rattle.gs_model.specs.Frame.{player_at, point_count}
 use Rattle.gs_model.proofs.Ranges.{in_range}
-use Rattle.gs_seq.specs.{Firsts.{Agree, AreFirstBefore, IsClear}, Games.{frame_in}, Slots.{slots_before}}
+use Rattle.gs_seq.specs.{Firsts.{AgreeBefore, AreFirstBefore, IsClear}, Games.{frame_in}, Slots.{slots_before}}
 use Rattle.gs_seq.proofs.{Firsts.{firsts_more, firsts_same}, Leaks.{slots_none}, Choices.{some_move}, Points.{chooser, playable, walked_at}, SlotLaws.{over}}
 use Rattle.gs_seq.proofs.first.first_weights.Goals.{After-index-points-point, then-points-point, else-points-point}
 use Rattle.gs_seq.proofs.first.first_weights.Goals as goal
@@ -33,7 +33,7 @@ loop-point-preserved c =
           let ys = w.put_first.new.weights in
           let wide : c.loop-point.weights.len ≡ length ys = omega (arith, c.loop-point.weights.ok.0, w.put_first.auto.weights, ap length w.deref_mut.ensures.value) in
           let same : c.if-points-point.weights.items ≡ ys = ap (λ (v : Vec ℕ Global). v.items) w.weights-is ∙ with_items_is c.loop-point.weights ys (sym wide) in
-          let agree : Agree (slots_before f lists p q) xs ys = subst (λ zs. Agree (slots_before f lists p q) zs ys) w.deref_mut.ensures.value w.put_first.ensures.kept in
+          let agree : AgreeBefore (slots_before f lists p q) xs ys = subst (λ zs. AgreeBefore (slots_before f lists p q) zs ys) w.deref_mut.ensures.value w.put_first.ensures.kept in
           record {
             long = ap (λ (v : Vec ℕ Global). vec_len v) w.weights-is ∙ i.long;
             firsts = subst (λ zs. AreFirstBefore f lists p zs (q + 1)) (sym same)

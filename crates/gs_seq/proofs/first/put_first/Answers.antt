@@ -3,7 +3,7 @@ use Rattle.std.proofs.{Math.Nat.{mul-le-mul_right}, lemmas.Bool.{cases_eq}}
 use Rattle.gs_game.specs.Games.{game_of}
 use Rattle.gs_model.specs.{Classes.{class_count, first_member}, Frame.{last_step, move_count, round_of}, Plans.{lift, number_before}, Positions.{at_point}}
 use Rattle.gs_model.proofs.Ranges.{in_range}
-use Rattle.gs_seq.specs.{Firsts.{Agree, IsClear, IsFirstAt}, Games.{frame_in}, Slots.{plan_of, slots_before}}
+use Rattle.gs_seq.specs.{Firsts.{AgreeBefore, IsClear, IsFirstAt}, Games.{frame_in}, Slots.{plan_of, slots_before}}
 use Rattle.gs_seq.proofs.{Choices.{some_move}, Firsts.{first_kept, first_put, slots_own}, Leaks.{RowAt, row_at}}
 use Rattle.gs_seq.proofs.{Points.{Reads, playable, point_reads, round_in, walked_at}, SlotLaws.{over, slots_own_before}}
 use Rattle.gs_seq.proofs.first.put_first.Goals.{After-len-moves, In-loop-before}
@@ -85,7 +85,7 @@ loop-before-preserved c =
     c.coming-came.ensures
     ∙ ap (λ p. number_before f (lift f lists (plan_of f lists 1 weights)) (last_step f p (at_point q)) (round_of f (at_point q)) (first_member lists (round_of f (at_point q)) (before + 1))) c.requires.own in
     let clear : IsClear slot weights = λ k lk. c.loop-before.invariant.clear k (omega (arith, place, lk)) in
-    let same : Agree slot weights (set weights slot came) = λ j lj. get_or-set_other weights slot j came 0 (omega (arith, lj)) in
+    let same : AgreeBefore slot weights (set weights slot came) = λ j lj. get_or-set_other weights slot j came 0 (omega (arith, lj)) in
     record {
       kept = λ k lk. get_or-set_other weights slot k came 0 (omega (arith, lk, place)) ∙ c.loop-before.invariant.kept k lk;
       here = λ k lo hi. ⊎_elim

@@ -2,7 +2,7 @@ use Rattle.std.proofs.Common.{◌∙◌, sym, subst, ap}
 use Rattle.gs_rows.specs.Program.{Listing}
 use Rattle.gs_simplex.specs.{Answer.{IsStop}, Trace.{IsTrace}}
 use Rattle.gs_solve.specs.Solutions.{most_pivots}
-use Rattle.gs_seq.specs.Abstracts.{frame_of, lists_of}
+use Rattle.gs_seq.specs.Abstracts.{abstract_frame, lists_of}
 use Rattle.gs_solve.proofs.{EndSteps.{form_is}, Solved.{stop_is_met}}
 use Rattle.gs_settle.proofs.paths.shown.Goals as goal
 
@@ -23,5 +23,5 @@ unended-requires-clause-stop c =
 pub unended-requires-clause-met : goal.unended-requires-clause-met
 unended-requires-clause-met c =
     let form = c.args.form.now in
-    stop_is_met (frame_of form) (lists_of form) (form_is form) c.in-Ok.made.0 c.in-Ok.made.1.items c.in-Ok.ensures.path c.in-Ok.ensures.small c.in-Err-trace.stop
+    stop_is_met (abstract_frame form) (lists_of form) (form_is form) c.in-Ok.made.0 c.in-Ok.made.1.items c.in-Ok.ensures.path c.in-Ok.ensures.small c.in-Err-trace.stop
     (subst (λ (o : Listing). IsStop c.in-Ok.made.0 o most_pivots c.in-Err-trace.stop) c.deref.ensures.value c.in-Err-trace.ensures)

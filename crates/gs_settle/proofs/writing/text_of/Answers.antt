@@ -3,7 +3,7 @@ use Rattle.gs_filter.specs.Filter.{Filter}
 use Rattle.gs_game.specs.declared.valid.ValidGame.{ValidGame}
 use Rattle.gs_lossless.specs.declared.Lossless.{Lossless}
 use Rattle.gs_model.specs.{Classes.{IsClasses}, Frame.{frame_of}, Lossless.{IsLossless}}
-use Rattle.gs_seq.specs.{Abstracts.{frame_of as frame_by, lists_of}, Games.{frame_in}, Plans.{IsPlanOf}}
+use Rattle.gs_seq.specs.{Abstracts.{abstract_frame as frame_by, lists_of}, Games.{frame_in}, Plans.{IsPlanOf}}
 use Rattle.gs_tree.specs.{Trees.{rules_of}, declared.signals.Signals.{Signals}}
 use Rattle.gs_settle.proofs.Told.{told_of}
 use Rattle.gs_settle.proofs.writing.text_of.Goals as goal

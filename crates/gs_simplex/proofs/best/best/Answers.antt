@@ -3,7 +3,7 @@ use Rattle.std.specs.List.{HoldsAt}
 use Rattle.gs_rows.specs.{declared.Program.{Program}, Program.{Listing, IsPairList, IsRowsOf}}
 use Rattle.gs_rows.proofs.{PairLists.{pair_list_is_list, column_decided}, Ring.{times_neg}}
 use Rattle.gs_frac.specs.declared.value.Fraction.{Fraction}
-use Rattle.gs_simplex.specs.{Table.{table_rows, table_aim, IsKept, IsTableOf}, Values.{IsRowIndex, IsValue, CanValue}, Answer.{IsBestAt}}
+use Rattle.gs_simplex.specs.{Table.{table_rows, table_aim, IsKept, IsTableOf}, Values.{IsRowIndex, IsColumnValue, CanValue}, Answer.{IsBestAt}}
 use Rattle.gs_simplex.proofs.{Multiples.{down_fraction}, Kept.{row_pos_kept, multiple_kept}}
 use Rattle.gs_simplex.proofs.best.best.Goals as goal
 
@@ -37,7 +37,7 @@ module _ (p : Program) (l : Listing) (xs : List ℤ) (rows rows' : List ℕ) (pa
   neg_times_at : (k y b : ℤ) → y ≡ k *ℤ b → neg_ℤ y ≡ k *ℤ neg_ℤ b
   neg_times_at k y b e = ap neg_ℤ e ∙ sym (times_neg k b)
 
-  pub best_at : (value price : List Fraction) → ((j : ℕ) → j < p.cols → HoldsAt (IsValue p (table_rows p xs) (slice_index rows j) j) value j)
+  pub best_at : (value price : List Fraction) → ((j : ℕ) → j < p.cols → HoldsAt (IsColumnValue p (table_rows p xs) (slice_index rows j) j) value j)
       → ((j : ℕ) → j < p.cols → HoldsAt (λ f. f.num *ℤ table_aim p xs (p.cols + 1) ≡ neg_ℤ (table_aim p xs j) *ℤ f.den) price j) → IsBestAt p l R a value price
   best_at value price v w = record {
     rows_of = u;

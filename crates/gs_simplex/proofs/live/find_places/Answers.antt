@@ -1,6 +1,6 @@
 use Rattle.std.proofs.Common.{◌≡◌, inl, inr, ℕ, ◌+◌, ◌<◌, List, length, slice_index, slice_set, refl, sym, subst, ◌∙◌, arith, get_or-set_other, get_or-set_same}
 use Rattle.std.proofs.lemmas.Bool.{cases_eq, cases_lt}
-use Rattle.gs_simplex.specs.Live.{IsLiveRow, IsOutside, ArePlacesBelow, ArePlaces}
+use Rattle.gs_simplex.specs.Live.{IsLiveRow, IsOutside, ArePlacesBelow, AreColumnPlaces}
 use Rattle.gs_simplex.proofs.live.find_places.Goals.{then-is_live, else-is_live}
 use Rattle.gs_simplex.proofs.live.find_places.Goals as goal
 
@@ -63,7 +63,7 @@ taken rows r places found j inside u here = record {
   ];
 }
 
-ended : (cols : ℕ) (rows : List ℕ) (r : ℕ) (places : List ℕ) (found : ℕ) → found < length places → ArePlacesBelow rows r places found cols → ArePlaces cols rows r (slice_set places found cols) (found + 1)
+ended : (cols : ℕ) (rows : List ℕ) (r : ℕ) (places : List ℕ) (found : ℕ) → found < length places → ArePlacesBelow rows r places found cols → AreColumnPlaces cols rows r (slice_set places found cols) (found + 1)
 ended cols rows r places found inside u = record {
   some = omega (arith, u.some);
   few = omega (arith, u.few);

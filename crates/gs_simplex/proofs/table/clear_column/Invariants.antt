@@ -1,5 +1,5 @@
 use Rattle.std.proofs.Common.{◌≡◌, ◌≢◌, ℕ, ◌<◌, ◌≤◌, length, slice_index}
-use Rattle.gs_simplex.specs.Numbers.{at, cell, AllNarrow, IsAtMost, IsMixed}
+use Rattle.gs_simplex.specs.Numbers.{at, cell, AreNarrowNumbers, IsAtMost, IsMixed}
 use Rattle.gs_simplex.proofs.table.clear_column.Given as goal
 
 abbrev pub invariant-loop-i : goal.invariant-loop-i
@@ -11,7 +11,7 @@ invariant-loop-i l = record {
       → cell l.numbers (length l.lead.numbers.now) h j ≡ cell l.fn.numbers (length l.lead.numbers.now) h j;
   kept : (j : ℕ) → j < length l.lead.numbers.now
       → cell l.numbers (length l.lead.numbers.now) l.lead.row j ≡ cell l.fn.numbers (length l.lead.numbers.now) l.lead.row j;
-  narrow : AllNarrow l.numbers;
+  narrow : AreNarrowNumbers l.numbers;
   tops_done : (h : ℕ) → h < l.i → IsAtMost (length l.lead.numbers.now) (cell l.numbers (length l.lead.numbers.now) h) (slice_index l.tops h);
   tops_left : (h : ℕ) → (l.i ≤ h) → slice_index l.tops h ≡ slice_index l.fn.tops h;
   places : (k : ℕ) → 0 < k → slice_index l.places k ≡ slice_index l.fn.places k;

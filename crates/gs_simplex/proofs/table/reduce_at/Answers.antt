@@ -1,6 +1,6 @@
 use Rattle.std.proofs.Common.{◌≡◌, MatchResult, Result, Ok, Err, ℕ, ◌+◌, ◌-◌, ◌<◌, ◌≤◌, ℤ, length, List, take, drop, refl, sym, subst, arith}
 use borrow.Rule.Slice.PartMut.{put_mid}
-use Rattle.gs_simplex.specs.{declared.row.WideNumber.{WideNumber}, Numbers.{at, AllNarrow, AllAtMost, IsAtMost, IsMixed, IsReducedTo}}
+use Rattle.gs_simplex.specs.{declared.row.WideNumber.{WideNumber}, Numbers.{at, AreNarrowNumbers, AllAtMost, IsAtMost, IsMixed, IsReducedTo}}
 use Rattle.gs_simplex.proofs.Lives.{support_same}
 use Rattle.gs_simplex.proofs.Places.{at_part, part_long, length_put, at_put_inside, narrow_put, mixed_same, at_most_same, reduced_to_same, others_put}
 use Rattle.gs_simplex.proofs.table.reduce_at.Goals as goal
@@ -16,10 +16,10 @@ reduce_row-requires-clause-support c =
     let xs = c.args.numbers.now in let lead = c.args.lead.now.numbers.now in let w = length lead in let s = c.args.start in let n = s + w - s in
     support_same c.args.places.now c.args.found w (λ j. at xs (s + j)) (at (take n (drop s xs))) (at lead) (at lead) (λ j h. sym (at_part xs s n j (omega arith))) (λ j h. refl) c.requires.support
 
-answer : (lead xs ys : List ℤ) (start c n : ℕ) (r : Result ℕ WideNumber) → n ≡ start + length lead - start → start + length lead ≤ length xs → length ys ≡ n → c < length lead → AllNarrow xs
-    → MatchResult r (λ most. IsMixed (at lead) c (length lead) (at (take n (drop start xs))) (at ys) × AllNarrow ys × AllAtMost ys most) (λ w. IsReducedTo (at lead) c (length lead) (at (take n (drop start xs))) w.column w.number)
+answer : (lead xs ys : List ℤ) (start c n : ℕ) (r : Result ℕ WideNumber) → n ≡ start + length lead - start → start + length lead ≤ length xs → length ys ≡ n → c < length lead → AreNarrowNumbers xs
+    → MatchResult r (λ most. IsMixed (at lead) c (length lead) (at (take n (drop start xs))) (at ys) × AreNarrowNumbers ys × AllAtMost ys most) (λ w. IsReducedTo (at lead) c (length lead) (at (take n (drop start xs))) w.column w.number)
     → length (put_mid start n xs ys) ≡ length xs
-    → MatchResult r (λ most. IsMixed (at lead) c (length lead) (λ j. at xs (start + j)) (λ j. at (put_mid start n xs ys) (start + j)) × AllNarrow (put_mid start n xs ys) × IsAtMost (length lead) (λ j. at (put_mid start n xs ys) (start + j)) most)
+    → MatchResult r (λ most. IsMixed (at lead) c (length lead) (λ j. at xs (start + j)) (λ j. at (put_mid start n xs ys) (start + j)) × AreNarrowNumbers (put_mid start n xs ys) × IsAtMost (length lead) (λ j. at (put_mid start n xs ys) (start + j)) most)
     (λ w. IsReducedTo (at lead) c (length lead) (λ j. at xs (start + j)) w.column w.number)
 answer lead xs ys start c n (Ok most) e h long cw nx u same =
     let put : (j : ℕ) → j < length lead → at ys j ≡ at (put_mid start n xs ys) (start + j) = λ j l. sym (at_put_inside xs ys start n j (omega arith) long (omega arith)) in (

@@ -4,30 +4,30 @@ use Rattle.std.specs.Int.{w64}
 use Rattle.gs_model.specs.{Frame.{end_at}, Sums.{sum_z}}
 use Rattle.gs_model.proofs.Sparse.{abs_sum}
 use Rattle.gs_best.specs.Forms.{game_in}
-use Rattle.gs_seq.specs.{Abstracts.{frame_of, lists_of}, Payoffs.{pair_pays}, declared.pair.Pair.{Pair}}
+use Rattle.gs_seq.specs.{Abstracts.{abstract_frame, lists_of}, Payoffs.{pair_pays}, declared.pair.Pair.{Pair}}
 use Rattle.gs_seq.proofs.{Sizes.{modest}, Turns.{IsKnown, IsTurn, begun, known, none_passed, passed, sum_ended, sum_turned, turn}}
 use Rattle.gs_solve.specs.{Laws.{IsForm}, Layout.{cell_at, class_adds, end_sequence}, Programs.{unit}, Sequences.{form_sizes}}
 use Rattle.gs_solve.proofs.{AddedCells.{added_none, added_same, added_then, added_within}, Cells.{first_in, pair_adds, prefix_small, row_adds, second_in}}
 use Rattle.gs_solve.proofs.{EndSteps.{form_is}, payoffs.add_row.Goals.{After-pays, After-round_total-rounds, After-sequence_at-two, In-Some}}
 use Rattle.gs_solve.proofs.payoffs.add_row.Goals as goal
 
-form : (c : After-round_total-rounds) → IsForm (frame_of c.args.form.now) (lists_of c.args.form.now)
+form : (c : After-round_total-rounds) → IsForm (abstract_frame c.args.form.now) (lists_of c.args.form.now)
 form c = form_is c.args.form.now
 
 -- where the walk stands, and what is known of the pair there
-at_pair : (c : In-Some) → IsTurn {X = Pair} c.args.row c.loop-pair.pair-iterator c.next.new.self c.in-Some.pair × IsKnown (frame_of c.args.form.now) (lists_of c.args.form.now) 1 c.args.end c.in-Some.pair
+at_pair : (c : In-Some) → IsTurn {X = Pair} c.args.row c.loop-pair.pair-iterator c.next.new.self c.in-Some.pair × IsKnown (abstract_frame c.args.form.now) (lists_of c.args.form.now) 1 c.args.end c.in-Some.pair
 at_pair c =
     let u = form (goal.at.In-Some c).After-round_total-rounds in
     let t = turn {X = Pair} c.args.row c.loop-pair.pair-iterator c.next.new.self c.in-Some.pair c.loop-pair.invariant.on c.in-Some.ensures.steps in (
       t,
-      known (frame_of c.args.form.now) u.in_range (lists_of c.args.form.now) u.classes 1 u.one (modest (game_in c.args.form.now)) c.args.end c.requires.end c.args.class c.args.row c.requires.row c.loop-pair.pair-iterator
+      known (abstract_frame c.args.form.now) u.in_range (lists_of c.args.form.now) u.classes 1 u.one (modest (game_in c.args.form.now)) c.args.end c.requires.end c.args.class c.args.row c.requires.row c.loop-pair.pair-iterator
           c.next.new.self c.in-Some.pair t,
     )
 
 -- the place is one of the list, and this is what the end pays
 inside : (c : After-sequence_at-two) → c.sequence_at-one.result * c.args.twos + c.sequence_at-two.result < length c.loop-pair.sums
 inside c =
-    let f = frame_of c.args.form.now in
+    let f = abstract_frame c.args.form.now in
     let ls = lists_of c.args.form.now in
     let at = goal.at.After-sequence_at-two c in
     let u = form at.After-round_total-rounds in
@@ -36,13 +36,13 @@ inside c =
     let l : c.sequence_at-two.result < c.args.twos = omega (arith, c.sequence_at-two.ensures, second_in f ls u c.args.end c.in-Some.pair.two c.requires.end (at_pair at.In-Some).1.class, c.requires.twos) in
     omega (arith, mul-add-lt c.sequence_at-one.result c.args.twos c.sequence_at-two.result n.ones k l, c.requires.long, c.loop-pair.auto.sums, mul_comm c.args.twos n.ones)
 
-pays_is : (c : After-pays) → to_z w64 (of_z w64 c.pays.result) ≡ pair_pays 1 (end_at (frame_of c.args.form.now) c.args.end) c.in-Some.pair
+pays_is : (c : After-pays) → to_z w64 (of_z w64 c.pays.result) ≡ pair_pays 1 (end_at (abstract_frame c.args.form.now) c.args.end) c.in-Some.pair
 pays_is c =
     let fits : FitsSigned w64 c.pays.result = search rules in to_z-of_z {w = w64} {z = c.pays.result} fits ∙ c.pays.ensures ∙ ap (λ e. pair_pays 1 e c.in-Some.pair) c.end_in-at.ensures.value
 
 pub loop-pair-init : goal.loop-pair-init
 loop-pair-init c =
-    let v = pair_adds (frame_of c.args.form.now) (lists_of c.args.form.now) c.args.end c.args.class in
+    let v = pair_adds (abstract_frame c.args.form.now) (lists_of c.args.form.now) c.args.end c.args.class in
     let row : List Pair = c.args.row in
     let left : List Pair = c.into_iter-pair-iterator.result in
     let begins : left ≡ row = cc in
@@ -60,7 +60,7 @@ add-requires-clause-inside c = omega (arith, inside (goal.at.add-requires-clause
 pub add-requires-clause-fits : goal.add-requires-clause-fits
 add-requires-clause-fits c =
     let at = goal.at.add-requires-clause-fits c in
-    let f = frame_of c.args.form.now in
+    let f = abstract_frame c.args.form.now in
     let ls = lists_of c.args.form.now in
     let z = c.args.end in
     let u = form at.After-round_total-rounds in
@@ -77,7 +77,7 @@ add-requires-clause-fits c =
 pub loop-pair-preserved : goal.loop-pair-preserved
 loop-pair-preserved c =
     let at = goal.at.loop-pair-preserved c in
-    let f = frame_of c.args.form.now in
+    let f = abstract_frame c.args.form.now in
     let ls = lists_of c.args.form.now in
     let z = c.args.end in
     let row : List Pair = c.args.row in
@@ -98,7 +98,7 @@ loop-pair-preserved c =
 
 pub returns : goal.returns
 returns c =
-    let f = frame_of c.args.form.now in
+    let f = abstract_frame c.args.form.now in
     let ls = lists_of c.args.form.now in
     let u = form (goal.at.returns c).After-round_total-rounds in
     let row : List Pair = c.args.row in

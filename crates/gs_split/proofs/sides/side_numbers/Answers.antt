@@ -2,7 +2,7 @@ use Rattle.std.proofs.{Common.{◌≡◌, ◌-◌, ◌<◌, ◌∙◌, ℕ, List
 use Rattle.gs_model.specs.{Classes.{class_of}, Frame.{frame_of, signal_count}}
 use Rattle.gs_numbers.proofs.Numbered.{numbered_again, numbered_more, numbers_are}
 use Rattle.gs_tree.specs.Trees.{rules_of}
-use Rattle.gs_lossless.specs.{Amounts.{Agree, AreAmounts, AreSideFirsts, key_count}, declared.parts.Part.{Part}}
+use Rattle.gs_lossless.specs.{Amounts.{HaveEqualAmounts, AreAmounts, AreSideFirsts, key_count}, declared.parts.Part.{Part}}
 use Rattle.gs_lossless.proofs.{Descent.{keys_long, playable}, Merge.{part_decides}, Scanned.{side_classes, side_signals, side_top}}
 use Rattle.gs_split.specs.Turns.{AreClassSums, AreSettled, part_eq}
 use Rattle.gs_split.proofs.Agreed.{sums_again, sums_law, sums_made, sums_none}
@@ -95,6 +95,6 @@ returns c =
     c.side_at-side.ensures.turn lists c.loop-signal.numbers.items (record {
       long = long;
       same = numbers_are part_eq part_decides (sign (goal.at.returns c).In_ok-settled) c.loop-signal.seen.keys c.loop-signal.numbers.items numbers.distinct numbers.leads
-          (λ i j. class_of lists round i ≡ class_of lists round j) (λ i j. Agree f lists c.side_at-side.result round i j)
+          (λ i j. class_of lists round i ≡ class_of lists round j) (λ i j. HaveEqualAmounts f lists c.side_at-side.result round i j)
           (λ i j a b li lj same ha hb. sums_law f lists round c.side_at-side.result firsts settled i j a b stand known (in_firsts i li) (in_firsts j lj) same ha hb);
     })

@@ -2,12 +2,12 @@ use Rattle.std.proofs.Common.{arith}
 use Rattle.gs_model.specs.Frame.{end_count}
 use Rattle.gs_seq.specs.Payoffs.{end_classes}
 use Rattle.gs_best.proofs.Placed.{IsRow}
-use Rattle.gs_totals.specs.Roles.{frame_in, lists_in}
+use Rattle.gs_totals.specs.Roles.{role_frame, role_lists}
 use Rattle.gs_totals.proofs.{PlacedRows.{paid_more, row_of_end}, ends.read_all.Goals.{After-index}}
 use Rattle.gs_totals.proofs.ends.read_all.Goals as goal
 
 -- the row of the end at hand
-row : (c : After-index) → let k = c.args.ledger.now.role in IsRow (end_classes (frame_in k) (lists_in k)) (end_count (frame_in k)) c.loop-end.end c.index.result.now (end_classes (frame_in k) (lists_in k) c.loop-end.end)
+row : (c : After-index) → let k = c.args.ledger.now.role in IsRow (end_classes (role_frame k) (role_lists k)) (end_count (role_frame k)) c.loop-end.end c.index.result.now (end_classes (role_frame k) (role_lists k) c.loop-end.end)
 row c = row_of_end c.args.ledger.now c.loop-end.end _ (omega (arith, c.loop-end-test.true, c.end_total-end-end.ensures)) c.index.ensures
 
 pub read_end-requires-clause-wide : goal.read_end-requires-clause-wide

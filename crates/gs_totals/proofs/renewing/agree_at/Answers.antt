@@ -1,11 +1,11 @@
 use Rattle.std.proofs.Common.{◌≡◌, ℕ, ◌+◌, ◌-◌, get_or, refl, sym, ap, ◌∙◌, subst, arith}
 use Rattle.gs_model.specs.{Classes.{IsClass, class_count}, Frame.{round_of}, Positions.{at_point}}
-use Rattle.gs_seq.specs.{Abstracts.{frame_of, lists_of}, Slots.{slot_of}}
+use Rattle.gs_seq.specs.{Abstracts.{abstract_frame, lists_of}, Slots.{slot_of}}
 use Rattle.gs_totals.proofs.renewing.agree_at.Goals as goal
 
 pub returns-then-first-second : goal.returns-then-first-second
 returns-then-first-second c =
-    let f = frame_of c.args.form.now in
+    let f = abstract_frame c.args.form.now in
     let lists = lists_of c.args.form.now in
     let q = c.args.step.point in
     let n = c.loop-class.class in
@@ -16,7 +16,7 @@ returns-then-first-second c =
 
 pub returns : goal.returns
 returns c =
-    let f = frame_of c.args.form.now in
+    let f = abstract_frame c.args.form.now in
     let lists = lists_of c.args.form.now in
     let q = c.args.step.point in
     let m = c.args.step.choice in

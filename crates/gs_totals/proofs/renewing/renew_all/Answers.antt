@@ -3,12 +3,12 @@ use Rattle.std.specs.Prelude.{pos}
 use Rattle.gs_model.specs.Frame.{end_count}
 use Rattle.gs_seq.specs.Payoffs.{end_classes}
 use Rattle.gs_best.proofs.Placed.{IsRow}
-use Rattle.gs_totals.specs.{Places.{end_start}, Roles.{frame_in, lists_in}}
+use Rattle.gs_totals.specs.{Places.{end_start}, Roles.{role_frame, role_lists}}
 use Rattle.gs_totals.proofs.{EndStarts.{end_starts_le, end_starts_more}, PlacedRows.{paid_more, row_of_end}, renewing.renew_all.Goals.{After-index}}
 use Rattle.gs_totals.proofs.renewing.renew_all.Goals as goal
 
 -- the row of the end at hand
-row : (c : After-index) → let k = c.args.ledger.now.role in IsRow (end_classes (frame_in k) (lists_in k)) (end_count (frame_in k)) c.loop-end.end c.index.result.now (end_classes (frame_in k) (lists_in k) c.loop-end.end)
+row : (c : After-index) → let k = c.args.ledger.now.role in IsRow (end_classes (role_frame k) (role_lists k)) (end_count (role_frame k)) c.loop-end.end c.index.result.now (end_classes (role_frame k) (role_lists k) c.loop-end.end)
 row c = row_of_end c.args.ledger.now c.loop-end.end _ (omega (arith, c.loop-end-test.true, c.end_total-end-end.ensures)) c.index.ensures
 
 pub loop-end-init : goal.loop-end-init
@@ -29,22 +29,22 @@ renew_end-requires-clause-paid c =
     let z = c.loop-end.end in
     let r = row (goal.at.renew_end-requires-clause-paid c).After-index in
     λ n lk.
-    (let place : c.index.result.now + (n - 1) ≡ end_start (frame_in k) (lists_in k) z + (n - 1) = omega (arith, r.start_is) in
+    (let place : c.index.result.now + (n - 1) ≡ end_start (role_frame k) (role_lists k) z + (n - 1) = omega (arith, r.start_is) in
     let reached : z ≤ z = omega arith in
     ap (λ i. get_or c.loop-end.sums i (pos 0)) place ∙ c.loop-end.invariant.rest z n reached (omega (arith, c.loop-end-test.true, c.end_total-end-end.ensures)) lk)
 
 pub loop-end-preserved : goal.loop-end-preserved
 loop-end-preserved c =
     let k = c.args.ledger.now.role in
-    let f = frame_in k in
+    let f = role_frame k in
     let z = c.loop-end.end in
     let r = row (goal.at.loop-end-preserved c).After-index in
     record {
       done = paid_more c.args.ledger.now z _ _ _ c.renew_end.ensures r.start_is c.loop-end.invariant.done;
       rest = λ e n from le lk.
-          (let behind = end_starts_le f (lists_in k) (z + 1) e (omega (arith, from)) in
+          (let behind = end_starts_le f (role_lists k) (z + 1) e (omega (arith, from)) in
           let later : z ≤ e = omega (arith, from) in
-          c.renew_end.ensures.behind (end_start f (lists_in k) e + (n - 1)) (omega (arith, behind, end_starts_more f (lists_in k) z, r.start_is)) ∙ c.loop-end.invariant.rest e n later le lk);
+          c.renew_end.ensures.behind (end_start f (role_lists k) e + (n - 1)) (omega (arith, behind, end_starts_more f (role_lists k) z, r.start_is)) ∙ c.loop-end.invariant.rest e n later le lk);
     }
 
 pub returns : goal.returns

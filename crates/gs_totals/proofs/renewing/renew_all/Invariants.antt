@@ -2,13 +2,13 @@ use Rattle.std.proofs.Common.{◌≡◌, ℕ, ◌+◌, ◌-◌, ◌<◌, ◌≤�
 use Rattle.std.specs.Prelude.{pos}
 use Rattle.gs_model.specs.{Classes.{IsClass}, Frame.{end_count, round_of}, Positions.{at_end}}
 use Rattle.gs_seq.specs.{Payoffs.{end_sum}, Slots.{plan_of}}
-use Rattle.gs_totals.specs.{Places.{end_start}, Roles.{frame_in, lists_in, plan_in}}
+use Rattle.gs_totals.specs.{Places.{end_start}, Roles.{role_frame, role_lists, role_plan}}
 use Rattle.gs_totals.proofs.renewing.renew_all.Given as goal
 
 abbrev pub invariant-loop-end : goal.invariant-loop-end
-invariant-loop-end l = let k = l.ledger.role in let f = frame_in k in let lists = lists_in k in record {
+invariant-loop-end l = let k = l.ledger.role in let f = role_frame k in let lists = role_lists k in record {
   done : (z c : ℕ) → z < l.end → IsClass lists (round_of f (at_end z)) c
-      → get_or l.sums (end_start f lists z + (c - 1)) (pos 0) ≡ end_sum f lists k.player (plan_in k l.ledger.other.now) z c;
+      → get_or l.sums (end_start f lists z + (c - 1)) (pos 0) ≡ end_sum f lists k.player (role_plan k l.ledger.other.now) z c;
   rest : (z c : ℕ) → l.end ≤ z → z < end_count f → IsClass lists (round_of f (at_end z)) c
       → get_or l.sums (end_start f lists z + (c - 1)) (pos 0) ≡ end_sum f lists k.player (plan_of f lists l.ledger.other.now.total l.before) z c;
 }

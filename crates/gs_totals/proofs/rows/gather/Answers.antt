@@ -2,7 +2,7 @@ use Rattle.std.proofs.{Common.{◌≡◌, ◌+◌, ◌-◌, ◌^◌, ◌<◌, �
 use Rattle.std.proofs.lemmas.Int.{to_z-of_z}
 use Rattle.std.specs.{Prelude.{ℤ, pos, ◌+ℤ◌, unsigned_abs}, Int.RustNames.{FitsSigned}}
 use mir.Syntax.{w128}
-use Rattle.gs_seq.specs.Abstracts.{frame_of, lists_of}
+use Rattle.gs_seq.specs.Abstracts.{abstract_frame, lists_of}
 use Rattle.gs_totals.proofs.Gathers.{gathered_small, gathered_to, place_more, sums_more}
 use Rattle.gs_totals.proofs.rows.gather.Goals as goal
 
@@ -15,7 +15,7 @@ loop-class-init c = λ e le. c.requires.clear (e - 1) (omega (arith, le.0, le.1)
 
 pub plus-requires : goal.plus-requires
 plus-requires c =
-    let f = frame_of c.args.form.now in
+    let f = abstract_frame c.args.form.now in
     let lists = lists_of c.args.form.now in
     let n = c.loop-class.class in
     let above = c.class_above.result in
@@ -34,10 +34,10 @@ loop-class-preserved c =
     to_z-of_z w128 c.plus.result fits_plus ∙ c.plus.ensures ∙ plain (get_or c.loop-class.sums (c.class_above.result - 1) (pos 0)) (get_or c.args.row.values.now (c.args.row.start + c.loop-class.class) (pos 0)) (search rules) (search rules) in
     let class = c.class_above.ensures.class in
     let inside : above - 1 < length now = omega (arith, class.0, class.1, c.loop-class.auto.sums, c.requires.wide) in
-    λ e le. sums_more (frame_of c.args.form.now) (lists_of c.args.form.now) c.args.row.round c.args.to c.args.row.values.now c.args.row.start now c.loop-class.class above (above - 1) c.class_above.ensures.value refl class c.loop-class.invariant x is inside e le
+    λ e le. sums_more (abstract_frame c.args.form.now) (lists_of c.args.form.now) c.args.row.round c.args.to c.args.row.values.now c.args.row.start now c.loop-class.class above (above - 1) c.class_above.ensures.value refl class c.loop-class.invariant x is inside e le
 
 pub returns : goal.returns
 returns c =
     let a = c.args.form.now in
     let all : c.loop-class.class ≡ c.class_total-class-end.result = omega (arith, c.loop-class-test.false, c.loop-class.auto.class-end) in
-    λ e le. c.loop-class.invariant e le ∙ ap (gathered_to (frame_of a) (lists_of a) c.args.row.round c.args.to c.args.row.values.now c.args.row.start e) (all ∙ c.class_total-class-end.ensures.value)
+    λ e le. c.loop-class.invariant e le ∙ ap (gathered_to (abstract_frame a) (lists_of a) c.args.row.round c.args.to c.args.row.values.now c.args.row.start e) (all ∙ c.class_total-class-end.ensures.value)

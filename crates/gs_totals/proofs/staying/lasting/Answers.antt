@@ -1,6 +1,6 @@
 use Rattle.std.proofs.{Common.{◌≡◌, ℕ, ◌+◌, ◌<◌, sym, ◌∙◌, subst, arith, ⊎_elim}, lemmas.Bool.{cases_eq}}
 use Rattle.gs_model.specs.Frame.{player_at, point_count}
-use Rattle.gs_totals.specs.{Courses.{LastsAt}, Roles.{frame_in, lists_in}, Room.{HasScratch}}
+use Rattle.gs_totals.specs.{Courses.{LastsAt}, Roles.{role_frame, role_lists}, Room.{HasScratch}}
 use Rattle.gs_totals.proofs.{Behind.{greatest_with, lasts_less}, staying.lasting.Goals.{then-chooser-course, else-chooser-course}}
 use Rattle.gs_totals.proofs.staying.lasting.Goals as goal
 
@@ -10,13 +10,13 @@ loop-point-preserved c =
     let q = c.loop-point.point in
     let left = c.loop-point.left in
     let i = c.loop-point.invariant in
-    let All : ℕ → ℕ → Type 0 = λ n t. (p : ℕ) → p < n → player_at (frame_in k.role) p ≡ k.role.player → LastsAt k p t in
+    let All : ℕ → ℕ → Type 0 = λ n t. (p : ℕ) → p < n → player_at (role_frame k.role) p ≡ k.role.player → LastsAt k p t in
     elim c.if-chooser-course.branch [
       | then-chooser-course w ↦
           let e = w.lasting_point-left.ensures in
           let less = w.lasting_point-left.result in
           record {
-            scratch = subst (HasScratch (frame_in k.role) (lists_in k.role)) (sym w.scratch-is) e.scratch;
+            scratch = subst (HasScratch (role_frame k.role) (role_lists k.role)) (sym w.scratch-is) e.scratch;
             lasts = λ p lp own. subst (LastsAt k p) (sym w.left-is) (⊎_elim
                 (λ (same : p ≡ q). subst (λ p. LastsAt k p less) (sym same) e.lasts)
                 (λ (other : p ≡ q → ⊥). lasts_less k p left less e.most (i.lasts p (omega arith) own))
@@ -29,9 +29,9 @@ loop-point-preserved c =
           }
       | else-chooser-course w ↦
           record {
-            scratch = subst (HasScratch (frame_in k.role) (lists_in k.role)) (sym w.scratch-is) i.scratch;
+            scratch = subst (HasScratch (role_frame k.role) (role_lists k.role)) (sym w.scratch-is) i.scratch;
             lasts = λ p lp own. subst (LastsAt k p) (sym w.left-is) (⊎_elim
-                (λ (same : p ≡ q). absurd (w.if-chooser-course.false (c.chooser.ensures ∙ subst (λ p. player_at (frame_in k.role) p ≡ k.role.player) same own)))
+                (λ (same : p ≡ q). absurd (w.if-chooser-course.false (c.chooser.ensures ∙ subst (λ p. player_at (role_frame k.role) p ≡ k.role.player) same own)))
                 (λ (other : p ≡ q → ⊥). i.lasts p (omega arith) own)
                 (cases_eq p q));
             greatest = subst (λ t. t < c.args.times → All (q + 1) (t + 1) → ⊥) (sym w.left-is) (λ l h. i.greatest l (λ p lp. h p (omega (arith, lp))));
@@ -42,10 +42,10 @@ loop-point-preserved c =
 
 pub returns-clause-lasts : goal.returns-clause-lasts
 returns-clause-lasts c =
-    let all : c.loop-point.point ≡ point_count (frame_in c.args.course.now.role) = omega (arith, c.loop-point-test.false, c.loop-point.auto.point-end, c.point_total-point-end.ensures) in
+    let all : c.loop-point.point ≡ point_count (role_frame c.args.course.now.role) = omega (arith, c.loop-point-test.false, c.loop-point.auto.point-end, c.point_total-point-end.ensures) in
     λ q e lq own le. c.loop-point.invariant.lasts q (omega (arith, lq, all)) own e le
 
 pub returns-clause-greatest : goal.returns-clause-greatest
 returns-clause-greatest c =
-    let all : c.loop-point.point ≡ point_count (frame_in c.args.course.now.role) = omega (arith, c.loop-point-test.false, c.loop-point.auto.point-end, c.point_total-point-end.ensures) in
+    let all : c.loop-point.point ≡ point_count (role_frame c.args.course.now.role) = omega (arith, c.loop-point-test.false, c.loop-point.auto.point-end, c.point_total-point-end.ensures) in
     λ l h. c.loop-point.invariant.greatest l (λ q lq own e le. h q e (omega (arith, lq, all)) own le)

@@ -3,21 +3,21 @@ use Rattle.std.specs.Prelude.{ℤ}
 use Rattle.gs_model.specs.Frame.{move_count, point_count}
 use Rattle.gs_best.specs.{Rows.{AreWorths}, Sizes.{IsWide}, Tables.{classes_at}}
 use Rattle.gs_best.proofs.Placed.{IsRow}
-use Rattle.gs_totals.specs.{ClassTotals.{total_worth}, Courses.{totals_added, totals_now}, Roles.{frame_in, lists_in, totals_in}}
+use Rattle.gs_totals.specs.{ClassTotals.{total_worth}, Courses.{totals_added, totals_now}, Roles.{role_frame, role_lists, totals_in}}
 use Rattle.gs_totals.proofs.CourseLaws.{added_modest, all_ahead, all_behind, all_gains, all_gaps, each_behind, now_modest, once_behind}
 use Rattle.gs_totals.proofs.{PointRows.{brought, carried, row_of}, staying.lasting_move.Goals.{After-of-now, After-read_worths-worth, After-read_worths-rise}}
 use Rattle.gs_totals.proofs.staying.lasting_move.Goals as goal
 
-row : (c : After-of-now) → let k = c.args.course.now.role in IsRow (classes_at (frame_in k) (lists_in k)) (point_count (frame_in k)) c.args.point c.of-now.result.start c.of-now.result.count
+row : (c : After-of-now) → let k = c.args.course.now.role in IsRow (classes_at (role_frame k) (role_lists k)) (point_count (role_frame k)) c.args.point c.of-now.result.start c.of-now.result.count
 row c = row_of _ c.args.course.now.totals.now c.args.point c.of-now.result c.of-now.ensures.ledger c.of-now.ensures.totals c.of-now.ensures.point
 
-worths : (c : After-read_worths-worth) → let k = c.args.course.now.role in AreWorths (frame_in k) (lists_in k) (total_worth (frame_in k) (lists_in k) (totals_now c.args.course.now)) c.args.point c.args.choice c.read_worths-worth.result.now
+worths : (c : After-read_worths-worth) → let k = c.args.course.now.role in AreWorths (role_frame k) (role_lists k) (total_worth (role_frame k) (role_lists k) (totals_now c.args.course.now)) c.args.point c.args.choice c.read_worths-worth.result.now
 worths c = carried _ c.args.course.now.totals.now c.args.point c.of-now.result c.of-now.ensures.ledger c.of-now.ensures.totals c.of-now.ensures.point
-    (λ k t q. AreWorths (frame_in k.role) (lists_in k.role) (total_worth (frame_in k.role) (lists_in k.role) (totals_in k.role k.other.now t.points.items)) q c.args.choice c.read_worths-worth.result.now) c.read_worths-worth.ensures.worths
+    (λ k t q. AreWorths (role_frame k.role) (role_lists k.role) (total_worth (role_frame k.role) (role_lists k.role) (totals_in k.role k.other.now t.points.items)) q c.args.choice c.read_worths-worth.result.now) c.read_worths-worth.ensures.worths
 
-rises : (c : After-read_worths-rise) → let k = c.args.course.now.role in AreWorths (frame_in k) (lists_in k) (total_worth (frame_in k) (lists_in k) (totals_added c.args.course.now)) c.args.point c.args.choice c.read_worths-rise.result.now
+rises : (c : After-read_worths-rise) → let k = c.args.course.now.role in AreWorths (role_frame k) (role_lists k) (total_worth (role_frame k) (role_lists k) (totals_added c.args.course.now)) c.args.point c.args.choice c.read_worths-rise.result.now
 rises c = carried _ c.args.course.now.steps.now c.args.point c.of-step.result c.of-step.ensures.ledger c.of-step.ensures.totals c.of-step.ensures.point
-    (λ k t q. AreWorths (frame_in k.role) (lists_in k.role) (total_worth (frame_in k.role) (lists_in k.role) (totals_in k.role k.other.now t.points.items)) q c.args.choice c.read_worths-rise.result.now) c.read_worths-rise.ensures.worths
+    (λ k t q. AreWorths (role_frame k.role) (role_lists k.role) (total_worth (role_frame k.role) (role_lists k.role) (totals_in k.role k.other.now t.points.items)) q c.args.choice c.read_worths-rise.result.now) c.read_worths-rise.ensures.worths
 
 pub of-now-requires-clause-modest : goal.of-now-requires-clause-modest
 of-now-requires-clause-modest c = λ s. now_modest c.args.course.now s (c.args.point + 1)
@@ -26,16 +26,16 @@ pub of-step-requires-clause-modest : goal.of-step-requires-clause-modest
 of-step-requires-clause-modest c = λ s. added_modest c.args.course.now s (c.args.point + 1)
 
 pub read_worths-worth-requires-clause-choice : goal.read_worths-worth-requires-clause-choice
-read_worths-worth-requires-clause-choice c = brought _ c.args.course.now.totals.now c.args.point c.of-now.result c.of-now.ensures.ledger c.of-now.ensures.totals c.of-now.ensures.point (λ k t q. c.args.choice < move_count (frame_in k.role) q) c.requires.choice
+read_worths-worth-requires-clause-choice c = brought _ c.args.course.now.totals.now c.args.point c.of-now.result c.of-now.ensures.ledger c.of-now.ensures.totals c.of-now.ensures.point (λ k t q. c.args.choice < move_count (role_frame k.role) q) c.requires.choice
 
 pub read_worths-worth-requires-clause-wide : goal.read_worths-worth-requires-clause-wide
-read_worths-worth-requires-clause-wide c = subst (λ k. IsWide (frame_in k.role) (lists_in k.role) (length c.args.worths.now)) (sym c.of-now.ensures.ledger) c.requires.worths
+read_worths-worth-requires-clause-wide c = subst (λ k. IsWide (role_frame k.role) (role_lists k.role) (length c.args.worths.now)) (sym c.of-now.ensures.ledger) c.requires.worths
 
 pub read_worths-rise-requires-clause-choice : goal.read_worths-rise-requires-clause-choice
-read_worths-rise-requires-clause-choice c = brought _ c.args.course.now.steps.now c.args.point c.of-step.result c.of-step.ensures.ledger c.of-step.ensures.totals c.of-step.ensures.point (λ k t q. c.args.choice < move_count (frame_in k.role) q) c.requires.choice
+read_worths-rise-requires-clause-choice c = brought _ c.args.course.now.steps.now c.args.point c.of-step.result c.of-step.ensures.ledger c.of-step.ensures.totals c.of-step.ensures.point (λ k t q. c.args.choice < move_count (role_frame k.role) q) c.requires.choice
 
 pub read_worths-rise-requires-clause-wide : goal.read_worths-rise-requires-clause-wide
-read_worths-rise-requires-clause-wide c = subst (λ k. IsWide (frame_in k.role) (lists_in k.role) (length c.args.rises.now)) (sym c.of-step.ensures.ledger) c.requires.rises
+read_worths-rise-requires-clause-wide c = subst (λ k. IsWide (role_frame k.role) (role_lists k.role) (length c.args.rises.now)) (sym c.of-step.ensures.ledger) c.requires.rises
 
 pub behind_all-requires-clause-picks : goal.behind_all-requires-clause-picks
 behind_all-requires-clause-picks c = omega (arith, (row (goal.at.behind_all-requires-clause-picks c).After-of-now).within, c.args.course.now.many)

@@ -1,6 +1,6 @@
 use Rattle.std.proofs.{Common.{◌≡◌, ℕ, ◌+◌, ◌<◌, sym, subst, arith, ⊎_elim}, lemmas.Bool.{cases_eq}}
 use Rattle.gs_model.specs.Frame.{move_count}
-use Rattle.gs_totals.specs.{Courses.{StaysBehind}, Roles.{frame_in, lists_in}}
+use Rattle.gs_totals.specs.{Courses.{StaysBehind}, Roles.{role_frame, role_lists}}
 use Rattle.gs_totals.proofs.{Behind.{greatest_with, lasts_by, stays_by, stays_less}, Slices.{wide_through}}
 use Rattle.gs_totals.proofs.staying.lasting_point.Goals as goal
 
@@ -18,8 +18,8 @@ loop-choice-preserved c =
     record {
       scratch = record {
         numbers = i.scratch.numbers;
-        worths = wide_through was.worths _ c.lasting_move-left.new.worths c.deref_mut.ensures.value c.lasting_move-left.auto.worths (frame_in k.role) (lists_in k.role) i.scratch.worths;
-        best = wide_through was.best _ c.lasting_move-left.new.rises c.deref_mut-in-loop-choice.ensures.value c.lasting_move-left.auto.rises (frame_in k.role) (lists_in k.role) i.scratch.best;
+        worths = wide_through was.worths _ c.lasting_move-left.new.worths c.deref_mut.ensures.value c.lasting_move-left.auto.worths (role_frame k.role) (role_lists k.role) i.scratch.worths;
+        best = wide_through was.best _ c.lasting_move-left.new.rises c.deref_mut-in-loop-choice.ensures.value c.lasting_move-left.auto.rises (role_frame k.role) (role_lists k.role) i.scratch.best;
         moves = i.scratch.moves;
       };
       behind = λ m lm. ⊎_elim
@@ -36,12 +36,12 @@ pub returns-clause-lasts : goal.returns-clause-lasts
 returns-clause-lasts c =
     let k = c.args.course.now in
     let q = c.args.point in
-    let all : c.loop-choice.choice ≡ move_count (frame_in k.role) q = omega (arith, c.loop-choice-test.false, c.loop-choice.auto.choice-end, c.move_total-choice-end.ensures.value) in
+    let all : c.loop-choice.choice ≡ move_count (role_frame k.role) q = omega (arith, c.loop-choice-test.false, c.loop-choice.auto.choice-end, c.move_total-choice-end.ensures.value) in
     lasts_by k q c.requires.point c.requires.own c.loop-choice.left (λ m lm. c.loop-choice.invariant.behind m (omega (arith, lm, all)))
 
 pub returns-clause-greatest : goal.returns-clause-greatest
 returns-clause-greatest c =
     let k = c.args.course.now in
     let q = c.args.point in
-    let all : c.loop-choice.choice ≡ move_count (frame_in k.role) q = omega (arith, c.loop-choice-test.false, c.loop-choice.auto.choice-end, c.move_total-choice-end.ensures.value) in
+    let all : c.loop-choice.choice ≡ move_count (role_frame k.role) q = omega (arith, c.loop-choice-test.false, c.loop-choice.auto.choice-end, c.move_total-choice-end.ensures.value) in
     λ l h. c.loop-choice.invariant.greatest l (λ m lm. stays_by k q c.requires.point c.requires.own (c.loop-choice.left + 1) h m (omega (arith, lm, all)))

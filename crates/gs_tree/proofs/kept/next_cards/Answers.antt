@@ -1,7 +1,7 @@
 use Rattle.std.proofs.Common.{◌≡◌, ◌*◌, ◌<◌, ◌++◌, ℕ, List, [], suc, length, map, drop, take, take_all, get_or, slice_index, refl, sym, ap, ◌∙◌, subst, append_assoc, arith}
 use Rattle.std.proofs.{lemmas.Grind.{get_or_default_zero}, lemmas.List.{length-map}}
 use Rattle.std.specs.Prelude.{flat_map, IfOk}
-use Rattle.gs_game.specs.{Games.{game_of, round_of}, declared.game.Round.{Round}}
+use Rattle.gs_game.specs.{Games.{game_of, round_rules}, declared.game.Round.{Round}}
 use Rattle.gs_model.specs.{Game.{Game}, Signals.{Seen, Signal, signal_at, signals}}
 use Rattle.gs_tree.specs.{Layers.{last_seen}, Shown.{cards_on, seen_of, seen_on}, declared.layer.Shown.{Shown}}
 use Rattle.gs_tree.proofs.{Parts.{kept_long, kept_part, kept_room}, Pushed.{joined_more}, Rounds.{IsTold, layer_long, row_covers, row_is_long, told, told_at}}
@@ -12,7 +12,7 @@ use Rattle.gs_tree.proofs.kept.next_cards.Goals as goal
 shows_more : (c : After-cards_shown-more) (i : ℕ) → i < length (signals (game_of c.args.game.now) (suc c.args.round)) → length (seen_on c.args.side (last_seen (signal_at (game_of c.args.game.now) (suc c.args.round) i))) ≡ c.cards_shown-more.result
 shows_more c i here =
     let rounds : List Round = c.args.game.now.rounds.items in
-    shows_many (game_of c.args.game.now) c.args.round i rounds c.index-now.result.now c.args.side refl (omega (arith, c.requires.round_in, c.requires.all, length-map rounds round_of)) c.index-now.ensures here ∙ sym c.cards_shown-more.ensures
+    shows_many (game_of c.args.game.now) c.args.round i rounds c.index-now.result.now c.args.side refl (omega (arith, c.requires.round_in, c.requires.all, length-map rounds round_rules)) c.index-now.ensures here ∙ sym c.cards_shown-more.ensures
 
 pub parent_cards-requires : goal.parent_cards-requires
 parent_cards-requires c =

@@ -1,6 +1,6 @@
 use Rattle.std.proofs.{Common.{◌≡◌, ◌≤◌, ℕ, List, [], suc, length, take, ap, ◌∙◌, arith}, lemmas.List.{length-map}}
 use Rattle.std.specs.Prelude.{max}
-use Rattle.gs_game.specs.{Games.{game_of}, Refusals.{own_cards as own_count, public_cards as public_count}}
+use Rattle.gs_game.specs.{Games.{game_of}, Refusals.{own_card_total as own_count, public_card_total as public_count}}
 use Rattle.gs_model.specs.{Deals.{path_weight}, Game.{Game}, Signals.{Signal, own_cards, public_cards, signals}}
 use Rattle.gs_tree.proofs.{Hands.{dealt}, Rows.{part_long}}
 use Rattle.gs_tree.proofs.kept.next_hands.Goals as goal

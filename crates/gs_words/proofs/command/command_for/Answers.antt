@@ -1,15 +1,15 @@
 use Rattle.std.proofs.{Common.{◌∙◌, [], ◌∷◌, true, codes, ap, subst, sym}, lemmas.Result.{IfOk-weaker}}
 use Rattle.std.specs.Prelude.{IfOk}
-use Rattle.gs_words.specs.{Commands.{command_word, required, summary}, Program.{Is, app_for, with_options}, declared.names.CommandName.{CommandName}}
+use Rattle.gs_words.specs.{Commands.{command_word, required_option, summary}, Program.{Is, app_for, with_options}, declared.names.CommandName.{CommandName}}
 use Rattle.gs_words.proofs.Added.{with_one}
 use Rattle.gs_words.proofs.command.command_for.Goals as goal
 
 pub returns-in_ok-arg-in-Make-4 : goal.returns-in_ok-arg-in-Make-4
 returns-in_ok-arg-in-Make-4 c =
-    let kind = required (codes "kind") (λ _. true) in
-    let ranks = required (codes "ranks") (λ _. true) in
-    let suits = required (codes "suits") (λ _. true) in
-    let cap = required (codes "cap") (λ _. true) in
+    let kind = required_option (codes "kind") (λ _. true) in
+    let ranks = required_option (codes "ranks") (λ _. true) in
+    let suits = required_option (codes "suits") (λ _. true) in
+    let cap = required_option (codes "cap") (λ _. true) in
     let none : Is (with_options (codes "make") []) c.new-command.result = (c.new-command.ensures.app ∙ ap (λ n. with_options n []) (c.word-word.ensures ∙ ap command_word c.in-Make.is), c.new-command.ensures.local) in
     let one = with_one (with_options (codes "make") []) kind _ _ _ none c.required_value-in-Make.ensures.rule c.required_value-in-Make.ensures.local c.in_ok-arg-in-Make.ensures in
     let two = with_one (with_options (codes "make") (kind ∷ [])) ranks _ _ _ one c.required_value-in-Make-2.ensures.rule c.required_value-in-Make-2.ensures.local c.in_ok-arg-in-Make-2.ensures in

@@ -3,7 +3,7 @@ use Rattle.std.proofs.lemmas.List.Elements.{All-nil}
 use Rattle.std.specs.List.{All}
 use Rattle.gs_model.specs.{Game.{Game, round_count}, Signals.{signals}}
 use Rattle.gs_tree.specs.{Trees.{rules_of}, Walk.{last_count}}
-use Rattle.gs_alike.specs.{Firsts.{AreMarks}, Boards.{signals_in}, Hands.{AreHands, IsKindOf}, declared.board.Board.{Board}, declared.board.Seat.{Seat}}
+use Rattle.gs_alike.specs.{Firsts.{AreAlikeMarks}, Boards.{seat_signals}, Hands.{AreHands, IsKindOf}, declared.board.Board.{Board}, declared.board.Seat.{Seat}}
 use Rattle.gs_alike.specs.declared.kinds.Kind.{Kind}
 use Rattle.gs_alike.proofs.Marked.{IsKnown, MayMark, known_after, like_known, marks_after, may_read, unmarked, whole}
 use Rattle.gs_alike.proofs.standing.Boards.marks.Goals.{After-index-like, In_ok-kind}
@@ -59,13 +59,13 @@ loop-place-preserved c =
     let here : c.loop-place.place < length boards = subst (λ (l : List Board). c.loop-place.place < length l) c.deref-board-items.ensures.value c.loop-place-test.true in
     let at : board ≡ get_or boards c.loop-place.place board = subst (λ (l : List Board). board ≡ get_or l c.loop-place.place board) c.deref-board-items.ensures.value c.board-item.is in
     let kind : IsKindOf kinds c.in_ok-kind.kind hands = subst (IsKindOf kinds c.in_ok-kind.kind) c.deref.ensures.value c.in_ok-kind.ensures.kind in
-    let may : MayMark (signals_in board.seats.items) hands (signals_in other.seats.items) found.hands.items marks new =
+    let may : MayMark (seat_signals board.seats.items) hands (seat_signals other.seats.items) found.hands.items marks new =
     may_read c.deref-in-loop-place.result.now c.deref-in-loop-place-3.result.now board.seats.items other.seats.items c.deref-in-loop-place-2.result.now c.deref-in-loop-place-4.result.now c.deref_mut.result.now hands found.hands.items marks new
     c.deref-in-loop-place.ensures.value c.deref-in-loop-place-2.ensures.value c.deref-in-loop-place-3.ensures.value c.deref-in-loop-place-4.ensures.value c.deref_mut.ensures.value
     (record { long = c.mark_board.ensures.long; each = c.mark_board.ensures.each }) in
-    let all : AreMarks g keys new =
+    let all : AreAlikeMarks g keys new =
     marks_after g c.args.self.now.by_rank boards keys (λ i l. omega (arith, c.type_inv.keys i)) c.args.self.now.each c.loop-place.place c.in_ok-kind.kind board other found kinds hands marks new here at c.in_ok-list_hands.ensures (known (goal.at.loop-place-preserved c).In_ok-kind) kind
     c.index-like.ensures c.index-other.ensures c.loop-place.invariant.marks_are may in
     let long : length new ≡ length marks = c.mark_board.ensures.long ∙ ap (λ (l : List ℕ). length l) c.deref_mut.ensures.value in
     let read : take c.loop-place.marks.len (new ++ drop (length new) marks) ≡ new = whole c.loop-place.marks.len new marks long (omega (arith, c.loop-place.marks.ok.0)) in
-    record { marks_are = subst (AreMarks g keys) (sym read) all; kept = c.in_ok-kind.ensures.kept; known = known (goal.at.loop-place-preserved c).In_ok-kind }
+    record { marks_are = subst (AreAlikeMarks g keys) (sym read) all; kept = c.in_ok-kind.ensures.kept; known = known (goal.at.loop-place-preserved c).In_ok-kind }

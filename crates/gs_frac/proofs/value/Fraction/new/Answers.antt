@@ -1,6 +1,6 @@
 use Rattle.std.proofs.{Common.{◌≡◌, ◌/◌, ◌<◌, arith, ◌∙◌, ap, pos, to_z, of_z}, lemmas.Int.{ints}}
 use Rattle.std.specs.{Prelude.{int_lt}, Int.RustNames.{unsigned_abs}, Int.{w128}}
-use Rattle.gs_frac.specs.Texts.{number_of}
+use Rattle.gs_frac.specs.Texts.{number_with_sign}
 use Rattle.gs_frac.proofs.{GcdLaws.{Reduced, reduced_by}, Made.{fraction_is}, Signs.{crossed}}
 use Rattle.gs_frac.proofs.value.Fraction.new.Goals as goal
 
@@ -26,9 +26,9 @@ module _ (c : goal.After-with_sign-2) where
   parts : Reduced c.unsigned_abs-size.result c.unsigned_abs-below.result c.gcd-divisor.result
   parts = reduced_by c.unsigned_abs-size.result c.unsigned_abs-below.result c.gcd-divisor.result c.gcd-divisor.ensures.divides below_some
 
-  above : to_z w128 (of_z w128 c.with_sign.result) ≡ number_of (int_lt c.args.num (pos 0)) (c.unsigned_abs-size.result / c.gcd-divisor.result)
+  above : to_z w128 (of_z w128 c.with_sign.result) ≡ number_with_sign (int_lt c.args.num (pos 0)) (c.unsigned_abs-size.result / c.gcd-divisor.result)
   above = let e : to_z w128 (of_z w128 c.with_sign.result) ≡ c.with_sign.result = omega (arith, ints) in
-      e ∙ c.with_sign.ensures ∙ ap (λ z. number_of (int_lt z (pos 0)) (c.unsigned_abs-size.result / c.gcd-divisor.result)) num_is
+      e ∙ c.with_sign.ensures ∙ ap (λ z. number_with_sign (int_lt z (pos 0)) (c.unsigned_abs-size.result / c.gcd-divisor.result)) num_is
 
   under : to_z w128 (of_z w128 c.with_sign-2.result) ≡ pos (c.unsigned_abs-below.result / c.gcd-divisor.result)
   under = let e : to_z w128 (of_z w128 c.with_sign-2.result) ≡ c.with_sign-2.result = omega (arith, ints) in e ∙ c.with_sign-2.ensures
@@ -59,4 +59,4 @@ returns c =
     let under_is : to_z w128 (of_z w128 c.with_sign-2.result) ≡ c.with_sign-2.result = omega (arith, ints) in
     let parts = reduced_by c.unsigned_abs-size.result c.unsigned_abs-below.result c.gcd-divisor.result c.gcd-divisor.ensures.divides (omega (arith, ints)) in
     crossed c.args.num c.args.den _ _ c.unsigned_abs-size.result c.unsigned_abs-below.result c.gcd-divisor.result size den_pos parts
-    (above_is ∙ c.with_sign.ensures ∙ ap (λ z. number_of (int_lt z (pos 0)) (c.unsigned_abs-size.result / c.gcd-divisor.result)) num_is) (under_is ∙ c.with_sign-2.ensures)
+    (above_is ∙ c.with_sign.ensures ∙ ap (λ z. number_with_sign (int_lt z (pos 0)) (c.unsigned_abs-size.result / c.gcd-divisor.result)) num_is) (under_is ∙ c.with_sign-2.ensures)

@@ -3,20 +3,20 @@ use Rattle.std.proofs.{lemmas.List.{get_or-take, take-map}, lemmas.List.Elements
 use Rattle.std.specs.{Prelude.{All, IfOk, MatchOption, Option, Result, None, ◌≢◌}, declared.alloc.AllocError.{AllocError}, List.{AllByRecursion}}
 use Rattle.gs_card.specs.Decks.{DeckValue}
 use Rattle.gs_model.specs.Game.{Game as Rules, Round as RoundRules, High}
-use Rattle.gs_game.specs.{FaultOf.{IsFaultOf}, Games.{HasFewCards, game_of, round_of}, GoingOn.{stopped_game, unbet}, Refusals.{Refusal, first_refusal}}
+use Rattle.gs_game.specs.{FaultOf.{IsFaultOf}, Games.{HasFewCards, game_of, round_rules}, GoingOn.{stopped_game, unbet}, Refusals.{Refusal, first_refusal}}
 use Rattle.gs_game.specs.{Sequences.{seen_sizes}, declared.faults.GameFault.{GameFault}, declared.game.Game.{Game}, declared.game.Round.{Round}}
 use Rattle.gs_game.specs.declared.valid.ValidGame.{ValidGame}
 use Rattle.gs_game.specs.declared.faults.GameFault.TheVariants as faults
 use Rattle.gs_game.proofs.valid.ValidGame.stopped.Goals as goal
 use Rattle.gs_game.proofs.valid.ValidGame.stopped.Goals.{in-Memory, in_default}
 
-few_each : (rs : List Round) → AllByRecursion (λ (r : RoundRules). (r.private ≤ 2) × (r.public ≤ 3)) (map round_of rs) → AllByRecursion HasFewCards rs
+few_each : (rs : List Round) → AllByRecursion (λ (r : RoundRules). (r.private ≤ 2) × (r.public ≤ 3)) (map round_rules rs) → AllByRecursion HasFewCards rs
 few_each [] h = tt
 few_each (r ∷ rs) h = (record { private = h.0.0; public = h.0.1 }, few_each rs h.1)
 
-few_first : (rs : List Round) (n : ℕ) → All (λ (r : RoundRules). (r.private ≤ 2) × (r.public ≤ 3)) (map round_of rs) → All HasFewCards (take n rs)
+few_first : (rs : List Round) (n : ℕ) → All (λ (r : RoundRules). (r.private ≤ 2) × (r.public ≤ 3)) (map round_rules rs) → All HasFewCards (take n rs)
 few_first rs n h =
-    let each = All-from_recursion HasFewCards rs (few_each rs (recursion_from_All (λ (r : RoundRules). (r.private ≤ 2) × (r.public ≤ 3)) (map round_of rs) h)) in
+    let each = All-from_recursion HasFewCards rs (few_each rs (recursion_from_All (λ (r : RoundRules). (r.private ≤ 2) × (r.public ≤ 3)) (map round_rules rs) h)) in
     λ k d l. let m = length-take n rs in subst HasFewCards (sym (get_or-take n rs k d (omega (arith, l, m)))) (each k d (omega (arith, l, m)))
 
 -- a fault that is not want of memory is a refusal
@@ -48,14 +48,14 @@ made_so g round d e bonus rs same one suits copies rounds =
 
 -- what a game's first rounds are turned into, from what was read of the game
 stopped_so : (game read : Game) (round n : ℕ) (now stopped : List Round) (deck : DeckValue) (bonus : List ℕ) → read ≡ game → now ≡ read.rounds.items → n ≡ round
-    → map round_of stopped ≡ map (λ (r : RoundRules). unbet r.private r.public) (map round_of (take n now)) ++ unbet 0 0 ∷ [] → deck ≡ read.deck → bonus ≡ 1 ∷ []
-    → (let made : Rules = record { suits = length deck.suits; copies = deck.counts; ranking = High; bonus = bonus; ante = 1; rounds = map round_of stopped } in made) ≡ stopped_game (game_of game) round
+    → map round_rules stopped ≡ map (λ (r : RoundRules). unbet r.private r.public) (map round_rules (take n now)) ++ unbet 0 0 ∷ [] → deck ≡ read.deck → bonus ≡ 1 ∷ []
+    → (let made : Rules = record { suits = length deck.suits; copies = deck.counts; ranking = High; bonus = bonus; ante = 1; rounds = map round_rules stopped } in made) ≡ stopped_game (game_of game) round
 stopped_so game read round n now stopped deck bonus same rounds count made copied one =
     let unbets = λ (rs : List RoundRules). map (λ (r : RoundRules). unbet r.private r.public) rs ++ unbet 0 0 ∷ [] in
     let first : take n now ≡ take round game.rounds.items =
     ap (λ (k : ℕ). take k now) count ∙ ap (λ (rs : List Round). take round rs) (rounds ∙ ap (λ (g : Game). g.rounds.items) same) in
-    made_so (game_of game) round game.deck deck bonus (map round_of stopped) (copied ∙ ap (λ (g : Game). g.deck) same) one refl refl
-    (made ∙ ap (λ (rs : List Round). unbets (map round_of rs)) first ∙ ap unbets (sym (take-map round_of round game.rounds.items)))
+    made_so (game_of game) round game.deck deck bonus (map round_rules stopped) (copied ∙ ap (λ (g : Game). g.deck) same) one refl refl
+    (made ∙ ap (λ (rs : List Round). unbets (map round_rules rs)) first ∙ ap unbets (sym (take-map round_rules round game.rounds.items)))
 
 pub stopped_rounds-requires : goal.stopped_rounds-requires
 stopped_rounds-requires c =
@@ -72,9 +72,9 @@ returns-in-Ok c =
     record {
       stops = record {
         copies = ap (λ (g : Game). g.deck.counts) same ∙ ap (λ d. d.counts) c.in_ok-copy.ensures ∙ ap (λ (g : Game). g.deck.counts) c.game-game.ensures;
-        sizes = ap (λ (g : Game). seen_sizes (map round_of g.rounds.items)) same ∙ c.in_ok-rounds.ensures.sizes
-            ∙ ap (λ (rs : List Round). seen_sizes (map round_of rs) ++ 0 ∷ 0 ∷ []) read
-            ∙ ap (λ (rs : List RoundRules). seen_sizes rs ++ 0 ∷ 0 ∷ []) (sym (take-map round_of c.args.round rounds));
+        sizes = ap (λ (g : Game). seen_sizes (map round_rules g.rounds.items)) same ∙ c.in_ok-rounds.ensures.sizes
+            ∙ ap (λ (rs : List Round). seen_sizes (map round_rules rs) ++ 0 ∷ 0 ∷ []) read
+            ∙ ap (λ (rs : List RoundRules). seen_sizes rs ++ 0 ∷ 0 ∷ []) (sym (take-map round_rules c.args.round rounds));
       };
       whenever = ap game_of same
           ∙ stopped_so c.args.self.now.game c.game-game.result.now c.args.round c.from.result c.deref.result.now c.in_ok-rounds.rounds.items c.in_ok-copy.field-0 c.in_ok-vec.field-0.items

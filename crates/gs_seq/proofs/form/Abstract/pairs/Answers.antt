@@ -5,24 +5,24 @@ use Rattle.gs_filter.proofs.ClassLaws.{greatest_within}
 use Rattle.gs_game.specs.Games.{game_of}
 use Rattle.gs_model.specs.{Classes.{class_count, list_of}, Deals.{Deal, deals}, Frame.{last_round}}
 use Rattle.gs_tree.specs.{Trees.{rules_of}, Walk.{last_count}, declared.signals.Signals.{Signals}}
-use Rattle.gs_seq.specs.{Abstracts.{frame_of, lists_of}, Rows.{IsRow, IsSingleIn}, Singles.{IsSlight, deal_pair}, declared.pair.Pair.{Pair}}
+use Rattle.gs_seq.specs.{Abstracts.{abstract_frame, lists_of}, Rows.{IsRow, IsSingleIn}, Singles.{IsSlight, deal_pair}, declared.pair.Pair.{Pair}}
 use Rattle.gs_seq.proofs.{Singles.{count_is, made_row, slight}, SlotLaws.{over}}
 use Rattle.gs_seq.proofs.form.Abstract.pairs.Goals.{After-deals_of, After-classes-classes, After-signals}
 use Rattle.gs_seq.proofs.form.Abstract.pairs.Goals as goal
 
 -- what holds of the classes, and of a round with no rows
-parents : (c : After-classes-classes) → c.args.self.now.lossless.now.classes.now.parents ≡ (frame_of c.args.self.now).parents
-parents c = subst (λ (x : Filter). x.parents ≡ (frame_of c.args.self.now).parents) c.classes.ensures.held c.classes.ensures.parents
+parents : (c : After-classes-classes) → c.args.self.now.lossless.now.classes.now.parents ≡ (abstract_frame c.args.self.now).parents
+parents c = subst (λ (x : Filter). x.parents ≡ (abstract_frame c.args.self.now).parents) c.classes.ensures.held c.classes.ensures.parents
 
 record IsLast (c : After-signals) : Type 0 where
-  pub last : c.args.round ≡ last_round (frame_of c.args.self.now)
-  pub single : IsSingleIn (lists_of c.args.self.now) (last_round (frame_of c.args.self.now))
+  pub last : c.args.round ≡ last_round (abstract_frame c.args.self.now)
+  pub single : IsSingleIn (lists_of c.args.self.now) (last_round (abstract_frame c.args.self.now))
 
 is_last : (c : After-signals) → IsLast c
 is_last c =
     let a = c.args.self.now in
     let less : length a.rows.items < c.args.round = omega (arith, c.if-from-len.false, c.from.ensures, c.len.ensures, a.rows.ok.0) in
-    let last : c.args.round ≡ last_round (frame_of a) = omega (arith, less, c.requires.top, a.paired.fewest) in
+    let last : c.args.round ≡ last_round (abstract_frame a) = omega (arith, less, c.requires.top, a.paired.fewest) in
     record { last = last; single = a.paired.single (omega (arith, less, last)) }
 
 -- the deals of the class's signal
@@ -34,7 +34,7 @@ deals_of-requires c =
     let at = goal.at.deals_of-requires c in
     let g = c.args.self.now.lossless.now.signals.now.game.now in
     let cls = c.args.self.now.lossless.now.classes.now in
-    let f = frame_of c.args.self.now in
+    let f = abstract_frame c.args.self.now in
     let l = is_last at.After-signals in
     let e = parents at.After-classes-classes in
     let k = over f cls e in
@@ -56,7 +56,7 @@ returns c =
     let at = goal.at.returns c in
     let lossless = c.args.self.now.lossless.now in
     let g = lossless.signals.now.game.now in
-    let f = frame_of c.args.self.now in
+    let f = abstract_frame c.args.self.now in
     let one = c.args.one in
     let l = is_last at.After-signals in
     let row : IsRow f lossless.classes.now.lists (last_round f) one (map deal_pair (filter (λ (d : Deal). d.one == one - 1) (deals (game_of g.game)))) =

@@ -8,13 +8,13 @@ use Rattle.gs_game.specs.Games.{game_of}
 use Rattle.gs_lossless.specs.declared.checking.Lossless.{Lossless}
 use Rattle.gs_model.specs.{Classes.{class_count}, Deals.{Deal}, Frame.{end_at}}
 use Rattle.gs_tree.specs.Walk.{last_count}
-use Rattle.gs_seq.specs.{Abstracts.{frame_of, lists_of}, Games.{frame_in}, Payoffs.{pair_pays}, Singles.{deal_pair}, declared.form.Abstract.{Abstract}}
+use Rattle.gs_seq.specs.{Abstracts.{abstract_frame, lists_of}, Games.{frame_in}, Payoffs.{pair_pays}, Singles.{deal_pair}, declared.form.Abstract.{Abstract}}
 use Rattle.gs_seq.proofs.{AlongBoards.{by_deals, single_count}, Forms.{given, one_or_two}}
 use Rattle.gs_seq.proofs.form.Abstract.pay_along.Goals as goal
 
 -- the parents of a form's classes, by what its calls give
 parents_of : (a : Abstract) (l : Lossless) (cls : Filter) → l ≡ a.lossless.now → cls ≡ l.classes.now → cls.parents ≡ (frame_in l.signals.now.game.now).parents
-    → a.lossless.now.classes.now.parents ≡ (frame_of a).parents
+    → a.lossless.now.classes.now.parents ≡ (abstract_frame a).parents
 parents_of a l cls same is parents =
     subst (λ (x : Lossless). x.classes.now.parents ≡ (frame_in x.signals.now.game.now).parents) same
     (subst (λ (x : Filter). x.parents ≡ (frame_in l.signals.now.game.now).parents) is parents)
@@ -52,8 +52,8 @@ returns-clause-here c = λ k class. (
     let long : length new ≡ last_count (game_of g.game) = omega (arith, c.deal_sums.auto.sums, here, c.class_total.ensures, count, last) in
     let within : s < last_count (game_of g.game) = omega (arith, class.0, class.1, count, last) in
     let front = length-take-le start sums (omega (arith, c.requires.room)) in
-    let w = given g (frame_of a) (lists_of a) refl c.game-game.ensures.classes in
-    let same : (d : Deal) → pos d.weight *ℤ paid c.pays_at-pays.result d.outcome ≡ pair_pays c.args.player (end_at (frame_of a) z) (deal_pair d) =
+    let w = given g (abstract_frame a) (lists_of a) refl c.game-game.ensures.classes in
+    let same : (d : Deal) → pos d.weight *ℤ paid c.pays_at-pays.result d.outcome ≡ pair_pays c.args.player (end_at (abstract_frame a) z) (deal_pair d) =
     λ d. c.pays_at-pays.ensures d ∙ ap (λ e. pair_pays c.args.player e (deal_pair d)) c.end_in.ensures.value in
     get_or-append_right (take start sums) (new ++ after) start (start + s) (pos 0) front (omega arith)
     ∙ ap (λ i. get_or (new ++ after) i (pos 0)) (omega arith)

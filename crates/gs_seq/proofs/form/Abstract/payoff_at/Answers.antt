@@ -1,16 +1,16 @@
 use Rattle.std.proofs.Common.{rules, ◌≡◌, ◌+◌, ◌∙◌, arith, of_z, subst, to_z}
 use Rattle.std.specs.Int.{w128}
 use Rattle.gs_model.specs.Pairs.{class_number}
-use Rattle.gs_seq.specs.{Abstracts.{frame_of, lists_of}, Plans.{class_plan}}
+use Rattle.gs_seq.specs.{Abstracts.{abstract_frame, lists_of}, Plans.{class_plan}}
 use Rattle.gs_seq.proofs.{EndTotals.{IsNext, next_fits, next_put, next_within}, Forms.{given_in}, Signed.{read_back}}
 use Rattle.gs_seq.proofs.form.Abstract.payoff_at.Goals.{After-end_sum-worth}
 use Rattle.gs_seq.proofs.form.Abstract.payoff_at.Goals as goal
 
 -- the class, its number and what the end pays there
-next : (c : After-end_sum-worth) → let f = frame_of c.args.self.now in let ls = lists_of c.args.self.now in
+next : (c : After-end_sum-worth) → let f = abstract_frame c.args.self.now in let ls = lists_of c.args.self.now in
     IsNext f ls (class_plan f ls c.args.x.now) (class_plan f ls c.args.y.now) c.args.end c.loop-before.before c.number_at_end-number.result (to_z w128 (of_z w128 c.end_sum-worth.result))
 next c =
-    let f = frame_of c.args.self.now in
+    let f = abstract_frame c.args.self.now in
     let ls = lists_of c.args.self.now in
     let x = class_plan f ls c.args.x.now in
     let n = c.loop-before.before in

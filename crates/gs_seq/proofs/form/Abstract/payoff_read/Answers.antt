@@ -1,7 +1,7 @@
 use Rattle.std.proofs.Common.{rules, ◌≡◌, ◌+◌, ◌-◌, ℕ, List, ap, ◌∙◌, arith, get_or, pos, FitsSigned, of_z, subst, to_z}
 use Rattle.std.specs.{Int.{w128}, Prelude.{ℤ}}
 use Rattle.gs_model.specs.{Classes.{IsClass}, Frame.{round_of}, Pairs.{class_number}, Positions.{at_end}}
-use Rattle.gs_seq.specs.{Abstracts.{frame_of, lists_of}, Plans.{class_plan}}
+use Rattle.gs_seq.specs.{Abstracts.{abstract_frame, lists_of}, Plans.{class_plan}}
 use Rattle.gs_seq.proofs.{EndTotals.{IsNext, next_fits, next_put, next_within}, Forms.{given_in}, Signed.{read_back}}
 use Rattle.gs_seq.proofs.form.Abstract.payoff_read.Goals.{After-number_at_end-number}
 use Rattle.gs_seq.proofs.form.Abstract.payoff_read.Goals as goal
@@ -11,10 +11,10 @@ read_at : (sums : List ℤ) (n : ℕ) (w : ℤ) → get_or sums (0 + (n + 1 - 1)
 read_at sums n w h = let at : n ≡ 0 + (n + 1 - 1) = omega arith in ap (λ i. get_or sums i (pos 0)) at ∙ h
 
 -- the class, its number and what the end pays there
-next : (c : After-number_at_end-number) → FitsSigned w128 (get_or c.end_sums.new.sums c.loop-before.before (pos 0)) → let f = frame_of c.args.self.now in let ls = lists_of c.args.self.now in
+next : (c : After-number_at_end-number) → FitsSigned w128 (get_or c.end_sums.new.sums c.loop-before.before (pos 0)) → let f = abstract_frame c.args.self.now in let ls = lists_of c.args.self.now in
     IsNext f ls (class_plan f ls c.args.x.now) (class_plan f ls c.args.y.now) c.args.end c.loop-before.before c.number_at_end-number.result (to_z w128 (of_z w128 (get_or c.end_sums.new.sums c.loop-before.before (pos 0))))
 next c fits =
-    let f = frame_of c.args.self.now in
+    let f = abstract_frame c.args.self.now in
     let ls = lists_of c.args.self.now in
     let x = class_plan f ls c.args.x.now in
     let n = c.loop-before.before in

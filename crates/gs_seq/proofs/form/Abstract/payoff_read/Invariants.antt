@@ -1,12 +1,12 @@
 use Rattle.std.proofs.Common.{◌≡◌}
 use Rattle.std.specs.List.{range_with_len}
 use Rattle.gs_model.specs.Sums.{sum_z}
-use Rattle.gs_seq.specs.{Abstracts.{frame_of, lists_of}, Plans.{class_plan}}
+use Rattle.gs_seq.specs.{Abstracts.{abstract_frame, lists_of}, Plans.{class_plan}}
 use Rattle.gs_seq.proofs.EndTotals.{class_term}
 use Rattle.gs_seq.proofs.form.Abstract.payoff_read.Given as goal
 
 abbrev pub invariant-loop-before : goal.invariant-loop-before
 invariant-loop-before l =
-    let f = frame_of l.self in
+    let f = abstract_frame l.self in
     let ls = lists_of l.self in
     l.sum ≡ sum_z (class_term f ls (class_plan f ls l.x) (class_plan f ls l.y) l.end) (range_with_len 1 l.before)

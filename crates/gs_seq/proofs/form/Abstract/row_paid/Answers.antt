@@ -2,7 +2,7 @@ use Rattle.std.proofs.Common.{rules, ◌≡◌, ◌≤◌, ◌-◌, ◌^◌, ari
 use Rattle.std.specs.{Int.{w128}, Prelude.{◌*ℤ◌}}
 use Rattle.gs_game.specs.Seen.{end_of}
 use Rattle.gs_model.specs.{Classes.{IsClass}, Frame.{round_of}, Positions.{at_end}}
-use Rattle.gs_seq.specs.{Abstracts.{frame_of, lists_of}, Payoffs.{pair_pays}, declared.pair.Pair.{Pair}}
+use Rattle.gs_seq.specs.{Abstracts.{abstract_frame, lists_of}, Payoffs.{pair_pays}, declared.pair.Pair.{Pair}}
 use Rattle.gs_seq.proofs.{EndSums.{number_term}, Signed.{read_back}, Turns.{IsAlong, IsHere, come_begun, here_in, paid, paid_as, sum_is_all}}
 use Rattle.gs_seq.proofs.form.Abstract.row_paid.Goals.{After-game-game, After-number_of-number, In-Some}
 use Rattle.gs_seq.proofs.form.Abstract.row_paid.Goals as goal
@@ -26,7 +26,7 @@ part_is c = paid_as c.args.player _ _ _ _ c.in-Some.pair c.end_in-at.ensures.val
 pub loop-pair-init : goal.loop-pair-init
 loop-pair-init c =
     let begins : ◌≡◌ {A = List Pair} c.into_iter-pair-iterator.result c.args.row = cc in
-    come_begun (number_term (frame_of c.args.self.now) c.args.player c.args.numbers.now c.args.end) c.args.row _ begins
+    come_begun (number_term (abstract_frame c.args.self.now) c.args.player c.args.numbers.now c.args.end) c.args.row _ begins
 
 pub number_of-number-requires-clause-some : goal.number_of-number-requires-clause-some
 number_of-number-requires-clause-some c = (here (goal.at.number_of-number-requires-clause-some c).In-Some).known.class.0
@@ -38,7 +38,7 @@ pub add_pays-sum-requires : goal.add_pays-sum-requires
 add_pays-sum-requires c =
     let at = goal.at.add_pays-sum-requires c in
     let k = here at.In-Some in
-    let few : (e : ℕ) → IsClass (lists_of c.args.self.now) (round_of (frame_of c.args.self.now) (at_end c.args.end)) e → number_in c.args.numbers.now e ≤ 2 ^ 36 = λ e h. c.requires.few (e - 1) (omega (arith, h.0, h.1)) in
+    let few : (e : ℕ) → IsClass (lists_of c.args.self.now) (round_of (abstract_frame c.args.self.now) (at_end c.args.end)) e → number_in c.args.numbers.now e ≤ 2 ^ 36 = λ e h. c.requires.few (e - 1) (omega (arith, h.0, h.1)) in
     record {
       few = k.known.weight;
       moderate = k.known.signed;

@@ -2,7 +2,7 @@ use Rattle.std.proofs.Common.{rules, ◌≡◌, ◌≤◌, ◌^◌, ap, sym, ◌
 use Rattle.std.specs.{Int.{w128}, Prelude.{◌*ℤ◌}}
 use Rattle.gs_game.specs.Seen.{end_of}
 use Rattle.gs_model.specs.{Classes.{IsClass}, Frame.{other_player, round_of}, Pairs.{class_number}, Positions.{at_end}}
-use Rattle.gs_seq.specs.{Abstracts.{frame_of, lists_of}, Payoffs.{pair_pays}, Plans.{IsPlanOf, class_plan}, Sources.{MatchSource}}
+use Rattle.gs_seq.specs.{Abstracts.{abstract_frame, lists_of}, Payoffs.{pair_pays}, Plans.{IsPlanOf, class_plan}, Sources.{MatchSource}}
 use Rattle.gs_seq.specs.{declared.form.Abstract.{Abstract}, declared.pair.Pair.{Pair}, declared.plan.Plan.{Plan}}
 use Rattle.gs_seq.proofs.{EndSums.{pair_term}, Ends.{number_few}, Forms.{carried, given_in}, Signed.{read_back}}
 use Rattle.gs_seq.proofs.Turns.{IsAlong, IsHere, come_begun, here_in, paid, paid_as, sum_is_all}
@@ -11,7 +11,7 @@ use Rattle.gs_seq.proofs.form.Abstract.row_worth.Goals as goal
 
 -- the other player's number at a class
 abbrev number_at : Abstract → ℕ → Plan → ℕ → ℕ → ℕ
-number_at a player other z e = class_number (frame_of a) (lists_of a) (other_player player) (class_plan (frame_of a) (lists_of a) other) z e
+number_at a player other z e = class_number (abstract_frame a) (lists_of a) (other_player player) (class_plan (abstract_frame a) (lists_of a) other) z e
 
 along : (c : After-game-game) → IsAlong c.args.self.now c.args.player c.args.end c.args.class c.args.row
 along c = record { classes = c.game-game.ensures.classes; some = c.requires.some; two = c.requires.two; inside = c.requires.end; is_row = c.requires.row }
@@ -24,9 +24,9 @@ here c =
 
 -- the number, as it was looked up
 number_is : (c : After-number_by-number)
-    → c.number_by-number.result ≡ class_number (frame_of c.args.self.now) (lists_of c.args.self.now) (other_player c.args.player) (class_plan (frame_of c.args.self.now) (lists_of c.args.self.now) c.args.other.now) c.args.end c.in-Some.pair.two
+    → c.number_by-number.result ≡ class_number (abstract_frame c.args.self.now) (lists_of c.args.self.now) (other_player c.args.player) (class_plan (abstract_frame c.args.self.now) (lists_of c.args.self.now) c.args.other.now) c.args.end c.in-Some.pair.two
 number_is c =
-    let f = frame_of c.args.self.now in
+    let f = abstract_frame c.args.self.now in
     let ls = lists_of c.args.self.now in
     let q = c.args.other.now in
     carried (λ f ls. c.number_by-number.result ≡ class_number f ls q.player (class_plan f ls q) c.args.end c.in-Some.pair.two) c.game-game.ensures.held c.classes-classes.ensures.lists c.number_by-number.ensures.value
@@ -40,17 +40,17 @@ part_is c = paid_as c.args.player _ _ _ _ c.in-Some.pair c.end_in-at.ensures.val
 pub loop-pair-init : goal.loop-pair-init
 loop-pair-init c =
     let begins : ◌≡◌ {A = List Pair} c.into_iter-pair-iterator.result c.args.row = cc in
-    come_begun (pair_term (frame_of c.args.self.now) (lists_of c.args.self.now) c.args.player (class_plan (frame_of c.args.self.now) (lists_of c.args.self.now) c.args.other.now) c.args.end) c.args.row _ begins
+    come_begun (pair_term (abstract_frame c.args.self.now) (lists_of c.args.self.now) c.args.player (class_plan (abstract_frame c.args.self.now) (lists_of c.args.self.now) c.args.other.now) c.args.end) c.args.row _ begins
 
 pub number_by-number-requires-clause-plan : goal.number_by-number-requires-clause-plan
 number_by-number-requires-clause-plan c =
-    let f = frame_of c.args.self.now in
+    let f = abstract_frame c.args.self.now in
     let ls = lists_of c.args.self.now in
     carried (λ f ls. IsPlanOf f ls c.args.other.now.player c.args.other.now) (sym c.game-game.ensures.held) (sym c.classes-classes.ensures.lists) (subst (λ p. IsPlanOf f ls p c.args.other.now) (sym c.requires.other.player_is) c.requires.other)
 
 pub number_by-number-requires-clause-source : goal.number_by-number-requires-clause-source
 number_by-number-requires-clause-source c =
-    let f = frame_of c.args.self.now in
+    let f = abstract_frame c.args.self.now in
     let ls = lists_of c.args.self.now in
     let z = c.args.end in
     carried (λ f ls. MatchSource f ls c.args.other.now.player (at_end z) c.args.source) (sym c.game-game.ensures.held) (sym c.classes-classes.ensures.lists)
@@ -63,7 +63,7 @@ number_by-number-requires-clause-class c =
 pub add_pays-sum-requires : goal.add_pays-sum-requires
 add_pays-sum-requires c =
     let at = goal.at.add_pays-sum-requires c in
-    let f = frame_of c.args.self.now in
+    let f = abstract_frame c.args.self.now in
     let ls = lists_of c.args.self.now in
     let y = class_plan f ls c.args.other.now in
     let own = other_player c.args.player in

@@ -1,17 +1,17 @@
 use Rattle.std.proofs.{Common.{◌≡◌, ℕ, ◌+◌, ◌<◌, ◌≤◌, List, ◌++◌, length, take, drop, slice_index, sym, subst, ◌∙◌, arith}, lemmas.List.{take_at}}
 use Rattle.gs_rows.specs.{declared.Program.{Program}, Program.{Listing, IsListed, RowListed, ColListed, IsPairList}}
-use Rattle.gs_simplex.specs.Live.{ArePlaces, IsFound}
+use Rattle.gs_simplex.specs.Live.{AreColumnPlaces, AreFoundPlaces}
 use Rattle.gs_simplex.proofs.Lives.{live_row, all_live}
 use Rattle.gs_simplex.proofs.live.Live.find.Goals as goal
 
 -- what is found, of lists that are equal
 found_of : (p : Program) (l : Listing) (r found : ℕ) (rows rows' places places' owns owns' : List ℕ) → IsPairList p l → ((i j : ℕ) → IsListed l i j → slice_index rows j ≡ i + 1) → ((j : ℕ) → j < p.cols → (ColListed l j → ⊥) → slice_index rows j ≡ 0)
-    → rows' ≡ rows → ArePlaces p.cols rows' r places found → length places ≡ p.cols + 2 → length owns ≡ p.rows + 1 → ((i j : ℕ) → IsListed l i j → slice_index owns i ≡ j) → ((i : ℕ) → i ≤ p.rows → (RowListed l i → ⊥) → slice_index owns i ≡ p.cols + 1)
-    → places' ≡ places → owns' ≡ owns → IsFound p l r places' owns' found
+    → rows' ≡ rows → AreColumnPlaces p.cols rows' r places found → length places ≡ p.cols + 2 → length owns ≡ p.rows + 1 → ((i j : ℕ) → IsListed l i j → slice_index owns i ≡ j) → ((i : ℕ) → i ≤ p.rows → (RowListed l i → ⊥) → slice_index owns i ≡ p.cols + 1)
+    → places' ≡ places → owns' ≡ owns → AreFoundPlaces p l r places' owns' found
 found_of p l r found rows rows' places places' owns owns' pairs listed unlisted er u long owns_long own spare ep ew =
-    let R : List ℕ → Type 0 = λ x. ArePlaces p.cols x r places found in
+    let R : List ℕ → Type 0 = λ x. AreColumnPlaces p.cols x r places found in
     let v = subst R er u in
-    let A : List ℕ → Type 0 = λ x. IsFound p l r x owns' found in let B : List ℕ → Type 0 = λ x. IsFound p l r places x found in
+    let A : List ℕ → Type 0 = λ x. AreFoundPlaces p l r x owns' found in let B : List ℕ → Type 0 = λ x. AreFoundPlaces p l r places x found in
     subst A (sym ep) (subst B (sym ew) (record {
       some = v.some;
       few = omega (arith, v.few, long);

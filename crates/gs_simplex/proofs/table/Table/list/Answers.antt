@@ -1,8 +1,8 @@
 use Rattle.std.proofs.Common.{◌≡◌, ◌≢◌, IfNone, MatchOption, Option, Some, None, ◌⊎◌, inl, inr, ℕ, ◌+◌, ◌-◌, ◌*◌, ◌<◌, ◌≤◌, ℤ, pos, ◌<ℤ◌, List, ◌++◌, length, slice_index, take, drop, sym, ap, subst, ◌∙◌, arith}
 use Rattle.std.proofs.{lemmas.List.{take_at}, lemmas.Bool.{cases_lt}}
 use Rattle.gs_rows.specs.{declared.Program.{Program}, Rows.{IsNarrow}, Program.{Listing, IsPairList}}
-use Rattle.gs_simplex.specs.{declared.table.WideCell.{WideCell}, Numbers.{at, cell, AllNarrow, IsAtMost, AreTops, IsLeadOf, IsCleared, IsClearedTo}}
-use Rattle.gs_simplex.specs.{Table.{table_rows, IsTable, IsTableOf, HasTops, IsTableAfter, IsWideAfter}, Live.{IsFound, IsSupport, IsLive}}
+use Rattle.gs_simplex.specs.{declared.table.WideCell.{WideCell}, Numbers.{at, cell, AreNarrowNumbers, IsAtMost, AreTops, IsLeadOf, IsCleared, IsClearedTo}}
+use Rattle.gs_simplex.specs.{Table.{table_rows, IsTable, IsTableOf, HasTops, IsTableAfter, IsWideAfter}, Live.{AreFoundPlaces, IsSupport, IsLive}}
 use Rattle.gs_simplex.proofs.{Places.{row_apart, at_most_same}, Tables.{own, zero_lead, table_after, wide_from}, Lives.{live_of}}
 use Rattle.gs_simplex.proofs.table.Table.list.Goals.{After-deref, After-deref-numbers, After-deref_mut-3, After-take_lead-count}
 use Rattle.gs_simplex.proofs.table.Table.list.Goals as goal
@@ -13,17 +13,17 @@ record IsTaken (p : Program) (old mid lead : List ℤ) (r c : ℕ) : Type 0 wher
   wide : length lead ≡ p.cols + 2
   same : (j : ℕ) → j < length lead → at lead j ≡ at mid (r * (p.cols + 2) + j)
   taken : IsLeadOf (λ j. at old (r * (p.cols + 2) + j)) (at lead) c (length lead)
-  narrow : AllNarrow lead
+  narrow : AreNarrowNumbers lead
   others : (k : ℕ) → (k < r * (p.cols + 2)) ⊎ (r * (p.cols + 2) + length lead ≤ k) → at mid k ≡ at old k
 
 -- what is known of the rows and of the lead, in rows of `width` numbers, where the lead's column is to be cleared
 record IsLed (p : Program) (old mid lead : List ℤ) (width r c : ℕ) : Type 0 where
   own : pos 0 <ℤ at lead c
-  narrow_lead : AllNarrow lead
-  narrow : AllNarrow mid
+  narrow_lead : AreNarrowNumbers lead
+  narrow : AreNarrowNumbers mid
   lead_row : (j : ℕ) → j < width → cell mid width r j ≡ at lead j
   tops : (tops : List ℕ) → HasTops p old tops → (i : ℕ) → i < p.rows + 1 → i ≢ r → IsAtMost width (cell mid width i) (slice_index tops i)
-  live : (l : Listing) (places owns : List ℕ) (found : ℕ) → IsPairList p l → IsTableOf p l old → IsFound p l r places owns found
+  live : (l : Listing) (places owns : List ℕ) (found : ℕ) → IsPairList p l → IsTableOf p l old → AreFoundPlaces p l r places owns found
       → IsLive places owns found (p.rows + 1) r width (cell mid width) (at lead)
   answer : (new : List ℤ) (res : Option WideCell) → length new ≡ length mid
       → MatchOption res (IsCleared mid new (p.rows + 1) width r c (at lead)) (λ w. IsClearedTo mid (p.rows + 1) width r c (at lead) w.row w.column w.number)
@@ -45,7 +45,7 @@ module _ (p : Program) (old mid lead : List ℤ) (r c : ℕ) (rows : r < p.rows)
   narrow_lead : (k : ℕ) → k < p.cols + 2 → IsNarrow (at lead k)
   narrow_lead k h = u.narrow k (omega (arith, u.wide))
 
-  narrow_mid : AllNarrow mid
+  narrow_mid : AreNarrowNumbers mid
   narrow_mid k h =
       let P : ℤ → Type 0 = λ t. IsNarrow t in
       let s = r * (p.cols + 2) in
@@ -127,8 +127,8 @@ clear_column-requires-clause-live c =
     let w = goal.at.clear_column-requires-clause-live c in
     let p = c.args.p.now in let r = c.args.r in let found = c.find-found.result in let places = c.deref_mut-5.result.now in let owns = c.deref.result.now in
     let width = length c.deref-numbers.result.now in let rows = cell c.deref_mut-3.result.now width in let lead = at c.deref-numbers.result.now in
-    let F : List ℕ → Type 0 = λ x. IsFound p c.args.basis.now r x owns found in
-    let O : List ℕ → Type 0 = λ x. IsFound p c.args.basis.now r c.find-found.new.self.places.items x found in
+    let F : List ℕ → Type 0 = λ x. AreFoundPlaces p c.args.basis.now r x owns found in
+    let O : List ℕ → Type 0 = λ x. AreFoundPlaces p c.args.basis.now r c.find-found.new.self.places.items x found in
     subst (λ n. IsLive places owns found n r width rows lead) (sym (owns_long w.After-deref))
     ((led_here w.After-deref_mut-3).live c.args.basis.now places owns found c.requires.pairs c.requires.rows (subst F (sym c.deref_mut-5.ensures.value) (subst O (sym c.deref.ensures.value) c.find-found.ensures.found)))
 

@@ -1,17 +1,17 @@
 use Rattle.std.proofs.Common.{◌≡◌, ℕ, ◌+◌, ◌<◌, List, [], ◌++◌, ◌^◌, ℤ, length, slice_index, take, drop, refl, sym, ap, subst, ◌∙◌, arith}
 use Rattle.std.proofs.lemmas.List.{take_at, get_or-replicate}
 use Rattle.gs_rows.specs.{declared.Program.{Program}, Program.{IsShaped}}
-use Rattle.gs_simplex.specs.{Numbers.{cell, AllNarrow, IsDivided}, Table.{IsTable, IsTableOf}, State.{IsRaw}}
+use Rattle.gs_simplex.specs.{Numbers.{cell, AreNarrowNumbers, IsDivided}, Table.{IsTable, IsTableOf}, State.{IsRaw}}
 use Rattle.gs_simplex.proofs.{Starts.{raw_narrow, start_table, start_rows, wide_tops}, Kept.{kept_self}}
 use Rattle.gs_simplex.proofs.table.Table.start.Goals as goal
 
 pub divide_rows-requires-clause-narrow : goal.divide_rows-requires-clause-narrow
 divide_rows-requires-clause-narrow c =
-    let P : List ℤ → Type 0 = λ x. AllNarrow x in subst P (sym c.deref_mut.ensures.value) (raw_narrow c.args.p.now c.in_ok-numbers.numbers.items c.requires.shaped c.in_ok-numbers.ensures)
+    let P : List ℤ → Type 0 = λ x. AreNarrowNumbers x in subst P (sym c.deref_mut.ensures.value) (raw_narrow c.args.p.now c.in_ok-numbers.numbers.items c.requires.shaped c.in_ok-numbers.ensures)
 
 -- the same facts of lists that are equal
 from_lists : (p : Program) (raw raw' new new' : List ℤ) (w : ℕ) → IsShaped p → IsRaw p raw → raw' ≡ raw → new' ≡ new → w ≡ p.cols + 2 → length new ≡ length raw'
-    → ((i : ℕ) → i < p.rows → IsDivided w (cell raw' w i) (cell new w i)) → ((j : ℕ) → j < w → cell new w p.rows j ≡ cell raw' w p.rows j) → AllNarrow new
+    → ((i : ℕ) → i < p.rows → IsDivided w (cell raw' w i) (cell new w i)) → ((j : ℕ) → j < w → cell new w p.rows j ≡ cell raw' w p.rows j) → AreNarrowNumbers new
     → IsTable p new' × IsTableOf p [] new'
 from_lists p raw raw' new new' w shaped u er en ew long divided last narrow =
     let P : List ℤ → Type 0 = λ x. IsTable p x × IsTableOf p [] x in

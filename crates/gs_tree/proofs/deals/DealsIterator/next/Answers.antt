@@ -1,6 +1,6 @@
 use Rattle.std.proofs.Common.{◌≡◌, ◌*◌, ◌<◌, ◌≤◌, ◌∷◌, [], ap, arith, length, sym, ◌∙◌}
 use Rattle.gs_model.specs.Deals.{Deal}
-use Rattle.gs_tree.specs.{Trees.{rules_of}, Walk.{deals_between, last_count, number_of}}
+use Rattle.gs_tree.specs.{Trees.{rules_of}, Walk.{deals_between, last_count, pair_number}}
 use Rattle.gs_tree.proofs.Steps.{step_none, step_some, walk_within, walked}
 use Rattle.gs_tree.proofs.deals.DealsIterator.next.Goals as goal
 
@@ -16,7 +16,7 @@ returns-then-deal-gt0-clause-goes c =
     let s = c.loop-self.self-inside in
     let g = rules_of s.signals.now in
     let some : 0 < c.deal-deal.result.weight = omega (arith, ap (λ (d : Deal). d.weight) c.deal.view_is, c.if-deal-gt0.true) in
-    let step : c.args.self.now ≡ c.deal-deal.result ∷ deals_between g (number_of g c.next_pair-one.result.0 c.next_pair-one.result.1) (s.end * last_count g) =
+    let step : c.args.self.now ≡ c.deal-deal.result ∷ deals_between g (pair_number g c.next_pair-one.result.0 c.next_pair-one.result.1) (s.end * last_count g) =
     sym c.loop-self.invariant.left
     ∙ step_some g s.one s.two c.next_pair-one.result.0 c.next_pair-one.result.1 s.end c.deal-deal.result c.loop-self-test.true (c.loop-self.invariant.on.two_in c.loop-self-test.true) c.next_pair-one.ensures c.deal-deal.ensures some in
     record { on = λ _. (tt, tt, omega (arith, ap length step)); keeps = tt; rests = λ _. tt }
@@ -33,5 +33,5 @@ loop-self-preserved c =
 pub returns-clause-steps : goal.returns-clause-steps
 returns-clause-steps c =
     let s = c.loop-self.self-inside in
-    let end : deals_between (rules_of s.signals.now) (number_of (rules_of s.signals.now) s.one s.two) (s.end * last_count (rules_of s.signals.now)) ≡ [] = walked (rules_of s.signals.now) s.one s.two s.end c.loop-self-test.false in
+    let end : deals_between (rules_of s.signals.now) (pair_number (rules_of s.signals.now) s.one s.two) (s.end * last_count (rules_of s.signals.now)) ≡ [] = walked (rules_of s.signals.now) s.one s.two s.end c.loop-self-test.false in
     (sym c.loop-self.invariant.left ∙ end, end)

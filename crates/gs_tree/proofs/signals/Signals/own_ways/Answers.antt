@@ -2,7 +2,7 @@ use Rattle.std.proofs.Common.{◌≡◌, ◌+◌, ◌*◌, ◌<◌, ◌≤◌, �
 use Rattle.std.proofs.{lemmas.List.{length-map, length-take-le}, lemmas.Slice.{between_from_start}}
 use Rattle.std.specs.List.{between}
 use Rattle.gs_card.specs.Decks.{DeckValue, kinds}
-use Rattle.gs_game.specs.{Games.{round_of}, declared.game.Game.{Game as Described}}
+use Rattle.gs_game.specs.{Games.{round_rules}, declared.game.Game.{Game as Described}}
 use Rattle.gs_model.specs.{Cards.{ways, left_after}, Deals.{own_ways}, Game.{Game, Round, round_count}}
 use Rattle.gs_model.specs.Signals.{Seen, Signal, signal_at, signals, left_by, own_cards}
 use Rattle.gs_tree.specs.Trees.{rules_of}
@@ -11,11 +11,11 @@ use Rattle.gs_tree.proofs.{signals.Signals.own_ways.Goals.{After-deref-round-ite
 use Rattle.gs_tree.proofs.signals.Signals.own_ways.Goals as goal
 
 -- the rounds of the loop are the game's
-all_rounds : (c : After-deref-round-items) → (rules_of c.args.self.now).rounds ≡ map round_of c.deref-round-items.result.now
-all_rounds c = sym (ap (map round_of) (c.deref-round-items.ensures.value ∙ ap (λ (x : Described). x.rounds.items) c.game.ensures))
+all_rounds : (c : After-deref-round-items) → (rules_of c.args.self.now).rounds ≡ map round_rules c.deref-round-items.result.now
+all_rounds c = sym (ap (map round_rules) (c.deref-round-items.ensures.value ∙ ap (λ (x : Described). x.rounds.items) c.game.ensures))
 
 -- what one turn reads
-read_turn : (c : After-from) → (rules_of c.args.self.now).rounds ≡ map round_of c.deref-round-items.result.now
+read_turn : (c : After-from) → (rules_of c.args.self.now).rounds ≡ map round_rules c.deref-round-items.result.now
     → IsTurn (rules_of c.args.self.now) (left_by (rules_of c.args.self.now).copies (signal_at (rules_of c.args.self.now) (round_count (rules_of c.args.self.now)) c.args.one)) (signal_at (rules_of c.args.self.now) (round_count (rules_of c.args.self.now)) c.args.two) c.loop-round.round-index c.loop-round.start (c.loop-round.start + c.from.result) c.own-own.result.now
 read_turn c all =
     let s = c.args.self.now in
@@ -63,7 +63,7 @@ overflow_mul-ways c =
     let k : ℕ = c.loop-round.round-index in
     let all = all_rounds (goal.at.overflow_mul-ways c).After-deref-round-items in
     let power = power_more c.loop-round.ways c.ways_beside-ways.result k c.loop-round.invariant.small c.ways_beside-ways.ensures.small in
-    let few : k + 1 ≤ 4 = omega (arith, c.args.self.now.game.now.limits.few_rounds, c.loop-round-test.true, ap (λ (x : List Round). length x) all, length-map c.deref-round-items.result.now round_of) in
+    let few : k + 1 ≤ 4 = omega (arith, c.args.self.now.game.now.limits.few_rounds, c.loop-round-test.true, ap (λ (x : List Round). length x) all, length-map c.deref-round-items.result.now round_rules) in
     let fits = power_fits (c.loop-round.ways * c.ways_beside-ways.result) (k + 1) few power in
     omega (arith, fits)
 
@@ -100,5 +100,5 @@ returns c =
     let t : Signal = signal_at g (round_count g) c.args.two in
     let all = all_rounds (goal.at.returns c).After-deref-round-items in
     let h = has_rounds g (round_count g) c.args.two c.requires.two_in in
-    let over : length t ≤ c.loop-round.round-index = omega (arith, h.long, c.loop-round-test.false, ap (λ (x : List Round). length x) all, length-map c.deref-round-items.result.now round_of) in
+    let over : length t ≤ c.loop-round.round-index = omega (arith, h.long, c.loop-round-test.false, ap (λ (x : List Round). length x) all, length-map c.deref-round-items.result.now round_rules) in
     c.loop-round.invariant.counted ∙ ap (own_ways (left_by g.copies (signal_at g (round_count g) c.args.one))) (take_all c.loop-round.round-index t over)

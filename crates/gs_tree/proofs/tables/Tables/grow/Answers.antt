@@ -1,7 +1,7 @@
 use Rattle.std.proofs.Common.{◌≡◌, ◌+◌, ◌-◌, ◌<◌, ◌≤◌, ◌++◌, ◌∷◌, [], ℕ, suc, List, length, map, take, take_all, replicate, length-append, get_or, vec_len, sym, ap, ◌∙◌, arith}
 use Rattle.std.proofs.{lemmas.List.{length-map}, lemmas.List.FromFn.{map-range_with_len_more}}
 use Rattle.std.specs.{Prelude.{flat_map}, List.{range_with_len}}
-use Rattle.gs_game.specs.Games.{game_of, round_of}
+use Rattle.gs_game.specs.Games.{game_of, round_rules}
 use Rattle.gs_model.specs.{Game.{Game, Round, round_at}, Signals.{Seen, Signal, signals, children, owners, showings, edge, left_by, first_child, signal_at}}
 use Rattle.gs_tree.specs.{Shown.{seen_of}, Tables.{shown_in}}
 use Rattle.gs_tree.proofs.{Pushed.{joined_more}, Grown.{shows_of, few_before, first_grown, owners_more, filled, seen_grown, edges_grown}}
@@ -38,8 +38,8 @@ loop-parent-preserved c =
     let left : c.deref.result.now ≡ left_by g.copies (get_or ss i []) =
     c.deref.ensures.value ∙ c.in_ok-left.ensures.left ∙ ap (λ k. left_by g.copies (signal_at g k i)) all_rounds in
     let shows : Signal → List Seen = shows_of g n in
-    let more : showings c.deref.result.now (round_of c.args.next.now) ≡ shows (get_or ss i []) = ap (λ x. showings x (round_of c.args.next.now)) left ∙ ap (showings (left_by g.copies (get_or ss i []))) c.requires.round in
-    let showing : List Seen = showings c.deref.result.now (round_of c.args.next.now) in
+    let more : showings c.deref.result.now (round_rules c.args.next.now) ≡ shows (get_or ss i []) = ap (λ x. showings x (round_rules c.args.next.now)) left ∙ ap (showings (left_by g.copies (get_or ss i []))) c.requires.round in
+    let showing : List Seen = showings c.deref.result.now (round_rules c.args.next.now) in
     let old : List ℕ = c.loop-parent.grown.parents.items in
     let before : c.len.result ≡ first_child g n i = omega (arith, c.len.ensures, long (goal.at.loop-parent-preserved c).At-loop-parent) in
     let grew : length c.push_showings.new.layer.shown.items ≡ length c.loop-parent.grown.layer.shown.items + length showing =
@@ -50,8 +50,8 @@ loop-parent-preserved c =
     let few : length kids ≡ length showing = length-map (shows (get_or ss i [])) (λ p. (edge (left_by g.copies (get_or ss i [])) p, get_or ss i [] ++ p ∷ [])) ∙ ap (λ (x : List Seen). length x) (sym more) in
     let zero : i ≡ 0 + i = omega arith in
     record {
-      shown = c.in_ok-push_showings.ensures.shown ∙ joined_more shows [] (shown_in c.loop-parent.grown.layer) (showings c.deref.result.now (round_of c.args.next.now)) ss i [] here c.loop-parent.invariant.shown more;
-      edges = c.in_ok-push_showings.ensures.edges ∙ joined_more (edges g n) [] c.loop-parent.grown.layer.edges (map (edge c.deref.result.now) (showings c.deref.result.now (round_of c.args.next.now))) ss i [] here c.loop-parent.invariant.edges (ap (λ x. map (edge x) (showings c.deref.result.now (round_of c.args.next.now))) left ∙ ap (map (edge (left_by g.copies (get_or ss i [])))) more);
+      shown = c.in_ok-push_showings.ensures.shown ∙ joined_more shows [] (shown_in c.loop-parent.grown.layer) (showings c.deref.result.now (round_rules c.args.next.now)) ss i [] here c.loop-parent.invariant.shown more;
+      edges = c.in_ok-push_showings.ensures.edges ∙ joined_more (edges g n) [] c.loop-parent.grown.layer.edges (map (edge c.deref.result.now) (showings c.deref.result.now (round_rules c.args.next.now))) ss i [] here c.loop-parent.invariant.edges (ap (λ x. map (edge x) (showings c.deref.result.now (round_rules c.args.next.now))) left ∙ ap (map (edge (left_by g.copies (get_or ss i [])))) more);
       firsts = c.in_ok-push_showings.ensures.firsts ∙ c.in_ok-push.ensures.items ∙ ap (λ x. x ++ c.len.result ∷ []) c.loop-parent.invariant.firsts ∙ ap (λ v. map (first_child g n) (range_with_len 0 i) ++ v ∷ []) before ∙ sym (map-range_with_len_more (first_child g n) 0 i i (omega arith));
       parents = c.in_ok-resize.ensures.items ∙ ap (λ k. take c.len-in-loop-parent.result old ++ replicate (c.len-in-loop-parent.result - k) i) old_long
           ∙ filled old c.len-in-loop-parent.result i kids (omega (arith, all, grew, c.loop-parent.invariant.long)) (omega (arith, all, grew, few, c.loop-parent.invariant.long))

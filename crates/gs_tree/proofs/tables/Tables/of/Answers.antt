@@ -1,6 +1,6 @@
 use Rattle.std.proofs.{Common.{◌≡◌, ◌+◌, ◌++◌, ◌∷◌, [], ℕ, suc, List, length, length-append, get_or, sym, ap, ◌∙◌, subst, arith}, lemmas.List.{length-map}}
 use Rattle.std.specs.Global.{Vec}
-use Rattle.gs_game.specs.{Games.{game_of, round_of}, declared.game.Round.{Round}}
+use Rattle.gs_game.specs.{Games.{game_of, round_rules}, declared.game.Round.{Round}}
 use Rattle.gs_model.specs.{Game.{Game}, Signals.{signals, parents}}
 use Rattle.gs_model.proofs.Ranges.{length-parents}
 use Rattle.gs_tree.specs.{Tables.{AreTables, IsLayer}, declared.layer.Layer.{Layer}}
@@ -13,7 +13,7 @@ counting m n e = omega arith
 pub grow-requires-clause-few : goal.grow-requires-clause-few
 grow-requires-clause-few c =
     let n : length c.loop-next.tables.layers.items ≡ c.loop-next.next-index = c.loop-next.invariant.rounds in
-    c.requires.limits.signals_in (suc (length c.loop-next.tables.layers.items)) (omega (arith, n, ap (λ (x : List Round). length x) c.deref-next-items.ensures.value, length-map c.args.game.now.rounds.items round_of))
+    c.requires.limits.signals_in (suc (length c.loop-next.tables.layers.items)) (omega (arith, n, ap (λ (x : List Round). length x) c.deref-next-items.ensures.value, length-map c.args.game.now.rounds.items round_rules))
 
 pub grow-requires-clause-private : goal.grow-requires-clause-private
 grow-requires-clause-private c =
@@ -30,7 +30,7 @@ overflow_cast-count c =
     let g : Game = game_of c.args.game.now in
     let m : ℕ = length c.loop-next.tables.layers.items in
     let n : m ≡ c.loop-next.next-index = c.loop-next.invariant.rounds in
-    let few = c.requires.limits.signals_in (suc m) (omega (arith, n, ap (λ (x : List Round). length x) c.deref-next-items.ensures.value, length-map c.args.game.now.rounds.items round_of)) in
+    let few = c.requires.limits.signals_in (suc m) (omega (arith, n, ap (λ (x : List Round). length x) c.deref-next-items.ensures.value, length-map c.args.game.now.rounds.items round_rules)) in
     let owned : c.in_ok-parents.field-0.parents.items ≡ parents g (suc m) = c.in_ok-parents.ensures.parents in
     omega (arith, few, ap (λ (x : List ℕ). length x) owned, length-parents g (suc m), c.len-count.ensures, c.in_ok-parents.field-0.parents.ok.0)
 
