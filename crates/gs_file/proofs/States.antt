@@ -17,6 +17,7 @@ use Rattle.gs_file.proofs.RoundCounts.{counted_is}
 use Rattle.gs_file.proofs.Stating.{IsTable, IsWhole, after, between, each_is, each_ok, found_ok, never, same_ok, through, within_is, within_ok}
 use Rattle.gs_file.proofs.StatedRounds.{PlayHas, PlayIn, PlayMade, RoundHas, RoundIn, RoundMade, round_in_is, round_in_ok, round_is, round_made_is, round_made_ok, round_ok, same_bytes}
 use Rattle.gs_file.proofs.StatedTop.{BonusTyped, CopiesTyped, VersionHas, top_is, top_ok, typed_is, typed_ok}
+use Rattle.gs_game.proofs.Rules.{kept, not_refused}
 
 none_some : {A : Type 0} (x : A) → None ≡ Some x → ⊥
 none_some x e = cc
@@ -245,7 +246,7 @@ table_ok table g e =
       bonus = bonus_states s.ranking s.bonus t.bonus v.bonus table hv.version ht.bonus hs.bonus;
       ante = (v.ante, hv.ante, (ht.ante ∙ ap Some is, low, high));
       rounds = (v.rounds, hv.rounds, (items, found, through StatesRound IsTable IsRound (λ b x d h i. (x, i, h)) bs t.rounds (array_items items) rounds tables));
-      lawful = no_rule;
+      lawful = kept _ no_rule;
     })
 
 -- what is stated is accepted
@@ -292,10 +293,10 @@ table_is table g h =
       ante = ia.0;
       rounds = (items, found, tables);
     }) in
-    let stated = stated_is t s (counted_is g ts h.lawful long) (record { ranking = refl; bonus = ranged; ante = (refl, ia.1, ia.2); rounds = reads }) in
+    let stated = stated_is t s (counted_is g ts (not_refused _ h.lawful) long) (record { ranking = refl; bonus = ranged; ante = (refl, ia.1, ia.2); rounds = reads }) in
     let built = each_is round_built RoundMade (λ n w b i. round_made_is n w b i) 1 ws g.rounds made in
     let cards : deck_at g.deck.ranks g.deck.suits h.deck.copies ≡ Ok g.deck = rw h.deck.good (ap (λ (d : DeckValue). Ok d) (sym h.deck.made)) in
-    rw (values, types, stated, cards, built, h.lawful) refl
+    rw (values, types, stated, cards, built, not_refused _ h.lawful) refl
 
 -- the bytes of a file
 pub states_ok : (bytes : List ℕ) (g : FileGame) → read_at bytes ≡ Ok g → FileStates bytes g

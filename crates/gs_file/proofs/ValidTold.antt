@@ -6,6 +6,7 @@ use Rattle.gs_model.specs.Game.{Round as Rules}
 use Rattle.gs_file.specs.{JsonForm.{game_data}, JsonLaws.{IsRoundTold, IsTold, TellsBonus}, JsonReading.{json_game_at}, Views.{valid_view}}
 use Rattle.gs_file.specs.declared.version.Version.{Version}
 use Rattle.gs_file.proofs.ReadsBack.{reads_back}
+use Rattle.gs_game.proofs.Rules.{kept}
 
 abbrev IsSmall : Rules → Type 0
 IsSmall r = (r.private ≤ 2) × (r.public ≤ 3)
@@ -29,7 +30,7 @@ valid_told version v deck tells = record {
   some_ante = v.ante.0;
   ante = v.ante.1;
   rounds = rounds_told v.game.rounds.items v.dealable.small;
-  lawful = v.accepted;
+  lawful = kept _ v.accepted;
 }
 
 -- and so it is read back

@@ -4,7 +4,7 @@ use Rattle.std.specs.{Prelude.{ℕ, pos, ◌≡◌, ◌≤◌, ◌⊎◌, true, 
 use Rattle.toml.specs.{Data.{Data, Items, Members, get_member, as_str, as_integer, as_array, as_table}, Parse.{parse_document}}
 use Rattle.gs_bet.specs.Limit.{limit_bet}
 use Rattle.gs_card.specs.{DeckFaults.{fault_of as deck_fault_of}, Decks.{DeckValue, deck_of_texts}}
-use Rattle.gs_game.specs.Refusals.{first_refusal}
+use Rattle.gs_game.specs.Rules.{KeepsRules}
 use Rattle.gs_model.specs.{Betting.{Bet}, Game.{Round, Ranking}, Outcome.{categories}}
 use Rattle.gs_file.specs.{JsonForm.{ranking_text}, Keys.{key_in, has_only, top_keys, tree_keys, limit_keys}, Reading.{FileGame, file_rules}}
 use Rattle.gs_file.specs.Tables.{array_items}
@@ -93,7 +93,7 @@ pub record StatesGame (g : FileGame) (table : Members) : Type 0 where
   pub bonus : StatesBonus g.ranking g.bonus table
   pub ante : Has table key.Ante (IsNumber 1 4096 g.ante)
   pub rounds : Has table key.Round (IsList IsRound g.rounds)
-  pub lawful : first_refusal (file_rules g) ≡ None
+  pub lawful : KeepsRules (file_rules g)
 
 -- the bytes are UTF-8 and TOML, and their table states the game
 abbrev pub FileStates : List ℕ → FileGame → Type 0

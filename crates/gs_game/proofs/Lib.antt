@@ -26,3 +26,4 @@ pub mod Singles
 pub mod GoingOn
 pub mod StopLaws
 pub mod SomeWays
+pub mod Rules

@@ -3,6 +3,7 @@ pub mod Seen
 pub mod Money
 pub mod Counts
 pub mod Refusals
+pub mod Rules
 pub mod FaultOf
 pub mod Walks
 pub mod Limits

@@ -12,6 +12,7 @@ use Rattle.gs_model.specs.{Betting.{HasPlayers}, Frame.{frame_of, last_round, si
 use Rattle.gs_model.specs.Signals.{signals}
 use Rattle.gs_laws.specs.Lawful.{IsDealt}
 use Rattle.gs_laws.proofs.Told.{file_told}
+use Rattle.gs_game.proofs.Rules.{not_refused}
 
 some_none : {A : Type 0} (x : A) → Some x ≡ None → ⊥
 some_none x e = cc
@@ -47,12 +48,12 @@ some_deal r h =
 
 pub told_playable : (version : Version) (g : FileGame) → IsTold version g → IsPlayable (file_rules g)
 told_playable version g h = record {
-  some = let n = (rounds_pass (file_rules g) h.lawful).0 in omega arith;
+  some = let n = (rounds_pass (file_rules g) (not_refused _ h.lawful)).0 in omega arith;
   players = players g.rounds h.rounds;
 }
 
 pub told_dealt : (version : Version) (g : FileGame) → IsTold version g → IsDealt g
-told_dealt version g h = record { playable = told_playable version g h; deals = some_deal (file_rules g) h.lawful }
+told_dealt version g h = record { playable = told_playable version g h; deals = some_deal (file_rules g) (not_refused _ h.lawful) }
 
 pub file_dealt : (bytes : List ℕ) (g : FileGame) → read_at bytes ≡ Ok g → IsDealt g
 file_dealt bytes g e = told_dealt _ g (file_told bytes g e)

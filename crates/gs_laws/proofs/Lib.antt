@@ -18,4 +18,3 @@ mod Dealing
 mod OneDuel
 pub mod Answering
 pub mod RawSequences
-mod Rules

@@ -7,6 +7,7 @@ use Rattle.gs_model.specs.{Frame.{signal_count, total_weight}, Payoff.{hand_weig
 use Rattle.gs_reply.specs.{Replies.{OfFile, Reply, Prints}, declared.strategies.Which.TheVariants.{First, Second}, VerdictText.{verdict_text}}
 use Rattle.gs_strategy.specs.{Confirmed.{strategy_frame, raw_plan}, Laws.{IsStrategy}, Values.{FractionParts, Numbers, Strategy}}
 use Rattle.gs_laws.proofs.{Confirming.{verdicts_one}, Dealing.{hand_some}, Dealt.{told_dealt}, OneStrategy.{over_file}, Verdicts.{hand_one, scale_some}}
+use Rattle.gs_game.proofs.Rules.{not_refused}
 
 hands_one : (v w : Version) (one two : Strategy) (hs gs : List FractionParts) → IsStrategy v one → IsStrategy w two → AreHandValues one two hs → AreHandValues one two gs
     → hs ≡ gs
@@ -19,7 +20,7 @@ hands_one v w one two hs gs is it h k =
     let a = h.each s e inside in
     let b = k.each s e inside in
     let some = scale_some (hand_weight f s) one.one.total two.two.total
-    (hand_some (file_rules one.game) d.playable is.written.game.lawful s inside) is.first.plan.total_in.0 it.second.plan.total_in.0 in
+    (hand_some (file_rules one.game) d.playable (not_refused _ is.written.game.lawful) s inside) is.first.plan.total_in.0 it.second.plan.total_in.0 in
     hand_one f (raw_plan one one.one) (raw_plan two two.two) s (get_or hs s e) (get_or gs s e) some a.reduced b.reduced a.value b.value))
 
 duelled_one : (v w : Version) (one two : Strategy) (x y : Reply) → IsStrategy v one → IsStrategy w two → SaysHands one two x → SaysHands one two y → x ≡ y

@@ -24,6 +24,7 @@ use Rattle.gs_seq.specs.{Cells.{meets, pair_count}, Slots.{sequence_count, slot_
 use Rattle.gs_strategy.specs.Values.{file_frame}
 use Rattle.gs_tree.proofs.Readers.{first_next}
 use Rattle.gs_laws.proofs.{Dealing.{child_some, hand_some, met}, Dealt.{few_signals, rounds_pass, told_playable}}
+use Rattle.gs_game.proofs.Rules.{not_refused}
 
 -- ---- signals do not get fewer
 
@@ -332,7 +333,7 @@ points_few version g h =
     let r = file_rules g in
     let p = told_playable version g h in
     let f = file_frame g in
-    let n = rounds_pass r h.lawful in
+    let n = rounds_pass r (not_refused _ h.lawful) in
     let W = λ (i : ℕ). signal_count f i in
     let V = λ (i : ℕ). pair_count f (single r) i in
     let last = last_round_of r in
@@ -347,13 +348,13 @@ points_few version g h =
     by : (ts : List Bet) → AllByRecursion (λ t. is_sound 16 t ≡ true) ts → length ts ≡ length g.rounds
         → moves_weigh (λ i. signal_count (file_frame g) i) (walk g.ante ts).points
         ≤ 16 * length g.rounds * ends_weigh (λ i. pair_count (file_frame g) (single (file_rules g)) i) (walk g.ante ts).ends
-    by [] sound long = let n = rounds_pass (file_rules g) h.lawful in absurd (omega arith)
+    by [] sound long = let n = rounds_pass (file_rules g) (not_refused _ h.lawful) in absurd (omega arith)
     by (t ∷ ts) sound long =
         let r = file_rules g in
         let p = told_playable version g h in
         let last = last_round_of r in
         let a = all_bound (λ i. signal_count (file_frame g) i) (λ i. pair_count (file_frame g) (single r) i) (round_count r)
-        (λ i some top. pairs_some r p h.lawful i some (omega arith)) (λ i some top. signals_up r h.lawful i some top) g.ante t ts sound (omega arith) in
+        (λ i some top. pairs_some r p (not_refused _ h.lawful) i some (omega arith)) (λ i some top. signals_up r (not_refused _ h.lawful) i some top) g.ante t ts sound (omega arith) in
         let most : 16 + 16 * length ts ≡ 16 * length g.rounds = omega arith in
         subst (λ (m : ℕ). moves_weigh (λ i. signal_count (file_frame g) i) (walk g.ante (t ∷ ts)).points
         ≤ m * ends_weigh (λ i. pair_count (file_frame g) (single r) i) (walk g.ante (t ∷ ts)).ends) most a
@@ -361,10 +362,10 @@ points_few version g h =
 pub raw_sequences_few : (version : Version) (g : FileGame) (player : ℕ) → IsTold version g
     → sequence_count (file_frame g) (single_classes (file_frame g).parents) player ≤ 1 + 64 * raw_cell_count (file_frame g)
 raw_sequences_few version g player h =
-    omega (arith, slots_all (file_rules g) (told_playable version g h) h.lawful player, points_few version g h)
+    omega (arith, slots_all (file_rules g) (told_playable version g h) (not_refused _ h.lawful) player, points_few version g h)
 
 pub hands_weigh : (version : Version) (g : FileGame) (s : ℕ) → IsTold version g → s < signal_count (file_frame g) 1 → 0 < hand_weight (file_frame g) s
-hands_weigh version g s h l = hand_some (file_rules g) (told_playable version g h) h.lawful s l
+hands_weigh version g s h l = hand_some (file_rules g) (told_playable version g h) (not_refused _ h.lawful) s l
 
 -- a game with few raw cells has few sequences over single signals
 points_within : (version : Version) (g : FileGame) → IsTold version g
@@ -384,17 +385,17 @@ points_within version g h =
     by : (ts : List Bet) → AllByRecursion (λ t. is_sound 16 t ≡ true) ts → length ts ≡ length g.rounds
         → moves_weigh (λ i. signal_count (file_frame g) i) (walk g.ante ts).points
         ≤ 200000 * 26 + 63 * ends_weigh (λ i. pair_count (file_frame g) (single (file_rules g)) i) (walk g.ante ts).ends
-    by [] sound long = let n = rounds_pass (file_rules g) h.lawful in absurd (omega arith)
+    by [] sound long = let n = rounds_pass (file_rules g) (not_refused _ h.lawful) in absurd (omega arith)
     by (t ∷ ts) sound long =
         let r = file_rules g in
         let p = told_playable version g h in
         let last = last_round_of r in
-        let n = rounds_pass r h.lawful in
+        let n = rounds_pass r (not_refused _ h.lawful) in
         let W = λ (i : ℕ). signal_count (file_frame g) i in
         let V = λ (i : ℕ). pair_count (file_frame g) (single r) i in
-        let a = first_bound W V (round_count r) (λ i some top. pairs_some r p h.lawful i some (omega arith))
-        (λ i some top. signals_up r h.lawful i some top) g.ante t ts sound (omega arith) in
-        let few = few_signals r h.lawful 1 (omega arith) (omega arith) in
+        let a = first_bound W V (round_count r) (λ i some top. pairs_some r p (not_refused _ h.lawful) i some (omega arith))
+        (λ i some top. signals_up r (not_refused _ h.lawful) i some top) g.ante t ts sound (omega arith) in
+        let few = few_signals r (not_refused _ h.lawful) 1 (omega arith) (omega arith) in
         let times = mul-le-mul_right 26 few in
         let deep : 15 + 16 * length ts ≤ 63 = omega arith in
         let wide = mul-le-mul_right (ends_weigh V (walk g.ante (t ∷ ts)).ends) deep in
@@ -403,4 +404,4 @@ points_within version g h =
 pub raw_games_within : (version : Version) (g : FileGame) (player : ℕ) → IsTold version g → raw_cell_count (file_frame g) ≤ 16777216
     → sequence_count (file_frame g) (single_classes (file_frame g).parents) player ≤ 1073741824
 raw_games_within version g player h few =
-    omega (arith, slots_all (file_rules g) (told_playable version g h) h.lawful player, points_within version g h, few)
+    omega (arith, slots_all (file_rules g) (told_playable version g h) (not_refused _ h.lawful) player, points_within version g h, few)

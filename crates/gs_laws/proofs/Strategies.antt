@@ -26,6 +26,7 @@ use Rattle.gs_strategy.proofs.OneText.{classes_are, game_is, json_is, numbers_ar
 use Rattle.gs_strategy.specs.declared.fault.FilePart.TheVariants as part
 use Rattle.gs_laws.specs.Lawful.{AreRawPlans}
 use Rattle.gs_laws.proofs.{Dealt.{few_signals, told_dealt, told_playable}, Fractions.{read_fraction}, Slots.{weights_within}, Told.{file_told, json_told}}
+use Rattle.gs_game.proofs.Rules.{not_refused}
 
 -- ---- a strategy from its parts
 
@@ -47,7 +48,7 @@ few_classes version g lists t c r ds lr k d l =
       le_greatest (list_of lists (r + 1)) k inside,
       greatest_within (list_of lists (r + 1)) (c.numbered (r + 1) some top),
       c.lengths (r + 1) some top,
-      few_signals (file_rules g) t.lawful (r + 1) some top,
+      few_signals (file_rules g) (not_refused _ t.lawful) (r + 1) some top,
     )
 
 few_weights : (f : Frame) (player : ℕ) (g : FileGame) (lists : ClassLists) (w : Weights) → f ≡ file_frame g → InRange (file_frame g) → IsWalked (file_frame g) player

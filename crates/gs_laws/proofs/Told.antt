@@ -22,6 +22,7 @@ use Rattle.gs_file.specs.declared.fault.Key.TheVariants as key
 use Rattle.gs_file.proofs.Stating.{after, each_ok, never, same_ok, through, within_ok}
 use Rattle.gs_file.proofs.StatedRounds.{PlayIn, PlayMade, RoundIn, RoundMade, round_in_ok, round_made_ok}
 use Rattle.serde_json.specs.Data as json
+use Rattle.gs_game.proofs.Rules.{kept}
 
 -- ---- the rounds
 
@@ -211,7 +212,7 @@ game_told form version table g f e =
       some_ante = hs.low;
       ante = hs.high;
       rounds = all_told bs rs told;
-      lawful = no_rule;
+      lawful = kept _ no_rule;
     })
 
 -- what a file states

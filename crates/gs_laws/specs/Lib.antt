@@ -2,4 +2,3 @@ pub mod Lawful
 pub mod Confirming
 pub mod Answers
 pub mod RawGames
-pub mod Rules

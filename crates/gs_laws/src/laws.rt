@@ -4,7 +4,6 @@ ghost use Rattle.gs_laws.specs.Answers.{AnswersAreOne, ReadingsAreOne, TextsAreR
 ghost use Rattle.gs_laws.specs.Confirming.{ConfirmedAreEvaluated, ConfirmedHaveNoTrouble, HandsAreOne, PrintedAreEvaluated, VerdictsAreOne};
 ghost use Rattle.gs_laws.specs.Lawful.{AcceptedAreDealt, AcceptedAreTold, PrintedAreRaw, PrintedAreStrategies, ReadAreRaw, ReadAreStrategies, StrategiesAreRaw, ToldAreDealt};
 ghost use Rattle.gs_laws.specs.RawGames.{HandsWeighSome, RawGamesAreWithin, RawSequencesAreFew};
-ghost use Rattle.gs_laws.specs.Rules.{RulesAreRefusals};
 
 /// A game that a file states can be written in version 2.
 pub fn accepted_are_told()
@@ -99,9 +98,4 @@ pub fn raw_sequences_are_few()
 /// A game with at most 16,777,216 raw cells keeps the limit on sequences over single signals.
 pub fn raw_games_are_within()
     ensures { RawGamesAreWithin }
-{}
-
-/// No refusal applies to a game if and only if it keeps the eleven rules.
-pub fn rules_are_refusals()
-    ensures { RulesAreRefusals }
 {}

@@ -7,7 +7,7 @@ use Rattle.toml.specs.{Tables.{Document, Expression, no_nodes, define, at_key, a
 use Rattle.toml.proofs.{ReadLines.{AllPrinted, read_lines, run}, Turns.{document_some}}
 use Rattle.gs_file.specs.{Reading.{file_rules}, JsonForm.{ranking_text}, States.{IsRound, OneByOne, StatesGame}, Tables.{array_items}}
 use Rattle.gs_file.proofs.States.{states_is}
-use Rattle.gs_game.specs.Refusals.{first_refusal}
+use Rattle.gs_game.specs.Rules.{KeepsRules}
 use Rattle.gs_made.proofs.Ascii.{ascii}
 use Rattle.gs_made.specs.{Made.{ante_of, head_text, ranking_word, round_block, rounds_of}, declared.kind.Kind.{Kind}}
 use Rattle.gs_made.specs.declared.kind.Kind.TheVariants.{Kuhn, Leduc, Rhode}
@@ -188,7 +188,7 @@ rounds_state cap (r ∷ rs) small few =
       rounds_state cap rs small few.1,
     )
 
-states : (kind : Kind) (n m cap : ℕ) → 1 ≤ n → n ≤ 13 → 1 ≤ m → m ≤ 4 → cap ≤ 8 → first_refusal (file_rules (game_for kind n m cap)) ≡ None
+states : (kind : Kind) (n m cap : ℕ) → 1 ≤ n → n ≤ 13 → 1 ≤ m → m ≤ 4 → cap ≤ 8 → KeepsRules (file_rules (game_for kind n m cap))
     → StatesGame (game_for kind n m cap) (file_table kind (ranks_text n) (suits_text m) cap)
 states kind n m cap ln hn lm hm small keeps =
     let ranks = ranks_are n ln hn in

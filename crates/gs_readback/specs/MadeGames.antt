@@ -1,9 +1,9 @@
 -- The games that the words of `make` ask for. Source: the rules of Kuhn's, Leduc and Rhode Island hold'em (Gilpin and Sandholm 2007), with limit betting.
-use Rattle.std.specs.Prelude.{ℕ, ◌≡◌, ◌≤◌, [], map, take, replicate, codes, None, Ok}
+use Rattle.std.specs.Prelude.{ℕ, ◌≡◌, ◌≤◌, [], map, take, replicate, codes, Ok}
 use Rattle.gs_bet.specs.Limit.{limit_bet}
 use Rattle.gs_card.specs.Decks.{deck_of_texts}
 use Rattle.gs_file.specs.Reading.{FileGame, read_at, file_rules}
-use Rattle.gs_game.specs.Refusals.{first_refusal}
+use Rattle.gs_game.specs.Rules.{KeepsRules}
 use Rattle.gs_made.specs.{Made.{ante_of, last, made_game, rounds_of}, declared.kind.Kind.{Kind}, declared.kind.Kind.TheVariants.{Kuhn, Leduc, Rhode}}
 use Rattle.gs_model.specs.{Game.{Round, Ranking, High, Pair, Three}, Outcome.{categories}}
 
@@ -32,5 +32,5 @@ game_for kind ranks suits cap = record {
 abbrev pub MadeFilesAreReadBack : Type 0
 MadeFilesAreReadBack =
     (kind : Kind) (ranks suits cap : ℕ) → 1 ≤ ranks → ranks ≤ 13 → 1 ≤ suits → suits ≤ 4 → cap ≤ 8
-    → first_refusal (file_rules (game_for kind ranks suits cap)) ≡ None
+    → KeepsRules (file_rules (game_for kind ranks suits cap))
     → read_at (made_game kind ranks suits cap) ≡ Ok (game_for kind ranks suits cap)
