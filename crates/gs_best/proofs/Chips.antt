@@ -7,7 +7,7 @@ use Rattle.gs_game.specs.{Games.{game_of}, Money.{most_in}, declared.valid.Valid
 use Rattle.gs_model.specs.{Numbering.{greatest}, Deals.{Deal}, Frame.{Frame, end_at, end_count, payoff_to, total_weight, trees_of}}
 use Rattle.gs_model.specs.Positions.{End, EndKind, Folded1, Folded2, Show, end_payoff}
 use Rattle.gs_model.proofs.Basics.{product_le}
-use Rattle.gs_seq.specs.Games.{frame_in}
+use Rattle.gs_seq.specs.{Games.{frame_in}, Abstracts.{abstract_frame, game_in}, declared.form.Abstract.{Abstract}}
 use Rattle.gs_seq.proofs.Sizes.{abs_neg, abs_pos, are_bet, outcomes_le, puts_le, some_greatest}
 
 kind_pays : (k : EndKind) (put : ℕ) (o : ℤ) (most : ℕ) (top : ℕ) → put ≤ most → unsigned_abs o ≤ top → 1 ≤ top
@@ -57,3 +57,7 @@ modest g =
           );
       weight = g.limits.weight_in;
     }
+
+-- the same of a game in sequence form
+pub form_modest : (a : Abstract) → IsModest (abstract_frame a)
+form_modest a = modest (game_in a)

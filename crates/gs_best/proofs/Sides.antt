@@ -5,10 +5,10 @@ use Rattle.gs_model.specs.{BestAnswers.{Values, class_worth, spread, start_sum},
 use Rattle.gs_model.specs.Frame.{Frame, end_count, last_round, leads_to, move_count, other_player, point_count, round_of}
 use Rattle.gs_model.specs.{FrameFacts.{IsFrom, IsInside, IsWalked}, Plans.{Plan}, Positions.{Target, at_end, at_point}, Sums.{sum_z}}
 use Rattle.gs_seq.specs.{Abstracts.{abstract_frame, lists_of}, Plans.{class_plan, lifted}}
+use Rattle.gs_seq.proofs.Forms.{form_classes, form_in_range, form_lossless, form_walked}
 use Rattle.gs_best.specs.{Ends.{IsEndRow}, Rows.{AreModestClasses, Worths}, Tables.{IsBestFrom, classes_at, moves_of, start_of, table_of}}
 use Rattle.gs_best.specs.declared.deviator.Deviator.{Deviator}
-use Rattle.gs_best.proofs.{Forms.{form_classes, form_in_range, form_lossless, form_modest, form_walked}, Placed.{IsRow}}
-use Rattle.gs_best.proofs.Small.{start_small, value_small, worth_small, worths_small}
+use Rattle.gs_best.proofs.{Chips.{form_modest}, Placed.{IsRow}, Small.{start_small, value_small, worth_small, worths_small}}
 
 abbrev pub frame : Deviator → Frame
 frame d = abstract_frame d.form.now

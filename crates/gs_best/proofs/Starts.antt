@@ -1,10 +1,10 @@
 -- Where the values of points start, and how many there are.
 use Rattle.std.proofs.{Common.{◌≡◌, ℕ, ◌+◌, ◌-◌, ◌*◌, ◌<◌, ◌≤◌, ◌^◌, ap, arith, cond, ⊎_elim}, Math.Nat.{mul-le-mul_left}, lemmas.Bool.Decides.{Decides-eqb}}
 use Rattle.gs_model.specs.{Classes.{ClassLists, IsClass}, Frame.{Frame, move_count, player_at, point_count, round_of}, Positions.{at_point}}
-use Rattle.gs_seq.specs.{Abstracts.{abstract_frame, lists_of}, Slots.{slots_at}, declared.form.Abstract.{Abstract}}
-use Rattle.gs_seq.proofs.{Points.{players}, SlotLaws.{sum_range_le, sum_range_more}}
-use Rattle.gs_best.specs.{Forms.{game_in}, Tables.{classes_at, start_of}}
-use Rattle.gs_best.proofs.{Below.{range_add, range_le}, Forms.{form_moves}}
+use Rattle.gs_seq.specs.{Abstracts.{abstract_frame, lists_of, game_in}, Slots.{slots_at}, declared.form.Abstract.{Abstract}}
+use Rattle.gs_seq.proofs.{Points.{players}, SlotLaws.{sum_range_le, sum_range_more}, Forms.{form_moves}}
+use Rattle.gs_best.specs.Tables.{classes_at, start_of}
+use Rattle.gs_best.proofs.Below.{range_add, range_le}
 
 pub starts_more : (f : Frame) (lists : ClassLists) (q : ℕ) → start_of f lists (q + 1) ≡ start_of f lists q + classes_at f lists q
 starts_more f lists q = sum_range_more (classes_at f lists) q

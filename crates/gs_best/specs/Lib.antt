@@ -1,4 +1,3 @@
-pub mod Forms
 pub mod Ends
 pub mod Tables
 pub mod Rows

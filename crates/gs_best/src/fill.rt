@@ -6,7 +6,6 @@ ghost use Rattle.gs_seq.specs.{Abstracts.{abstract_frame, lists_of}, Plans.{lift
 ghost use Rattle.gs_best.specs.{Answers.{IsFilled}, Rows.{IsCopied}, Sizes.{HasRoomForClasses, HoldsAll, IsLaidOut}, Tables.{IsBestFrom, moves_of, table_of}};
 
 use crate::deviator::Deviator;
-use crate::form::{class_total, point_total, round_at};
 use crate::merging::merge_moves;
 use crate::room::{Scratch, Table, place_points};
 use crate::work::room_for;
@@ -50,7 +49,7 @@ fn fill_point(side: &Deviator<'_>, point: u32, table: &mut Table, scratch: &mut 
 {
     merge_moves(side, point, table, scratch);
     let start = table.starts[point as usize] as usize;
-    let count = class_total(side.form, round_at(side.form, point)) as usize;
+    let count = side.form.class_total(side.form.round_at(point)) as usize;
     copy_values(&scratch.best, start, count, &mut table.values);
     copy_moves(&scratch.moves, start, count, &mut table.picks);
 }
@@ -64,7 +63,7 @@ pub(crate) fn fill(side: &Deviator<'_>, table: &mut Table, scratch: &mut Scratch
     ensures room { HasRoomForClasses (abstract_frame side.now.form.now) (lists_of side.now.form.now) scratch.new }
 {
     place_points(side.form, &mut table.starts);
-    let mut point = point_total(side.form);
+    let mut point = side.form.point_total();
     while point > 0 {
         point -= 1;
         fill_point(side, point, table, scratch);

@@ -9,7 +9,6 @@ ghost use Rattle.gs_best.specs.Sizes.{HasRoomForClasses, HoldsAll, sizes_of};
 use crate::deviator::Deviator;
 use crate::ends::read_end;
 use crate::fill::fill;
-use crate::form::{deal_weight, end_round, round_at, signal_total, start_at};
 use crate::numbers::judged;
 use crate::room::{Scratch, Table};
 use crate::rows::run_sum;
@@ -29,7 +28,7 @@ fn round_sum(form: &Abstract, round: u8, values: &[i128], start: usize) -> i128
 {
     let all = Run {
         first: 0,
-        end: signal_total(form, round),
+        end: form.signal_total(round),
     };
     run_sum(form, round, all, values, start)
 }
@@ -45,14 +44,14 @@ fn start_total(side: &Deviator<'_>, table: &Table, scratch: &mut Scratch) -> i12
     ensures small { unsigned_abs result ≤ 2 ^ 87 }
     ensures room { HasRoomForClasses (abstract_frame side.now.form.now) (lists_of side.now.form.now) scratch.new }
 {
-    match start_at(side.form) {
+    match side.form.start_at() {
         Target::Point(point) => {
             let start = table.starts[point as usize] as usize;
-            round_sum(side.form, round_at(side.form, point), &table.values, start)
+            round_sum(side.form, side.form.round_at(point), &table.values, start)
         }
         Target::End(end) => {
             read_end(side, end, scratch);
-            round_sum(side.form, end_round(side.form, end), &scratch.ends, 0)
+            round_sum(side.form, side.form.end_round(end), &scratch.ends, 0)
         }
     }
 }
@@ -109,5 +108,5 @@ pub fn verdict(form: &Abstract, one: &Plan, two: &Plan, work: &mut Work) -> Verd
         best_total(&second, &mut work.table, &mut work.scratch),
     );
     let paid = plans_pay(form, one, two, &mut work.scratch);
-    judged(deal_weight(form), (one.total, two.total), best, paid)
+    judged(form.deal_weight(), (one.total, two.total), best, paid)
 }

@@ -5,7 +5,6 @@ ghost use Rattle.gs_seq.specs.{Abstracts.{abstract_frame, lists_of}, Plans.{lift
 ghost use Rattle.gs_best.specs.Answers.{AreChoices, IsFilled};
 
 use crate::deviator::Deviator;
-use crate::form::{chooser, class_total, point_total, round_at};
 use crate::room::Table;
 use std::alloc::{AllocError, Global};
 
@@ -29,10 +28,10 @@ pub(crate) fn own_moves(
         IfOk result (λ v. AreChoices f lists side.now.player (lifted f lists side.now.other.now) v.items) }
 {
     let mut moves = Vec::new(alloc);
-    for point in 0..point_total(side.form) {
-        if chooser(side.form, point) == side.player {
+    for point in 0..side.form.point_total() {
+        if side.form.chooser(point) == side.player {
             let start = table.starts[point as usize] as usize;
-            let count = class_total(side.form, round_at(side.form, point)) as usize;
+            let count = side.form.class_total(side.form.round_at(point)) as usize;
             push_row(&mut moves, &table.picks, start, count)?;
         }
     }

@@ -7,7 +7,6 @@ ghost use Rattle.gs_best.specs.{Rows.{AreWorthsAdded, AreRaised, IsMerged, raise
 ghost use Rattle.gs_best.specs.Tables.{IsBestFrom, moves_of, table_of};
 
 use crate::deviator::Deviator;
-use crate::form::{chooser, class_total, move_total, round_at};
 use crate::room::{Scratch, Table};
 use crate::rows::read_worths;
 use gs_seq::plus;
@@ -71,9 +70,9 @@ pub(crate) fn merge_moves(side: &Deviator<'_>, point: u32, table: &Table, scratc
         point scratch.new.best.items scratch.new.moves.items }
     ensures room { HasRoomForClasses (abstract_frame side.now.form.now) (lists_of side.now.form.now) scratch.new }
 {
-    let count = class_total(side.form, round_at(side.form, point)) as usize;
-    let own = chooser(side.form, point) == side.player;
-    for choice in 0..move_total(side.form, point) {
+    let count = side.form.class_total(side.form.round_at(point)) as usize;
+    let own = side.form.chooser(point) == side.player;
+    for choice in 0..side.form.move_total(point) {
         read_worths(side, point, choice, table, scratch);
         let worths = &scratch.worths;
         if own {

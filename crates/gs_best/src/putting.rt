@@ -7,7 +7,6 @@ ghost use Rattle.gs_seq.specs.Slots.{slot_count, slots_before};
 ghost use Rattle.gs_best.specs.{Answers.{IsFilled}, Puts.{ArePutBefore, IsPutAt}, Tables.{AreInMoves, AreStarts, moves_of, start_of}};
 
 use crate::deviator::Deviator;
-use crate::form::{chooser, class_total, point_total, round_at};
 use crate::room::Table;
 use gs_seq::{Abstract, Plan};
 use std::alloc::{AllocError, Global};
@@ -37,7 +36,7 @@ fn put_point(
     ensures clear { IsClear (slots_before (abstract_frame form.now) (lists_of form.now) player (point + 1)) weights.new }
 {
     let start = starts[point as usize] as usize;
-    for before in 0..class_total(form, round_at(form, point)) {
+    for before in 0..form.class_total(form.round_at(point)) {
         let choice = picks[start + before as usize];
         let came = form.coming(1, weights, point, before + 1);
         let slot = form.slot(point, before + 1, choice) as usize;
@@ -59,8 +58,8 @@ pub fn put_moves(form: &Abstract, player: u8, starts: &[u32], picks: &[u8], weig
     ensures { let f = abstract_frame form.now in let lists = lists_of form.now in
         ArePutBefore f lists player (moves_of f lists picks.now) weights.new (point_count f) }
 {
-    for point in 0..point_total(form) {
-        if chooser(form, point) == player {
+    for point in 0..form.point_total() {
+        if form.chooser(point) == player {
             put_point(form, player, starts, picks, point, weights);
         }
     }

@@ -5,7 +5,6 @@ ghost use Rattle.gs_model.specs.Frame.{point_count};
 ghost use Rattle.gs_seq.specs.Abstracts.{abstract_frame, lists_of};
 ghost use Rattle.gs_best.specs.Tables.{AreStarts};
 
-use crate::form::{class_total, point_total, round_at};
 use gs_seq::Abstract;
 
 /// A value for each point and class of its round, and at a deviator's own points the first best move.
@@ -40,8 +39,8 @@ pub fn place_points(form: &Abstract, starts: &mut [u32])
     ensures behind { (i : ℕ) → point_count (abstract_frame form.now) ≤ i → slice_index starts.new i ≡ slice_index starts.old i }
 {
     let mut start = 0;
-    for point in 0..point_total(form) {
+    for point in 0..form.point_total() {
         starts[point as usize] = start;
-        start += class_total(form, round_at(form, point));
+        start += form.class_total(form.round_at(point));
     }
 }

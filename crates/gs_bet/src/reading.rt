@@ -11,7 +11,7 @@ use crate::fault::{Mistake, Stop, TreeFault};
 use crate::shape::{Act, BetTree, Move, Tree};
 use std::alloc::Global;
 
-#[tactic(auto, unfolding(crate::specs::Reading::player_at))]
+#[tactic(auto, unfolding(crate::specs::Reading::player_digit))]
 fn player_of(left: u8, bytes: &[u8]) -> Result<(u8, &[u8]), Stop>
     ensures read { Gives (λ x. (x.0, x.1.now)) result (player_digit left bytes.now) }
     ensures room { IfOk result (λ _. 0 < left) }

@@ -3,10 +3,10 @@ use Rattle.std.proofs.Common.{◌≡◌, ◌≢◌, ℕ, ◌+◌, ◌-◌, ◌<�
 use Rattle.std.proofs.{lemmas.Bool.{cases_eq}, lemmas.List.{get_or-append-add, get_or_append_left, get_or_push, length_push}, Math.ListN.{length-append}}
 use Rattle.std.specs.Prelude.{ℤ, pos}
 use Rattle.gs_model.specs.{Classes.{ClassLists, IsClass}, Frame.{Frame, round_of}, Plans.{IsClassPlan, Plan}, Positions.{at_end}}
-use Rattle.gs_seq.specs.{Payoffs.{end_classes, end_sum}, Plans.{class_plan}}
-use Rattle.gs_seq.proofs.Forms.{AreGiven, given}
-use Rattle.gs_best.specs.{Forms.{game_in}, declared.deviator.Deviator.{Deviator}}
-use Rattle.gs_best.proofs.{Forms.{form_classes}, Sides.{frame, lists}}
+use Rattle.gs_seq.specs.{Payoffs.{end_classes, end_sum}, Plans.{class_plan}, Abstracts.{game_in}}
+use Rattle.gs_seq.proofs.Forms.{AreGiven, given, form_classes}
+use Rattle.gs_best.specs.declared.deviator.Deviator.{Deviator}
+use Rattle.gs_best.proofs.Sides.{frame, lists}
 use Rattle.gs_certificate.specs.Paid.{AreKept}
 
 module _ (f : Frame) (lists : ClassLists) (player : ℕ) (y : Plan) where

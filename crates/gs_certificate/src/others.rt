@@ -8,7 +8,6 @@ use crate::claim::Claim;
 use crate::spot::{Spot, Way};
 use crate::spots::ways_at;
 use crate::worths::{number_at, worth};
-use gs_best::{class_total, move_total};
 use gs_seq::plus;
 
 /// Returns the sum of the worths of all moves.
@@ -21,7 +20,7 @@ fn moves_sum(claim: &Claim<'_>, spot: Spot, ways: &[Way], class: u32) -> i128
         result ≡ sum_z (λ m. class_worth f lists (claim_table claim.now) spot.point m class) (choices_at f spot.point) }
 {
     let mut sum = 0;
-    for choice in 0..move_total(claim.side.form, spot.point) {
+    for choice in 0..claim.side.form.move_total(spot.point) {
         let way = ways[usize::from(choice)];
         sum = plus(sum, worth(claim, spot, way, class));
     }
@@ -37,7 +36,7 @@ pub(crate) fn others_low_at(claim: &Claim<'_>, spot: Spot) -> Option<u32>
         MatchOption result (AreHighAt f lists claim.now.side.now.player v spot.point) (IsFirstLowAt f lists claim.now.side.now.player v spot.point) }
 {
     let ways = ways_at(claim.side, spot);
-    for before in 0..class_total(claim.side.form, spot.round) {
+    for before in 0..claim.side.form.class_total(spot.round) {
         let class = before + 1;
         let least = moves_sum(claim, spot, &ways, class);
         if number_at(claim.side, claim.values, spot, class) < least {

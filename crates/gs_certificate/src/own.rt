@@ -13,7 +13,6 @@ use crate::spot::{Spot, Way};
 use crate::spots::way_at;
 use crate::sums::paid_together;
 use crate::worths::{number_at, worth};
-use gs_best::{class_total, move_total};
 use gs_game::Target;
 use gs_seq::scaled;
 
@@ -76,9 +75,9 @@ pub(crate) fn own_low_at(claim: &Claim<'_>, spot: Spot) -> Option<u32>
     ensures { let f = claim_frame claim.now in let lists = claim_lists claim.now in let v = claim_table claim.now in
         MatchOption result (AreHighAt f lists claim.now.side.now.player v spot.point) (IsFirstLowAt f lists claim.now.side.now.player v spot.point) }
 {
-    let count = class_total(claim.side.form, spot.round);
+    let count = claim.side.form.class_total(spot.round);
     let mut low = count;
-    for choice in 0..move_total(claim.side.form, spot.point) {
+    for choice in 0..claim.side.form.move_total(spot.point) {
         let way = way_at(claim.side, spot, choice);
         low = first_below(claim, spot, way, low);
     }

@@ -9,7 +9,7 @@ ghost use Rattle.gs_certificate.specs.Spots.{AreWays, IsSpot, IsWay};
 
 use crate::places::place_from;
 use crate::spot::{Spot, Way};
-use gs_best::{Deviator, end_round, move_total, round_at, target_at};
+use gs_best::Deviator;
 use gs_game::Target;
 
 /// Returns a point whose first number is at place `start`.
@@ -21,7 +21,7 @@ pub(crate) fn spot_at(side: &Deviator<'_>, point: u32, start: u32) -> Spot
 {
     Spot {
         point,
-        round: round_at(side.form, point),
+        round: side.form.round_at(point),
         start,
     }
 }
@@ -33,16 +33,16 @@ pub(crate) fn way_at(side: &Deviator<'_>, spot: Spot, choice: u8) -> Way
     ensures way { IsWay (abstract_frame side.now.form.now) (lists_of side.now.form.now) spot.point result }
     ensures leads { target_of result.to ≡ leads_to (abstract_frame side.now.form.now) spot.point choice }
 {
-    let to = target_at(side.form, spot.point, choice);
+    let to = side.form.target_at(spot.point, choice);
     match to {
         Target::Point(next) => Way {
             to,
-            round: round_at(side.form, next),
+            round: side.form.round_at(next),
             place: place_from(side.form, spot.point, spot.start, next),
         },
         Target::End(end) => Way {
             to,
-            round: end_round(side.form, end),
+            round: side.form.end_round(end),
             place: 0,
         },
     }
@@ -61,7 +61,7 @@ pub(crate) fn ways_at(side: &Deviator<'_>, spot: Spot) -> [Way; 26]
         place: 0,
     };
     let mut ways = [nowhere; 26];
-    for choice in 0..move_total(side.form, spot.point) {
+    for choice in 0..side.form.move_total(spot.point) {
         ways[usize::from(choice)] = way_at(side, spot, choice);
     }
     ways

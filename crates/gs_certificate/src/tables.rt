@@ -7,7 +7,7 @@ ghost use Rattle.gs_best.specs.Sizes.{IsWide};
 ghost use Rattle.gs_certificate.specs.{Claims.{IsClaim, claim_frame, claim_lists}, Paid.{AreSumsPaid}};
 
 use crate::claim::Claim;
-use gs_best::{Deviator, class_total, end_round, end_total, widest};
+use gs_best::{Deviator, widest};
 use gs_seq::{Plan, plus, scaled};
 use std::alloc::{AllocError, Global};
 
@@ -30,11 +30,11 @@ fn sums_in(
     ensures { let f = abstract_frame side.now.form.now in let lists = lists_of side.now.form.now in
         IfOk result (AreSumsPaid f lists side.now.player (class_plan f lists side.now.other.now)) }
 {
-    let ends = end_total(side.form);
+    let ends = side.form.end_total();
     let mut starts = Vec::with_capacity(alloc, ends as usize)?;
     let mut sums = Vec::new(alloc);
     for end in 0..ends {
-        let count = class_total(side.form, end_round(side.form, end)) as usize;
+        let count = side.form.class_total(side.form.end_round(end)) as usize;
         side.form
             .end_sums(side.player, side.other, end, 0, row, numbers);
         starts.push(sums.len())?;
@@ -92,7 +92,7 @@ fn end_paid(first: &Deviator<'_>, x: &Plan, ends: &EndSums, end: u32) -> i128
         result ≡ payoff_at f lists (class_plan f lists x.now) (class_plan f lists first.now.other.now) end }
 {
     let mut sum = 0i128;
-    for before in 0..class_total(first.form, end_round(first.form, end)) {
+    for before in 0..first.form.class_total(first.form.end_round(end)) {
         let number = first.form.number_at_end(x, end, before + 1);
         sum = plus(sum, scaled(number, kept_at(first, ends, end, before + 1)));
     }
@@ -109,7 +109,7 @@ pub(crate) fn plans_pay(first: &Deviator<'_>, x: &Plan, ends: &EndSums) -> i128
         result ≡ raw_payoff f (lifted f lists x.now) (lifted f lists first.now.other.now) }
 {
     let mut sum = 0i128;
-    for end in 0..end_total(first.form) {
+    for end in 0..first.form.end_total() {
         sum = plus(sum, end_paid(first, x, ends, end));
     }
     sum

@@ -5,7 +5,7 @@ ghost use Rattle.gs_model.specs.{Payoff.{raw_payoff}, Verdict.{IsValue}};
 ghost use Rattle.gs_best.specs.Judged.{parts};
 ghost use Rattle.gs_seq.specs.{Abstracts.{abstract_frame, lists_of}, Plans.{IsPlanOf, lifted}};
 
-use gs_best::{deal_weight, fraction};
+use gs_best::fraction;
 use gs_frac::Fraction;
 use gs_seq::{Abstract, Plan};
 
@@ -31,6 +31,6 @@ pub fn value_of(form: &Abstract, one: &Plan, two: &Plan, paid: i128) -> Fraction
     ensures { let f = abstract_frame form.now in let lists = lists_of form.now in
         IsValue f (lifted f lists one.now) (lifted f lists two.now) (parts result).0 (parts result).1 }
 {
-    let scale = scale_of(deal_weight(form), one.total, two.total);
+    let scale = scale_of(form.deal_weight(), one.total, two.total);
     fraction(paid, scale as i128)
 }

@@ -1,6 +1,5 @@
 pub mod Held
 pub mod Moves
 pub mod Spots
-pub mod Classes
 pub mod Ratios
 pub mod Mixed

@@ -2,12 +2,9 @@
 use Rattle.std.proofs.{Common.{◌≡◌, ℕ, zero, suc, ◌<◌, ◌≤◌, List, [], ◌∷◌, length, map, get_or, refl, sym, ap, ◌∙◌, subst, arith}, lemmas.List.{get_or-map}}
 use Rattle.gs_game.specs.{Seen.{OwnPoint, arrow_of, own_point, point_of}, declared.positions.Arrow.{Arrow as StoredArrow}}
 use Rattle.gs_game.specs.{declared.positions.Point.{Point as StoredPoint}, declared.valid.ValidGame.{ValidGame}}
-use Rattle.gs_lossless.specs.declared.checking.Lossless.{Lossless}
 use Rattle.gs_model.specs.{Frame.{Frame, move_count, point, point_count}, Positions.{Arrow}}
-use Rattle.gs_seq.specs.{Abstracts.{abstract_frame}, Games.{frame_in}, declared.form.Abstract.{Abstract}}
+use Rattle.gs_seq.specs.{Abstracts.{abstract_frame, game_in}, Games.{frame_in}, declared.form.Abstract.{Abstract}}
 use Rattle.gs_seq.proofs.{FewMoves.{AreSmall, few_moves, moves_few}, Points.{length-points, point_reads}, Choices.{none_there}}
-use Rattle.gs_tree.specs.declared.signals.Signals.{Signals}
-use Rattle.gs_lift.proofs.Held.{game_held}
 
 -- the moves of a point of the program are those of the frame's point
 pub moves_read : (g : ValidGame) (ps : List StoredPoint) (q : ℕ) (p : StoredPoint) → map point_of ps ≡ map own_point (frame_in g).points
@@ -46,12 +43,10 @@ pub record Moves (a : Abstract) (q : ℕ) (moves : List StoredArrow) : Type 0 wh
   pub small : AreSmall (map (λ (m : StoredArrow). m.letter) moves)
   pub letters : map (λ (m : StoredArrow). m.letter) moves ≡ map (λ (m : Arrow). m.letter) (point (abstract_frame a) q).moves
 
-pub moves_at : (a : Abstract) (lossless : Lossless) (signals : Signals) (game : ValidGame) (ps : List StoredPoint) (p : StoredPoint) (q : ℕ)
-    → lossless ≡ a.lossless.now → signals ≡ lossless.signals.now → game ≡ signals.game.now
+pub moves_at : (a : Abstract) (game : ValidGame) (ps : List StoredPoint) (p : StoredPoint) (q : ℕ) → game ≡ game_in a
     → map point_of ps ≡ map own_point (frame_in game).points → p ≡ get_or ps q p → q < point_count (abstract_frame a) → Moves a q p.moves.items
-moves_at a lossless signals game ps p q form held played points is l =
-    let g = a.lossless.now.signals.now.game.now in
-    let e = game_held a lossless signals game form held played in
+moves_at a game ps p q e points is l =
+    let g = game_in a in
     let seen : map point_of ps ≡ map own_point (frame_in g).points = points ∙ ap (λ (v : ValidGame). map own_point (frame_in v).points) e in
     let r = point_reads g ps q p seen l is in
     let h = few_moves g q l in

@@ -85,7 +85,7 @@ pub fn mix(a: &Abstract, plan: &Plan, spot: Spot, out: &mut Mixture)
     ensures { IsMixture (abstract_frame a.now) (lifted (abstract_frame a.now) (lists_of a.now) plan.now) spot.point spot.signal out.new }
 {
     let total = total_weight(a, plan, spot);
-    let point = &a.lossless().signals().game().points()[spot.point as usize];
+    let point = &a.game().points()[spot.point as usize];
     out.clear();
     for (choice, arrow) in point.moves.iter().enumerate() {
         out.push(arrow.letter, share(a, plan, spot, choice as u8, total));

@@ -1,27 +1,13 @@
 //! The weights and the shares of moves at a raw signal, by a plan over classes.
 
 ghost use Rattle.std.specs.Prelude.{◌≡◌, ◌<◌, ◌^◌};
-ghost use Rattle.gs_model.specs.{Classes.{IsClass, class_of}, Frame.{move_count, player_at, point_count, round_of, signal_count}};
-ghost use Rattle.gs_model.specs.Positions.{at_point};
+ghost use Rattle.gs_model.specs.{Frame.{move_count, player_at, point_count, round_of, signal_count}, Positions.{at_point}};
 ghost use Rattle.gs_lift.specs.Mixtures.{IsShareOf, total_number};
 ghost use Rattle.gs_seq.specs.{Abstracts.{abstract_frame, lists_of}, Plans.{IsPlanOf, lifted}};
 
 use crate::spot::Spot;
 use gs_frac::Fraction;
 use gs_seq::{Abstract, Plan};
-
-/// Returns the class of a raw signal of a point's round.
-fn class_at(a: &Abstract, point: u32, signal: u32) -> u32
-    requires point { point < point_count (abstract_frame a.now) }
-    requires signal { signal < signal_count (abstract_frame a.now) (round_of (abstract_frame a.now) (at_point point)) }
-    ensures value { result ≡ class_of (lists_of a.now) (round_of (abstract_frame a.now) (at_point point)) signal }
-    ensures class { IsClass (lists_of a.now) (round_of (abstract_frame a.now) (at_point point)) result }
-{
-    let lossless = a.lossless();
-    let classes = lossless.classes();
-    let round = lossless.signals().game().points()[point as usize].round;
-    classes.class_of(round, signal)
-}
 
 /// Returns the weight of a move at a raw signal, in the raw plan that a plan over classes stands for: the weight at the signal's class.
 pub fn weight(a: &Abstract, plan: &Plan, point: u32, signal: u32, choice: u8) -> u64
@@ -32,7 +18,7 @@ pub fn weight(a: &Abstract, plan: &Plan, point: u32, signal: u32, choice: u8) ->
     requires choice { choice < move_count (abstract_frame a.now) point }
     ensures { result ≡ (lifted (abstract_frame a.now) (lists_of a.now) plan.now).number point signal choice }
 {
-    let class = class_at(a, point, signal);
+    let class = a.class_at(a.round_at(point), signal);
     plan.weights[a.slot(point, class, choice) as usize]
 }
 
@@ -45,11 +31,8 @@ pub(crate) fn total_weight(a: &Abstract, plan: &Plan, spot: Spot) -> u128
     ensures value { result ≡ total_number (abstract_frame a.now) (lifted (abstract_frame a.now) (lists_of a.now) plan.now) spot.point spot.signal }
     ensures few { result < 2 ^ 127 }
 {
-    let moves = a.lossless().signals().game().points()[spot.point as usize]
-        .moves
-        .len() as u8;
     let mut total = 0u128;
-    for choice in 0..moves {
+    for choice in 0..a.move_total(spot.point) {
         total += u128::from(weight(a, plan, spot.point, spot.signal, choice));
     }
     total

@@ -44,7 +44,7 @@ fn head(
 }
 
 // Adds the lines of a round to the text.
-#[tactic(auto, unfolding(crate::specs::Made::round_text))]
+#[tactic(auto, unfolding(crate::specs::Made::round_block))]
 fn push_round(text: &mut String, round: Round, cap: u8) -> Result<(), AllocError>
     ensures { OnOk result (string_bytes text.new ≡ string_bytes text.old ++ round_block cap (three_numbers round)) }
 {

@@ -7,7 +7,7 @@ ghost use Rattle.gs_seq.specs.{Abstracts.{abstract_frame, lists_of}, Plans.{IsPl
 ghost use Rattle.gs_raw.specs.{Answers.{AreHandValuesOf, IsHandValueOf}, Hands.{hand_pays_at, signal_pays, signal_weighs, signals_pay}};
 
 use crate::hands::{hand_weight, paid_over};
-use gs_best::{Deviator, end_round, end_total, end_value, run_below, signal_total};
+use gs_best::{Deviator, end_value, run_below};
 use gs_frac::Fraction;
 use gs_lossless::{Run, descendants};
 use gs_seq::{Abstract, Plan, plus, scaled};
@@ -65,7 +65,7 @@ fn end_gain(side: &Spread<'_>, end: u32, signal: u32) -> i128
         result ≡ hand_pays_at f (lifted f lists side.now.one.now) (lifted f lists side.now.two.now) signal end }
     ensures few { unsigned_abs result ≤ 2 ^ 110 }
 {
-    let run = run_below(side.form, 1, signal + 1, end_round(side.form, end));
+    let run = run_below(side.form, 1, signal + 1, side.form.end_round(end));
     signals_gain(side, end, run)
 }
 
@@ -77,7 +77,7 @@ fn all_gain(side: &Spread<'_>, signal: u32) -> i128
     ensures few { unsigned_abs result < 2 ^ 127 }
 {
     let mut sum = 0i128;
-    for end in 0..end_total(side.form) {
+    for end in 0..side.form.end_total() {
         sum = plus(sum, end_gain(side, end, signal));
     }
     sum
@@ -101,7 +101,7 @@ pub(crate) fn worths(alloc: Global, side: &Spread<'_>) -> Result<Vec<Fraction>, 
     ensures { let f = abstract_frame side.now.form.now in let lists = lists_of side.now.form.now in
         IfOk result (λ v. AreHandValuesOf f lists side.now.one.now lists side.now.two.now v.items) }
 {
-    let count = signal_total(side.form, 1);
+    let count = side.form.signal_total(1);
     let mut hands = Vec::with_capacity(alloc, count as usize)?;
     for signal in 0..count {
         hands.push(worth(side, signal))?;

@@ -2,7 +2,7 @@
 use Rattle.std.proofs.Common.{◌≡◌, ℕ, zero, suc, ◌+◌, ◌-◌, ◌*◌, ◌<◌, ◌≤◌, ◌^◌, List, [], ◌∷◌, length, get_or, drop, take, sym, ap, ◌∙◌, subst, arith}
 use Rattle.std.proofs.lemmas.List.{length-drop, take_all}
 use Rattle.std.specs.Prelude.{ℤ, pos, ◌+ℤ◌, ◌*ℤ◌, unsigned_abs}
-use Rattle.gs_model.specs.{Classes.{ClassLists, IsClass, IsClasses, classes_in}, Frame.{Frame, end_at, end_count, payoff_to, round_of}}
+use Rattle.gs_model.specs.{Classes.{ClassLists, IsClass, classes_in}, Frame.{Frame, end_at, end_count, payoff_to, round_of}}
 use Rattle.gs_model.specs.{FrameFacts.{InRange, IsWalked}, Pairs.{pair_sum}, Positions.{End, at_end}, Sums.{sum_z}}
 use Rattle.gs_model.proofs.{Sparse.{sum_z-more}, Tables.{is_table}}
 use Rattle.gs_seq.specs.{Abstracts.{abstract_frame, lists_of}, Payoffs.{pair_pays}, Rows.{IsRow}, declared.form.Abstract.{Abstract}, declared.pair.Pair.{Pair}}
@@ -102,7 +102,6 @@ paid_as player k m e o p same is = ap (λ x. pos k *ℤ pair_pays player x p) sa
 
 -- a row of a game in sequence form, at an end and for a player
 pub record IsAlong (a : Abstract) (player z c : ℕ) (row : List Pair) : Type 0 where
-  pub classes : IsClasses (abstract_frame a).parents (lists_of a)
   pub some : 0 < player
   pub two : player ≤ 2
   pub inside : z < end_count (abstract_frame a)
@@ -118,7 +117,7 @@ pub record IsHere (a : Abstract) (player z : ℕ) (row rest : List Pair) (p : Pa
 
 module _ (a : Abstract) (player z c : ℕ) (row : List Pair) (u : IsAlong a player z c row) (n : ℕ → ℕ) where
   g : AreGiven (abstract_frame a) (lists_of a)
-  g = given_in a u.classes
+  g = given_in a
 
   w : IsWalked (abstract_frame a) player
   w = g.walked player u.some u.two

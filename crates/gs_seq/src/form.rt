@@ -19,7 +19,6 @@ use crate::slots::{few_slots, offsets_of};
 use crate::stop::SeqStop;
 use gs_boards::BoardOrder;
 use gs_filter::Classes;
-use gs_game::ValidGame;
 use gs_lossless::Lossless;
 use std::alloc::{AllocError, Global};
 
@@ -72,7 +71,7 @@ fn order_of<'a>(
 
 impl<'a> Abstract<'a> {
     ghost use Rattle.std.specs.Prelude.{◌+◌, IfOk, IfErr, IfSome, MatchOption};
-    ghost use Rattle.gs_model.specs.{Classes.{IsClass, IsClasses}, Frame.{end_count, last_round, move_count, player_at, point_count, round_of}};
+    ghost use Rattle.gs_model.specs.{Classes.{IsClass}, Frame.{end_count, last_round, move_count, player_at, point_count, round_of}};
     ghost use Rattle.gs_model.specs.{Pairs.{class_number}, Positions.{at_end, at_point}};
     ghost use Rattle.gs_seq.specs.{Abstracts.{abstract_frame, lists_of}, Cells.{IsPairAfter, MeetsNoneAfter}, Faults.{IsFaultOf}};
     ghost use Rattle.gs_seq.specs.{Plans.{IsPlanOf, class_plan}, Rows.{IsRow, IsSingleIn}, Singles.{HasSumsOf}};
@@ -129,27 +128,12 @@ impl<'a> Abstract<'a> {
         self.lossless
     }
 
-    /// Returns the game.
-    pub(crate) fn game(&self) -> &'a ValidGame
-        ensures held { frame_in result.now ≡ abstract_frame self.now }
-        ensures classes { IsClasses (abstract_frame self.now).parents (lists_of self.now) }
-    {
-        self.lossless.signals().game()
-    }
-
     /// Returns the classes.
     pub(crate) fn classes(&self) -> &'a Classes
         ensures lists { result.now.lists ≡ lists_of self.now }
         ensures parents { result.now.parents ≡ (abstract_frame self.now).parents }
     {
         self.lossless.classes()
-    }
-
-    /// Returns the number of ends of the game.
-    pub(crate) fn end_total(&self) -> u32
-        ensures { result ≡ end_count (abstract_frame self.now) }
-    {
-        self.game().ends().len() as u32
     }
 
     /// Returns the number of sequences of a player, with the empty one counted.
@@ -173,9 +157,7 @@ impl<'a> Abstract<'a> {
         ensures value { result ≡ slot_of (abstract_frame self.now) (lists_of self.now) point class choice }
         ensures within { result + 1 < sequence_count (abstract_frame self.now) (lists_of self.now) (player_at (abstract_frame self.now) point) }
     {
-        let moves = self.lossless.signals().game().points()[point as usize]
-            .moves
-            .len() as u32;
+        let moves = u32::from(self.move_total(point));
         self.offsets[point as usize] + (class - 1) * moves + u32::from(choice)
     }
 
@@ -252,9 +234,7 @@ impl<'a> Abstract<'a> {
         ensures own { IfOk result (IsPlanOf (abstract_frame self.now) (lists_of self.now) player) }
         ensures refused { IfErr result (IsFaultOf (abstract_frame self.now) (lists_of self.now) player total weights.items) }
     {
-        let classes = self.lossless.classes();
-        let game = self.lossless.signals().game();
-        match plan_fault(game, classes, player, total, &weights) {
+        match plan_fault(self.game(), self.classes(), player, total, &weights) {
             None => Ok(Plan {
                 player,
                 total,

@@ -1,6 +1,7 @@
 //! Games in sequence form over lossless classes: plans and their slots, sums over deals by pairs of classes, and what two plans pay.
 #![tactic(auto)]
 
+mod asking;
 mod before;
 mod earlier;
 mod fault;

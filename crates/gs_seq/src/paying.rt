@@ -54,7 +54,7 @@ impl<'a> Abstract<'a> {
     }
 
     /// Returns the number of classes of an end's round.
-    pub(crate) fn class_total(&self, end: u32) -> u32
+    pub(crate) fn end_class_total(&self, end: u32) -> u32
         requires { end < end_count (abstract_frame self.now) }
         ensures { result ≡ end_classes (abstract_frame self.now) (lists_of self.now) end }
     {
@@ -118,7 +118,7 @@ impl<'a> Abstract<'a> {
         ensures behind { (i : ℕ) → start + end_classes (abstract_frame self.now) (lists_of self.now) end ≤ i
             → get_or sums.new i (pos 0) ≡ get_or sums.old i (pos 0) }
     {
-        let stop = start + self.class_total(end) as usize;
+        let stop = start + self.end_class_total(end) as usize;
         let pays = pays_at(player, self.end_in(end));
         order.deal_sums(pays, numbers, &mut sums[start..stop]);
     }
@@ -134,7 +134,7 @@ impl<'a> Abstract<'a> {
             AreNumbersAt f lists plan.now.player (class_plan f lists plan.now) end numbers.new }
         ensures few { AreFew (end_classes (abstract_frame self.now) (lists_of self.now) end) numbers.new }
     {
-        for before in 0..self.class_total(end) {
+        for before in 0..self.end_class_total(end) {
             numbers[before as usize] = self.number_at_end(plan, end, before + 1);
         }
     }
@@ -154,7 +154,7 @@ impl<'a> Abstract<'a> {
         ensures behind { (i : ℕ) → start + end_classes (abstract_frame self.now) (lists_of self.now) end ≤ i
             → get_or sums.new i (pos 0) ≡ get_or sums.old i (pos 0) }
     {
-        for before in 0..self.class_total(end) {
+        for before in 0..self.end_class_total(end) {
             sums[start + before as usize] = self.paid(player, end, before + 1, numbers);
         }
     }

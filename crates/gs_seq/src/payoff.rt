@@ -115,7 +115,7 @@ impl<'a> Abstract<'a> {
             (class_plan (abstract_frame self.now) (lists_of self.now) y.now) end }
     {
         let mut sum = 0i128;
-        for before in 0..self.class_total(end) {
+        for before in 0..self.end_class_total(end) {
             let number = self.number_at_end(x, end, before + 1);
             let worth = self.end_sum(1, y, end, before + 1);
             sum = plus(sum, scaled(number, worth));
@@ -160,7 +160,7 @@ impl<'a> Abstract<'a> {
     {
         self.end_sums(1, y, end, 0, sums, numbers);
         let mut sum = 0i128;
-        for before in 0..self.class_total(end) {
+        for before in 0..self.end_class_total(end) {
             let number = self.number_at_end(x, end, before + 1);
             sum = plus(sum, scaled(number, sums[before as usize]));
         }

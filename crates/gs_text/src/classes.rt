@@ -106,8 +106,6 @@ fn lines_below(
     ensures { IfOk result (λ lines. map string_bytes lines.items ≡ map (open_line
         (zip (texts_of_signals (deck_of signals.now) (rules_of signals.now) round) classes.now)) (range_with_len 1 count)) }
 {
-    // called only for what its contract says
-    let _few = signals.count(round);
     let parents = signals.parents_in(round);
     let mut lines = begun_lines(alloc, count)?;
     for (index, class) in classes.iter().enumerate() {

@@ -2,8 +2,8 @@
 use Rattle.std.proofs.Common.{◌≡◌, ℕ, zero, suc, ◌+◌, ◌-◌, ◌*◌, ◌<◌, ◌≤◌, ap, arith}
 use Rattle.gs_model.specs.{Classes.{ClassLists, IsClass}, Frame.{Frame, end_count, round_of}, Positions.{at_end}}
 use Rattle.gs_seq.specs.{Abstracts.{abstract_frame, lists_of}, declared.form.Abstract.{Abstract}, Payoffs.{end_classes}}
-use Rattle.gs_seq.proofs.SlotLaws.{sum_range_le, sum_range_more}
-use Rattle.gs_best.proofs.Forms.{form_class_few, form_modest, form_walked}
+use Rattle.gs_seq.proofs.{SlotLaws.{sum_range_le, sum_range_more}, Forms.{form_class_few, form_walked}}
+use Rattle.gs_best.proofs.Chips.{form_modest}
 use Rattle.gs_totals.specs.Places.{end_start}
 
 pub end_starts_more : (f : Frame) (lists : ClassLists) (z : ℕ) → end_start f lists (z + 1) ≡ end_start f lists z + end_classes f lists z

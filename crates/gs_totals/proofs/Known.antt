@@ -5,7 +5,8 @@ use Rattle.gs_model.specs.{BestAnswers.{Values}, Classes.{IsClass, class_count},
 use Rattle.gs_model.specs.Sums.{sum_z}
 use Rattle.gs_model.proofs.Basics.{product_le}
 use Rattle.gs_seq.specs.declared.plan.Plan.{Plan}
-use Rattle.gs_best.proofs.{Forms.{form_class_few, form_classes, form_in_range, form_modest, form_moves}, Ranges.{range_abs}}
+use Rattle.gs_seq.proofs.Forms.{form_class_few, form_classes, form_in_range, form_moves}
+use Rattle.gs_best.proofs.{Chips.{form_modest}, Ranges.{range_abs}}
 use Rattle.gs_totals.specs.{ClassTotals.{earlier_class, total_worth}, Merged.{AreModestFrom}, Places.{IsFollowedFrom}}
 use Rattle.gs_totals.specs.{Roles.{IsOthers, role_frame, role_lists, role_plan, totals_in}, declared.role.Role.{Role}}
 use Rattle.gs_totals.proofs.{Gathers.{tested_small}, Sides.{apart, either_player, other_walked, walked}, TotalBounds.{totals_few}}

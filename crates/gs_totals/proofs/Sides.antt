@@ -1,10 +1,9 @@
 -- What holds of a player and of the other player.
 use Rattle.std.proofs.{Common.{◌≡◌, ◌≢◌, ℕ, ◌<◌, ◌≤◌, sym, ◌∙◌, arith, ⊎_elim}, lemmas.Bool.{cases_eq}}
 use Rattle.gs_model.specs.{Frame.{other_player, player_at, point_count}, FrameFacts.{IsWalked}}
-use Rattle.gs_seq.specs.{Abstracts.{abstract_frame}, declared.form.Abstract.{Abstract}}
-use Rattle.gs_seq.proofs.Points.{players}
-use Rattle.gs_best.specs.{Forms.{game_in}, declared.deviator.Deviator.{Deviator}}
-use Rattle.gs_best.proofs.Forms.{form_walked}
+use Rattle.gs_seq.specs.{Abstracts.{abstract_frame, game_in}, declared.form.Abstract.{Abstract}}
+use Rattle.gs_seq.proofs.{Points.{players}, Forms.{form_walked}}
+use Rattle.gs_best.specs.declared.deviator.Deviator.{Deviator}
 use Rattle.gs_totals.specs.{Roles.{role_frame}, declared.ledger.Ledger.{Ledger}, declared.role.Role.{Role}}
 
 pub walked : (k : Role) → IsWalked (role_frame k) k.player

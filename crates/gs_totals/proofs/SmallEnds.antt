@@ -3,7 +3,8 @@ use Rattle.std.proofs.Common.{ℕ, ◌^◌, ◌<◌, ◌≤◌, List, [], refl, 
 use Rattle.std.specs.Prelude.{ℤ, unsigned_abs}
 use Rattle.gs_model.specs.{Frame.{other_player, point_count}, FrameFacts.{IsFrom}, Positions.{at_end, at_point}}
 use Rattle.gs_seq.specs.{Abstracts.{abstract_frame, lists_of}, Plans.{IsPlanOf, class_plan}, declared.form.Abstract.{Abstract}, declared.plan.Plan.{Plan}}
-use Rattle.gs_best.proofs.Forms.{form_classes, form_in_range, form_modest, form_walked}
+use Rattle.gs_seq.proofs.Forms.{form_classes, form_in_range, form_walked}
+use Rattle.gs_best.proofs.Chips.{form_modest}
 use Rattle.gs_totals.specs.{ClassTotals.{IsFollowed}, Places.{AreEndSums, AreSmallPoints, AreSmallRows, totals_of}}
 use Rattle.gs_totals.proofs.{Known.{figures}, Sides.{apart, either_player}, Stepping.{from_some, none_followed}, TotalBounds.{totals_few}}
 

@@ -8,7 +8,6 @@ ghost use Rattle.gs_totals.specs.{Places.{AreEndSums, end_start}, Roles.{ArePaid
 use crate::ledger::Ledger;
 use crate::paying::read_end;
 use crate::places::{Scratch, Totals};
-use gs_best::end_total;
 
 /// Sets `sums` to what all ends pay the members of each class together.
 fn read_all(ledger: &Ledger<'_>, sums: &mut [i128], numbers: &mut [u64])
@@ -16,7 +15,7 @@ fn read_all(ledger: &Ledger<'_>, sums: &mut [i128], numbers: &mut [u64])
     requires room { end_start (role_frame ledger.now.role) (role_lists ledger.now.role) (end_count (role_frame ledger.now.role)) ≤ length sums.old }
     ensures { let k = ledger.now.role in AreEndSums (role_frame k) (role_lists k) k.player (role_plan k ledger.now.other.now) sums.new }
 {
-    for end in 0..end_total(ledger.role.form) {
+    for end in 0..ledger.role.form.end_total() {
         let start = ledger.role.places.ends[end as usize] as usize;
         read_end(ledger, end, start, sums, numbers);
     }

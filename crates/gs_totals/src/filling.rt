@@ -8,7 +8,7 @@ use crate::ledger::Ledger;
 use crate::merging::merge_moves;
 use crate::places::{Scratch, Totals};
 use crate::point_row::PointRow;
-use gs_best::{copy_moves, copy_values, point_total};
+use gs_best::{copy_moves, copy_values};
 
 /// Sets the class totals and first best moves of a point, from the totals of all later points.
 fn fill_point(
@@ -44,7 +44,7 @@ pub fn fill(ledger: &Ledger<'_>, totals: &mut Totals, picks: &mut [u8], scratch:
     ensures best { let k = ledger.now.role in let other = ledger.now.other.now in
         AreBestTotals (role_frame k) (role_lists k) k.player (role_plan k other) (totals_in k other totals.new.points.items) (moves_in k picks.new) }
 {
-    for point in (0..point_total(ledger.role.form)).rev() {
+    for point in (0..ledger.role.form.point_total()).rev() {
         fill_point(ledger, totals, picks, point, scratch);
     }
 }

@@ -9,7 +9,7 @@ use crate::ledger::Ledger;
 use crate::merging::follow_moves;
 use crate::places::{Scratch, Totals};
 use crate::point_row::PointRow;
-use gs_best::{copy_values, point_total};
+use gs_best::copy_values;
 
 /// Sets the class totals of a point for given moves, from the totals of all later points.
 fn follow_point(
@@ -41,7 +41,7 @@ pub fn follow(ledger: &Ledger<'_>, totals: &mut Totals, picks: &[u8], scratch: &
     ensures followed { let k = ledger.now.role in let other = ledger.now.other.now in
         IsFollowed (role_frame k) (role_lists k) k.player (role_plan k other) (totals_in k other totals.new.points.items) (moves_in k picks.now) }
 {
-    for point in (0..point_total(ledger.role.form)).rev() {
+    for point in (0..ledger.role.form.point_total()).rev() {
         follow_point(ledger, totals, picks, point, scratch);
     }
 }

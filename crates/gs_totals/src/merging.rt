@@ -8,7 +8,7 @@ ghost use Rattle.gs_totals.specs.Roles.{role_frame, role_lists, moves_in};
 
 use crate::point_row::PointRow;
 use crate::rows::read_worths;
-use gs_best::{add, chooser, move_total, raise};
+use gs_best::{add, raise};
 
 /// Copies to `row` the worth of a move for each of the first `count` classes that has chosen it. `picks` has the classes' moves from place `start` on.
 fn take(worths: &[i128], choice: u8, count: usize, picks: &[u8], start: usize, row: &mut [i128])
@@ -32,7 +32,7 @@ fn best_moves(at: &PointRow<'_, '_>, worths: &mut [i128], best: &mut [i128], mov
     ensures { let k = at.now.ledger.role in let f = role_frame k in
         AreGreatest f (role_lists k) (total_worth f (role_lists k) (totals_at at.now)) at.now.point (move_count f at.now.point) best.new moves.new }
 {
-    for choice in 0..move_total(at.ledger.role.form, at.point) {
+    for choice in 0..at.ledger.role.form.move_total(at.point) {
         let read = read_worths(&*at, choice, worths);
         raise(read, choice, at.count, best, moves);
     }
@@ -45,7 +45,7 @@ fn sum_moves(at: &PointRow<'_, '_>, worths: &mut [i128], sums: &mut [i128])
     ensures { let k = at.now.ledger.role in let f = role_frame k in
         AreSums f (role_lists k) (total_worth f (role_lists k) (totals_at at.now)) at.now.point (move_count f at.now.point) sums.new }
 {
-    for choice in 0..move_total(at.ledger.role.form, at.point) {
+    for choice in 0..at.ledger.role.form.move_total(at.point) {
         let read = read_worths(&*at, choice, worths);
         add(read, choice, at.count, sums);
     }
@@ -59,7 +59,7 @@ fn chosen_moves(at: &PointRow<'_, '_>, picks: &[u8], worths: &mut [i128], row: &
     ensures { let k = at.now.ledger.role in let f = role_frame k in
         AreChosen f (role_lists k) (totals_at at.now) (moves_in k picks.now) at.now.point (move_count f at.now.point) row.new }
 {
-    for choice in 0..move_total(at.ledger.role.form, at.point) {
+    for choice in 0..at.ledger.role.form.move_total(at.point) {
         let read = read_worths(&*at, choice, worths);
         take(read, choice, at.count, picks, at.start, row);
     }
@@ -78,7 +78,7 @@ pub(crate) fn merge_moves(
     ensures { let k = at.now.ledger.role in let f = role_frame k in
         IsMerged f (role_lists k) k.player (total_worth f (role_lists k) (totals_at at.now)) at.now.point best.new moves.new }
 {
-    if chooser(at.ledger.role.form, at.point) == at.ledger.role.player {
+    if at.ledger.role.form.chooser(at.point) == at.ledger.role.player {
         best_moves(at, worths, best, moves);
     } else {
         sum_moves(at, worths, best);
@@ -98,7 +98,7 @@ pub(crate) fn follow_moves(
     ensures { let k = at.now.ledger.role in let f = role_frame k in
         IsFollowing f (role_lists k) k.player (totals_at at.now) (moves_in k picks.now) at.now.point row.new }
 {
-    if chooser(at.ledger.role.form, at.point) == at.ledger.role.player {
+    if at.ledger.role.form.chooser(at.point) == at.ledger.role.player {
         chosen_moves(at, picks, worths, row);
     } else {
         sum_moves(at, worths, row);

@@ -6,7 +6,7 @@ ghost use Rattle.gs_seq.specs.Abstracts.{abstract_frame, lists_of};
 ghost use Rattle.gs_best.specs.Tables.{start_of};
 ghost use Rattle.gs_totals.specs.{Places.{AreEndStarts, end_start}, Room.{HasRows, HasScratch, IsPlaced}};
 
-use gs_best::{class_total, end_round, end_total, place_points, point_total, value_total, widest};
+use gs_best::{place_points, value_total, widest};
 use gs_seq::Abstract;
 use std::alloc::{AllocError, Global};
 
@@ -43,9 +43,9 @@ fn place_ends(form: &Abstract, starts: &mut [u32])
     ensures { AreEndStarts (abstract_frame form.now) (lists_of form.now) starts.new }
 {
     let mut start = 0;
-    for end in 0..end_total(form) {
+    for end in 0..form.end_total() {
         starts[end as usize] = start;
-        start += class_total(form, end_round(form, end));
+        start += form.class_total(form.end_round(end));
     }
 }
 
@@ -54,8 +54,8 @@ pub(crate) fn end_room(form: &Abstract) -> u32
     ensures { result ≡ end_start (abstract_frame form.now) (lists_of form.now) (end_count (abstract_frame form.now)) }
 {
     let mut total = 0;
-    for end in 0..end_total(form) {
-        total += class_total(form, end_round(form, end));
+    for end in 0..form.end_total() {
+        total += form.class_total(form.end_round(end));
     }
     total
 }
@@ -65,8 +65,8 @@ impl Places {
     pub fn of(alloc: Global, form: &Abstract) -> Result<Places, AllocError>
         ensures { IfOk result (IsPlaced (abstract_frame form.now) (lists_of form.now)) }
     {
-        let mut ends = vec![in alloc; 0u32; end_total(form) as usize]?;
-        let mut points = vec![in alloc; 0u32; point_total(form) as usize]?;
+        let mut ends = vec![in alloc; 0u32; form.end_total() as usize]?;
+        let mut points = vec![in alloc; 0u32; form.point_total() as usize]?;
         place_ends(form, &mut ends);
         place_points(form, &mut points);
         Ok(Places { ends, points })

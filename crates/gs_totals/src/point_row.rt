@@ -7,7 +7,6 @@ ghost use Rattle.gs_totals.specs.{Merged.{AreModestFrom}, Roles.{ArePaid, role_f
 
 use crate::ledger::Ledger;
 use crate::places::Totals;
-use gs_best::{class_total, round_at};
 
 /// A point with the place of its row and the number of its classes, and class totals that are known at all later points.
 #[derive(Clone, Copy)]
@@ -40,7 +39,7 @@ impl<'a, 'b> PointRow<'a, 'b> {
     {
         let form = ledger.role.form;
         let start = ledger.role.places.points[point as usize] as usize;
-        let count = class_total(form, round_at(form, point)) as usize;
+        let count = form.class_total(form.round_at(point)) as usize;
         PointRow {
             ledger: *ledger,
             totals,

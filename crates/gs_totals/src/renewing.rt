@@ -12,7 +12,6 @@ ghost use Rattle.gs_totals.specs.{Roles.{ArePaid, role_frame, role_lists, role_p
 use crate::ledger::Ledger;
 use crate::paying::read_end;
 use crate::places::{Scratch, Totals};
-use gs_best::{class_total, end_total, game, round_at};
 use gs_game::Step;
 use gs_seq::{Abstract, end_step};
 
@@ -24,7 +23,7 @@ fn agree_at(form: &Abstract, step: Step, before: &[u64], now: &[u64]) -> bool
     requires now { length now.now ≡ slot_count (abstract_frame form.now) (lists_of form.now) (player_at (abstract_frame form.now) step.point) }
     ensures { IsTrue result ↔ AgreeAt (abstract_frame form.now) (lists_of form.now) (step_of step) before.now now.now }
 {
-    for class in 0..class_total(form, round_at(form, step.point)) {
+    for class in 0..form.class_total(form.round_at(step.point)) {
         let slot = form.slot(step.point, class + 1, step.choice) as usize;
         let first = before[slot];
         let second = now[slot];
@@ -45,7 +44,7 @@ fn is_same_at(ledger: &Ledger<'_>, before: &[u64], end: u32) -> bool
         (role_plan k other) end }
 {
     let form = ledger.role.form;
-    match end_step(game(form), ledger.other.player, end) {
+    match end_step(form.game(), ledger.other.player, end) {
         None => true,
         Some(step) => agree_at(form, step, before, &ledger.other.weights),
     }
@@ -84,7 +83,7 @@ fn renew_all(ledger: &Ledger<'_>, before: &[u64], sums: &mut [i128], numbers: &m
         AreEndSums (role_frame k) (role_lists k) k.player (plan_of (role_frame k) (role_lists k) ledger.now.other.now.total before.now) sums.old }
     ensures { let k = ledger.now.role in AreEndSums (role_frame k) (role_lists k) k.player (role_plan k ledger.now.other.now) sums.new }
 {
-    for end in 0..end_total(ledger.role.form) {
+    for end in 0..ledger.role.form.end_total() {
         let start = ledger.role.places.ends[end as usize] as usize;
         renew_end(ledger, before, end, start, sums, numbers);
     }

@@ -8,7 +8,6 @@ ghost use Rattle.gs_totals.specs.{ClassTotals.{total_worth}, Merged.{AreGathered
 ghost use Rattle.gs_totals.specs.{Roles.{role_frame, role_lists}, Rows.{IsLaterRow, IsRowOf}};
 
 use crate::point_row::PointRow;
-use gs_best::{class_above, class_total, end_round, round_at, target_at};
 use gs_game::Target;
 use gs_seq::{Abstract, plus};
 
@@ -38,8 +37,8 @@ fn gather(form: &Abstract, row: Row<'_>, to: u8, sums: &mut [i128])
     requires clear { (k : ℕ) → k < class_count (lists_of form.now) to → get_or sums.old k (pos 0) ≡ pos 0 }
     ensures { AreGathered (abstract_frame form.now) (lists_of form.now) row.entry.round to row.entry.values.now row.entry.start sums.new }
 {
-    for class in 0..class_total(form, row.round) {
-        let place = class_above(form, row.round, to, class + 1) as usize - 1;
+    for class in 0..form.class_total(row.round) {
+        let place = form.class_above(row.round, to, class + 1) as usize - 1;
         sums[place] = plus(sums[place], row.values[row.start + class as usize]);
     }
 }
@@ -52,7 +51,7 @@ fn read_row<'a>(form: &Abstract, row: Row<'a>, to: u8, sums: &'a mut [i128]) -> 
     ensures gathered { AreGathered (abstract_frame form.now) (lists_of form.now) row.entry.round to row.entry.values.now row.entry.start result.now }
     ensures long { class_count (lists_of form.now) to ≤ length result.now }
 {
-    let count = class_total(form, to) as usize;
+    let count = form.class_total(to) as usize;
     if row.round == to {
         return &row.values[row.start..row.start + count];
     }
@@ -68,14 +67,14 @@ fn target_row<'a>(at: &'a PointRow<'_, '_>, choice: u8) -> Row<'a>
     ensures held { let k = at.now.ledger.role in IsRowOf (role_frame k) (role_lists k) (totals_at at.now) (leads_to (role_frame k) at.now.point choice) result }
 {
     let form = at.ledger.role.form;
-    match target_at(form, at.point, choice) {
+    match form.target_at(at.point, choice) {
         Target::Point(next) => Row {
-            round: round_at(form, next),
+            round: form.round_at(next),
             values: &at.totals.points,
             start: at.ledger.role.places.points[next as usize] as usize,
         },
         Target::End(end) => Row {
-            round: end_round(form, end),
+            round: form.end_round(end),
             values: &at.totals.ends,
             start: at.ledger.role.places.ends[end as usize] as usize,
         },
@@ -96,5 +95,5 @@ pub(crate) fn read_worths<'a>(
 {
     let form = at.ledger.role.form;
     let row = target_row(at, choice);
-    read_row(form, row, round_at(form, at.point), sums)
+    read_row(form, row, form.round_at(at.point), sums)
 }

@@ -12,7 +12,6 @@ use crate::ledger::Ledger;
 use crate::places::Scratch;
 use crate::point_row::PointRow;
 use crate::rows::read_worths;
-use gs_best::{chooser, move_total, point_total};
 
 /// Returns the greatest number of turns, at most `times`, in which a gain each turn does not close a gap.
 fn within_gap(before: bool, gap: u128, gain: u128, times: u32) -> u32
@@ -167,7 +166,7 @@ fn lasting_point(course: &Course<'_>, point: u32, scratch: &mut Scratch, times: 
     ensures some { 0 < times → 0 < result }
 {
     let mut left = times;
-    for choice in 0..move_total(course.role.form, point) {
+    for choice in 0..course.role.form.move_total(point) {
         left = lasting_move(
             course,
             point,
@@ -190,8 +189,8 @@ pub fn lasting(course: &Course<'_>, scratch: &mut Scratch, times: u32) -> u32
     ensures some { 0 < times → 0 < result }
 {
     let mut left = times;
-    for point in 0..point_total(course.role.form) {
-        if chooser(course.role.form, point) == course.role.player {
+    for point in 0..course.role.form.point_total() {
+        if course.role.form.chooser(point) == course.role.player {
             left = lasting_point(course, point, scratch, left);
         }
     }

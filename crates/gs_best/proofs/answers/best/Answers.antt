@@ -1,9 +1,9 @@
 use Rattle.std.proofs.lemmas.Result.{IfOk-weaker}
 use Rattle.gs_game.specs.Games.{game_of}
 use Rattle.gs_model.proofs.Exchanged.{exchanged_one}
-use Rattle.gs_seq.specs.{Abstracts.{abstract_frame, lists_of}, Plans.{class_plan}}
-use Rattle.gs_best.specs.Forms.{game_in}
-use Rattle.gs_best.proofs.{Forms.{form_classes, form_in_range, form_lossless, form_walked}, Paid.{first_is_paid}, Totals.{first_gains_most}}
+use Rattle.gs_seq.specs.{Abstracts.{abstract_frame, lists_of, game_in}, Plans.{class_plan}}
+use Rattle.gs_seq.proofs.Forms.{form_classes, form_in_range, form_lossless, form_walked}
+use Rattle.gs_best.proofs.{Paid.{first_is_paid}, Totals.{first_gains_most}}
 use Rattle.gs_best.proofs.answers.best.Goals as goal
 
 pub returns-clause-bound : goal.returns-clause-bound

@@ -5,7 +5,8 @@ use Rattle.gs_filter.specs.Filter.{Filter}
 use Rattle.gs_lossless.specs.declared.checking.Lossless.{Lossless}
 use Rattle.gs_model.specs.{BestAnswers.{end_worth}, Classes.{IsClass, class_size, first_member}, Frame.{round_of}, Positions.{at_end}}
 use Rattle.gs_seq.specs.{Abstracts.{abstract_frame, lists_of}, Plans.{class_plan, lifted}}
-use Rattle.gs_best.proofs.{Shares.{end_share, some_member}, Forms.{form_classes, form_in_range, form_lossless, form_walked}, Sides.{frame, lists}}
+use Rattle.gs_seq.proofs.Forms.{form_classes, form_in_range, form_lossless, form_walked}
+use Rattle.gs_best.proofs.{Shares.{end_share, some_member}, Sides.{frame, lists}}
 use Rattle.gs_best.proofs.ends.end_value.Goals as goal
 
 pub over-requires : goal.over-requires

@@ -2,7 +2,8 @@ use Rattle.std.proofs.Common.{◌≡◌, ◌+◌, ◌-◌, ◌∙◌, ap, sym, a
 use Rattle.std.specs.Prelude.{pos, ◌*ℤ◌}
 use Rattle.gs_model.specs.{BestAnswers.{end_worth}, Classes.{class_count, class_size, first_member}, Frame.{round_of}, Positions.{at_end}}
 use Rattle.gs_seq.specs.Plans.{class_plan}
-use Rattle.gs_best.proofs.{Forms.{form_in_range, form_lossless}, Shares.{end_share}, Sides.{against, classes, frame, lists, side_walked}}
+use Rattle.gs_seq.proofs.Forms.{form_in_range, form_lossless}
+use Rattle.gs_best.proofs.{Shares.{end_share}, Sides.{against, classes, frame, lists, side_walked}}
 use Rattle.gs_best.proofs.ends.read_row.Goals as goal
 
 pub returns : goal.returns

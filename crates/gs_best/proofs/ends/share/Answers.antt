@@ -5,7 +5,8 @@ use Rattle.gs_filter.specs.Filter.{Filter}
 use Rattle.gs_lossless.specs.declared.checking.Lossless.{Lossless}
 use Rattle.gs_model.specs.Classes.{class_size}
 use Rattle.gs_seq.specs.Abstracts.{abstract_frame, lists_of}
-use Rattle.gs_best.proofs.{Forms.{form_classes}, Shares.{some_member}}
+use Rattle.gs_seq.proofs.Forms.{form_classes}
+use Rattle.gs_best.proofs.Shares.{some_member}
 use Rattle.gs_best.proofs.ends.share.Goals as goal
 
 pub over-requires : goal.over-requires

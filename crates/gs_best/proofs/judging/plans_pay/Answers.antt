@@ -2,7 +2,7 @@ use Rattle.std.proofs.Common.{ℕ, List, length, ap, arith}
 use Rattle.std.specs.Prelude.{ℤ}
 use Rattle.gs_model.specs.{Frame.{round_of}, Positions.{at_end}}
 use Rattle.gs_seq.specs.Abstracts.{abstract_frame}
-use Rattle.gs_best.proofs.Forms.{form_walked}
+use Rattle.gs_seq.proofs.Forms.{form_walked}
 use Rattle.gs_best.proofs.judging.plans_pay.Goals as goal
 
 pub payoff_in-requires-clause-sums : goal.payoff_in-requires-clause-sums

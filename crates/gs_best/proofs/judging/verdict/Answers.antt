@@ -4,10 +4,10 @@ use mir.Syntax.{w128}
 use Rattle.gs_game.specs.Games.{game_of}
 use Rattle.gs_model.specs.{BestAnswers.{spread, start_sum}, Frame.{total_weight}, Payoff.{raw_payoff}, Plans.{lift}}
 use Rattle.gs_model.proofs.{Exchanged.{exchanged_one}, FirstBest.{verdict_from}}
-use Rattle.gs_seq.specs.{Abstracts.{abstract_frame, lists_of}, Plans.{class_plan}}
-use Rattle.gs_best.specs.{Forms.{game_in}, Judged.{parts}, Sizes.{IsRoomy}}
-use Rattle.gs_best.proofs.{Forms.{form_classes, form_in_range, form_lossless, form_walked}, Rooms.{has_room, holds_all, roomy}, Totals.{paid_small}}
-use Rattle.gs_best.proofs.judging.verdict.Goals.{After-plans_pay-paid}
+use Rattle.gs_seq.specs.{Abstracts.{abstract_frame, lists_of, game_in}, Plans.{class_plan}}
+use Rattle.gs_seq.proofs.Forms.{form_classes, form_in_range, form_lossless, form_walked}
+use Rattle.gs_best.specs.{Judged.{parts}, Sizes.{IsRoomy}}
+use Rattle.gs_best.proofs.{Rooms.{has_room, holds_all, roomy}, Totals.{paid_small}, judging.verdict.Goals.{After-plans_pay-paid}}
 use Rattle.gs_best.proofs.judging.verdict.Goals as goal
 
 paid_is : (c : After-plans_pay-paid) → let f = abstract_frame c.args.form.now in let lists = lists_of c.args.form.now in

@@ -1,8 +1,9 @@
 use Rattle.std.proofs.Common.{refl}
 use Rattle.gs_model.specs.BestAnswers.{IsFirstBestPlan}
 use Rattle.gs_seq.specs.Slots.{plan_of}
+use Rattle.gs_seq.proofs.Forms.{form_in_range}
 use Rattle.gs_best.specs.Tables.{moves_of, table_of}
-use Rattle.gs_best.proofs.{AllOn.{put_is_best, put_is_plan}, Forms.{form_in_range}, Sides.{against, classes, frame, lists, side_walked}}
+use Rattle.gs_best.proofs.{AllOn.{put_is_best, put_is_plan}, Sides.{against, classes, frame, lists, side_walked}}
 use Rattle.gs_best.proofs.putting.put_all.Goals as goal
 
 pub returns-clause-plan : goal.returns-clause-plan

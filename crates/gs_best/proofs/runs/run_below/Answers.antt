@@ -3,7 +3,7 @@ use Rattle.gs_lossless.specs.{Amounts.{IsRunIn}, declared.checking.Lossless.{Los
 use Rattle.gs_model.specs.Frame.{frame_of}
 use Rattle.gs_seq.specs.Abstracts.{abstract_frame as form_frame}
 use Rattle.gs_tree.specs.{Trees.{rules_of}, declared.signals.Signals.{Signals}}
-use Rattle.gs_best.proofs.Forms.{form_count, form_rounds}
+use Rattle.gs_seq.proofs.Forms.{form_count, form_rounds}
 use Rattle.gs_best.proofs.runs.run_below.Goals as goal
 
 pub descendants_in-requires-clause-top : goal.descendants_in-requires-clause-top

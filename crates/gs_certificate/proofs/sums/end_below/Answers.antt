@@ -1,8 +1,8 @@
 use Rattle.std.proofs.Common.{◌≡◌, ◌<◌, ℕ, ◌≤◌, sym, ap, subst, ◌∙◌, arith, of_z, to_z}
 use Rattle.std.specs.{Int.{w128}, Prelude.{unsigned_abs}}
 use Rattle.gs_model.specs.{BestAnswers.{end_worth}, Classes.{IsClass, first_member}, Frame.{end_count, last_round, round_of, signal_count}, Positions.{at_end}}
-use Rattle.gs_seq.proofs.Signed.{read_back}
-use Rattle.gs_best.proofs.{Forms.{form_signals}, Ranges.{run_is}, Sides.{against, frame, lists, side_walked}}
+use Rattle.gs_seq.proofs.{Signed.{read_back}, Forms.{form_signals}}
+use Rattle.gs_best.proofs.{Ranges.{run_is}, Sides.{against, frame, lists, side_walked}}
 use Rattle.gs_best.specs.declared.deviator.Deviator.{Deviator}
 use Rattle.gs_certificate.specs.Worths.{sum_below, worth_at}
 use Rattle.gs_certificate.proofs.{Ends.{end_small}, Runs.{end_own, run_small, worth_small}, sums.end_below.Goals.{After-share_of}}

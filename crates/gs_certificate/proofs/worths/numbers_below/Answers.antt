@@ -2,8 +2,9 @@ use Rattle.std.proofs.{Common.{◌≡◌, ℕ, ◌+◌, ◌-◌, ◌<◌, get_or
 use Rattle.std.specs.{Prelude.{pos, unsigned_abs}, Int.RustNames.{FitsSigned}}
 use mir.Syntax.{w128}
 use Rattle.gs_model.specs.{Classes.{IsClass, class_count, first_member}, Frame.{point_count, round_of, signal_count}, Positions.{at_point}}
+use Rattle.gs_seq.proofs.Forms.{form_signals}
 use Rattle.gs_best.specs.{Rows.{value_at}, Tables.{start_of}, declared.deviator.Deviator.{Deviator}}
-use Rattle.gs_best.proofs.{Forms.{form_signals}, Ranges.{run_is}, Sides.{frame, lists}, Starts.{place_before, starts_le, starts_more}}
+use Rattle.gs_best.proofs.{Ranges.{run_is}, Sides.{frame, lists}, Starts.{place_before, starts_le, starts_more}}
 use Rattle.gs_certificate.specs.Worths.{sum_below}
 use Rattle.gs_certificate.proofs.Runs.{number_own, run_small, value_small}
 use Rattle.gs_certificate.proofs.worths.numbers_below.Goals as goal

@@ -2,10 +2,9 @@ use Rattle.std.proofs.{Common.{◌≡◌, ◌*◌, ◌<◌, ◌^◌, refl, sym, 
 use Rattle.std.specs.Prelude.{pos, ◌*ℤ◌, unsigned_abs}
 use mir.Syntax.{w128}
 use Rattle.gs_model.specs.Frame.{end_count, total_weight}
-use Rattle.gs_seq.specs.{Abstracts.{abstract_frame, lists_of}, Plans.{class_plan}}
-use Rattle.gs_seq.proofs.{EndTotals.{ends_few, payoff_is}, Forms.{given}}
-use Rattle.gs_best.specs.{Forms.{game_in}, Judged.{parts}}
-use Rattle.gs_best.proofs.Forms.{form_classes}
+use Rattle.gs_seq.specs.{Abstracts.{abstract_frame, lists_of, game_in}, Plans.{class_plan}}
+use Rattle.gs_seq.proofs.{EndTotals.{ends_few, payoff_is}, Forms.{given, form_classes}}
+use Rattle.gs_best.specs.Judged.{parts}
 use Rattle.gs_certify.proofs.value.value_of.Goals as goal
 
 pub fraction-requires-clause-fits : goal.fraction-requires-clause-fits

@@ -1,4 +1,4 @@
-use Rattle.gs_best.proofs.Forms.{form_classes, form_in_range, form_lossless}
+use Rattle.gs_seq.proofs.Forms.{form_classes, form_in_range, form_lossless}
 use Rattle.gs_totals.specs.Roles.{role_frame, role_lists}
 use Rattle.gs_totals.proofs.Sides.{other_walked, walked}
 use Rattle.gs_play.proofs.Turned.{put_stays, put_stays_once}

@@ -2,7 +2,7 @@ use Rattle.std.proofs.Common.{◌≡◌, ◌+◌, ◌-◌, ◌<◌, sym, ap, ◌
 use Rattle.gs_model.specs.Play.{IsFictitiousPlay}
 use Rattle.gs_model.proofs.PlanLaws.{played_are_plans}
 use Rattle.gs_seq.specs.{Abstracts.{abstract_frame, lists_of}, Plans.{IsPlanOf, class_plan}, declared.plan.Plan.{Plan}}
-use Rattle.gs_best.proofs.Forms.{form_classes, form_in_range, form_walked}
+use Rattle.gs_seq.proofs.Forms.{form_classes, form_in_range, form_walked}
 use Rattle.gs_best.specs.Tables.{moves_of}
 use Rattle.gs_totals.specs.{Jumps.{AreBeforeChange}, PlanSums.{ArePlansAlike, plus_times}, Places.{AreEndSums, totals_of}}
 use Rattle.gs_totals.proofs.SmallEnds.{small_ends, small_points}

@@ -2,7 +2,7 @@ use Rattle.std.proofs.Common.{◌≡◌, ◌+◌, ◌*◌, ◌^◌, ap, ◌∙�
 use Rattle.std.specs.List.{range_with_len}
 use mir.Syntax.{w128}
 use mir.Val.{to_z}
-use Rattle.gs_best.proofs.Forms.{form_modest}
+use Rattle.gs_best.proofs.Chips.{form_modest}
 use Rattle.gs_model.specs.{Frame.{end_count}, Sums.{sum_z}}
 use Rattle.gs_seq.specs.{Abstracts.{abstract_frame, lists_of}, Plans.{lifted}}
 use Rattle.gs_raw.specs.Hands.{hand_pays_at}

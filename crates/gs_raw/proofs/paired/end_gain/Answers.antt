@@ -1,9 +1,9 @@
 use Rattle.std.proofs.{Common.{◌+◌, ap, ◌∙◌, subst, arith}, lemmas.Int.{to_z-of_z}}
 use mir.Syntax.{w128}
-use Rattle.gs_best.proofs.Forms.{form_in_range, form_walked, form_signals}
 use Rattle.gs_lossless.specs.Amounts.{IsRunIn}
 use Rattle.gs_model.specs.{Classes.{first_member}, Frame.{round_of, signal_count}, Positions.{at_end}}
 use Rattle.gs_seq.specs.{Abstracts.{abstract_frame, lists_of}, Plans.{lifted}}
+use Rattle.gs_seq.proofs.Forms.{form_in_range, form_walked, form_signals}
 use Rattle.gs_raw.proofs.SignalPays.{run_pays_hand, single_at}
 use Rattle.gs_raw.proofs.paired.end_gain.Goals as goal
 

@@ -1,12 +1,12 @@
 use Rattle.std.proofs.{Common.{pos, ◌*◌, sym, ap, ◌∙◌}, lemmas.Int.{to_z-of_z}}
 use Rattle.std.specs.Prelude.{◌*ℤ◌}
 use mir.Syntax.{w128}
-use Rattle.gs_best.specs.{Forms.{game_in}, Judged.{parts}}
+use Rattle.gs_best.specs.Judged.{parts}
 use Rattle.gs_game.specs.Games.{game_of}
 use Rattle.gs_lossless.specs.declared.checking.Lossless.{Lossless}
 use Rattle.gs_model.specs.Payoff.{hand_weight}
 use Rattle.gs_model.proofs.Ranges.{deals_weigh}
-use Rattle.gs_seq.specs.{Abstracts.{abstract_frame, lists_of}, Games.{frame_in}, Plans.{lifted}}
+use Rattle.gs_seq.specs.{Abstracts.{game_in, abstract_frame, lists_of}, Games.{frame_in}, Plans.{lifted}}
 use Rattle.gs_tree.specs.declared.signals.Signals.{Signals}
 use Rattle.gs_raw.proofs.HandDeals.{no_weight}
 use Rattle.gs_raw.proofs.paired.worth.Goals as goal

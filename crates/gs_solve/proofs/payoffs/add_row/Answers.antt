@@ -3,8 +3,7 @@ use Rattle.std.proofs.{lemmas.Nat.{mul-add-lt}, Math.Nat.{mul_comm}}
 use Rattle.std.specs.Int.{w64}
 use Rattle.gs_model.specs.{Frame.{end_at}, Sums.{sum_z}}
 use Rattle.gs_model.proofs.Sparse.{abs_sum}
-use Rattle.gs_best.specs.Forms.{game_in}
-use Rattle.gs_seq.specs.{Abstracts.{abstract_frame, lists_of}, Payoffs.{pair_pays}, declared.pair.Pair.{Pair}}
+use Rattle.gs_seq.specs.{Abstracts.{game_in, abstract_frame, lists_of}, Payoffs.{pair_pays}, declared.pair.Pair.{Pair}}
 use Rattle.gs_seq.proofs.{Sizes.{modest}, Turns.{IsKnown, IsTurn, begun, known, none_passed, passed, sum_ended, sum_turned, turn}}
 use Rattle.gs_solve.specs.{Laws.{IsForm}, Layout.{cell_at, class_adds, end_sequence}, Programs.{unit}, Sequences.{form_sizes}}
 use Rattle.gs_solve.proofs.{AddedCells.{added_none, added_same, added_then, added_within}, Cells.{first_in, pair_adds, prefix_small, row_adds, second_in}}

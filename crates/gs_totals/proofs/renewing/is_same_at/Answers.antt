@@ -2,9 +2,8 @@ use Rattle.std.proofs.Common.{◌≡◌, ◌<◌, ℕ, List, Option, Some, None,
 use Rattle.std.specs.Prelude.{option_map}
 use Rattle.gs_game.specs.{Seen.{step_of}, declared.positions.Step.{Step}, declared.valid.ValidGame.{ValidGame}}
 use Rattle.gs_model.specs.{Frame.{end_count, last_step, other_player, player_at}, Positions.{at_end}}
-use Rattle.gs_seq.specs.{Games.{frame_in}, Slots.{slot_count}}
-use Rattle.gs_best.specs.Forms.{game_in}
-use Rattle.gs_best.proofs.Forms.{form_classes, form_in_range}
+use Rattle.gs_seq.specs.{Games.{frame_in}, Slots.{slot_count}, Abstracts.{game_in}}
+use Rattle.gs_seq.proofs.Forms.{form_classes, form_in_range}
 use Rattle.gs_totals.specs.{Renewed.{AgreeAt}, Roles.{role_frame as frame, role_lists as lists}, declared.ledger.Ledger.{Ledger}}
 use Rattle.gs_totals.proofs.{Renewals.{none_same, step_same}, Sides.{other_walked}, renewing.is_same_at.Goals.{In-Some}}
 use Rattle.gs_totals.proofs.renewing.is_same_at.Goals as goal

@@ -1,7 +1,8 @@
 use Rattle.std.proofs.Common.{sym, subst, arith}
 use Rattle.gs_seq.specs.Abstracts.{abstract_frame, lists_of}
+use Rattle.gs_seq.proofs.Forms.{form_walked}
 use Rattle.gs_best.specs.Sizes.{IsRoomy}
-use Rattle.gs_best.proofs.{Forms.{form_walked}, Rooms.{roomy}}
+use Rattle.gs_best.proofs.Rooms.{roomy}
 use Rattle.gs_best.proofs.work.Work.new.Goals as goal
 
 pub invariant_of-result : goal.invariant_of-result

@@ -1,4 +1,4 @@
-use Rattle.std.proofs.Common.{refl, arith}
+use Rattle.std.proofs.Common.{refl, arith, ap}
 use Rattle.gs_model.specs.{Frame.{point_count}, Plans.{IsClassPlan}}
 use Rattle.gs_seq.specs.{Firsts.{AreFirstBefore}, Games.{frame_in}, Slots.{plan_of}}
 use Rattle.gs_seq.proofs.{Firsts.{first_plan_is}, Forms.{carried}, Choices.{some_move}}
@@ -13,7 +13,7 @@ returns-clause-plan c =
       player_is = refl;
       plan = record {
         long = omega (arith, c.in_ok-weights.ensures.long, c.sequences-count.ensures);
-        plan = carried (λ f ls. IsClassPlan f ls p (plan_of f ls 1 weights)) c.game.ensures.held c.classes.ensures.lists plan;
+        plan = carried (λ f ls. IsClassPlan f ls p (plan_of f ls 1 weights)) (ap frame_in c.game.ensures) c.classes.ensures.lists plan;
       };
     }
 
@@ -21,7 +21,7 @@ pub returns-clause-first : goal.returns-clause-first
 returns-clause-first c =
     let p = c.args.player in
     let weights = c.in_ok-weights.weights.items in
-    let firsts = carried (λ f ls. AreFirstBefore f ls p weights (point_count f)) c.game.ensures.held c.classes.ensures.lists c.in_ok-weights.ensures.firsts in
+    let firsts = carried (λ f ls. AreFirstBefore f ls p weights (point_count f)) (ap frame_in c.game.ensures) c.classes.ensures.lists c.in_ok-weights.ensures.firsts in
     record {
       plan = (returns-clause-plan c).plan.plan;
       one = refl;

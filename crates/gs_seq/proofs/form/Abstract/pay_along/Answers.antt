@@ -1,38 +1,29 @@
-use Rattle.std.proofs.Common.{◌≡◌, ◌+◌, ◌-◌, ◌<◌, ◌++◌, List, ℤ, length, take, get_or, pos, ap, ◌∙◌, refl, subst, arith}
+use Rattle.std.proofs.Common.{◌≡◌, ◌+◌, ◌-◌, ◌<◌, ◌++◌, List, ℤ, length, take, get_or, pos, ap, ◌∙◌, arith}
 use Rattle.std.proofs.lemmas.List.{get_or_append_left, get_or-append_right, length-take-le}
 use Rattle.std.specs.Prelude.{◌*ℤ◌}
 use borrow.Rule.Slice.PartMut.{mid_len, post_of}
 use Rattle.gs_boards.specs.Boards.{paid}
-use Rattle.gs_filter.specs.Filter.{Filter}
 use Rattle.gs_game.specs.Games.{game_of}
-use Rattle.gs_lossless.specs.declared.checking.Lossless.{Lossless}
 use Rattle.gs_model.specs.{Classes.{class_count}, Deals.{Deal}, Frame.{end_at}}
 use Rattle.gs_tree.specs.Walk.{last_count}
-use Rattle.gs_seq.specs.{Abstracts.{abstract_frame, lists_of}, Games.{frame_in}, Payoffs.{pair_pays}, Singles.{deal_pair}, declared.form.Abstract.{Abstract}}
-use Rattle.gs_seq.proofs.{AlongBoards.{by_deals, single_count}, Forms.{given, one_or_two}}
+use Rattle.gs_seq.specs.{Abstracts.{abstract_frame, lists_of}, Payoffs.{pair_pays}, Singles.{deal_pair}}
+use Rattle.gs_seq.proofs.{AlongBoards.{by_deals, single_count}, Forms.{given_in, one_or_two}}
 use Rattle.gs_seq.proofs.form.Abstract.pay_along.Goals as goal
-
--- the parents of a form's classes, by what its calls give
-parents_of : (a : Abstract) (l : Lossless) (cls : Filter) → l ≡ a.lossless.now → cls ≡ l.classes.now → cls.parents ≡ (frame_in l.signals.now.game.now).parents
-    → a.lossless.now.classes.now.parents ≡ (abstract_frame a).parents
-parents_of a l cls same is parents =
-    subst (λ (x : Lossless). x.classes.now.parents ≡ (frame_in x.signals.now.game.now).parents) same
-    (subst (λ (x : Filter). x.parents ≡ (frame_in l.signals.now.game.now).parents) is parents)
 
 pub deal_sums-requires-clause-numbers : goal.deal_sums-requires-clause-numbers
 deal_sums-requires-clause-numbers c =
     let a = c.args.self.now in
-    let h = parents_of a c.lossless.result.now c.classes.result.now c.lossless.ensures c.classes.ensures.held c.classes.ensures.parents in
+    let h = a.lossless.now.parents in
     let count = single_count a.lossless.now.signals.now.game.now a.lossless.now.classes.now h c.requires.single in
     omega (arith, c.requires.order.count, count, ap (class_count (lists_of a)) c.requires.last, c.requires.wide)
 
 pub deal_sums-requires-clause-sums : goal.deal_sums-requires-clause-sums
 deal_sums-requires-clause-sums c =
     let a = c.args.self.now in
-    let h = parents_of a c.lossless.result.now c.classes.result.now c.lossless.ensures c.classes.ensures.held c.classes.ensures.parents in
+    let h = a.lossless.now.parents in
     let count = single_count a.lossless.now.signals.now.game.now a.lossless.now.classes.now h c.requires.single in
-    let here = mid_len c.args.start (c.args.start + c.class_total.result) c.args.sums.now (omega (arith, c.class_total.ensures, c.requires.room)) in
-    omega (arith, here, c.class_total.ensures, c.requires.order.count, count, ap (class_count (lists_of a)) c.requires.last)
+    let here = mid_len c.args.start (c.args.start + c.end_class_total.result) c.args.sums.now (omega (arith, c.end_class_total.ensures, c.requires.room)) in
+    omega (arith, here, c.end_class_total.ensures, c.requires.order.count, count, ap (class_count (lists_of a)) c.requires.last)
 
 pub returns-clause-here : goal.returns-clause-here
 returns-clause-here c = λ k class. (
@@ -44,15 +35,15 @@ returns-clause-here c = λ k class. (
     let sums = c.args.sums.now in
     let start = c.args.start in
     let new : List ℤ = c.deal_sums.new.sums in
-    let after = post_of start (start + c.class_total.result - start) sums in
-    let h = parents_of a c.lossless.result.now c.classes.result.now c.lossless.ensures c.classes.ensures.held c.classes.ensures.parents in
+    let after = post_of start (start + c.end_class_total.result - start) sums in
+    let h = a.lossless.now.parents in
     let count = single_count g cls h c.requires.single in
     let last = ap (class_count (lists_of a)) c.requires.last in
-    let here = mid_len start (start + c.class_total.result) sums (omega (arith, c.class_total.ensures, c.requires.room)) in
-    let long : length new ≡ last_count (game_of g.game) = omega (arith, c.deal_sums.auto.sums, here, c.class_total.ensures, count, last) in
+    let here = mid_len start (start + c.end_class_total.result) sums (omega (arith, c.end_class_total.ensures, c.requires.room)) in
+    let long : length new ≡ last_count (game_of g.game) = omega (arith, c.deal_sums.auto.sums, here, c.end_class_total.ensures, count, last) in
     let within : s < last_count (game_of g.game) = omega (arith, class.0, class.1, count, last) in
     let front = length-take-le start sums (omega (arith, c.requires.room)) in
-    let w = given g (abstract_frame a) (lists_of a) refl c.game-game.ensures.classes in
+    let w = given_in a in
     let same : (d : Deal) → pos d.weight *ℤ paid c.pays_at-pays.result d.outcome ≡ pair_pays c.args.player (end_at (abstract_frame a) z) (deal_pair d) =
     λ d. c.pays_at-pays.ensures d ∙ ap (λ e. pair_pays c.args.player e (deal_pair d)) c.end_in.ensures.value in
     get_or-append_right (take start sums) (new ++ after) start (start + s) (pos 0) front (omega arith)

@@ -15,22 +15,22 @@ next c =
     let x = class_plan f ls c.args.x.now in
     let n = c.loop-before.before in
     record {
-      class = (omega arith, omega (arith, c.class_total-before-end.ensures, c.loop-before-test.true));
+      class = (omega arith, omega (arith, c.end_class_total-before-end.ensures, c.loop-before-test.true));
       number = subst (λ p. c.number_at_end-number.result ≡ class_number f ls p x c.args.end (n + 1)) c.requires.x.player_is c.number_at_end-number.ensures.value;
       worth = read_back c.end_sum-worth.result _ (search rules) c.end_sum-worth.ensures;
     }
 
 pub scaled-requires : goal.scaled-requires
 scaled-requires c =
-    next_fits _ _ (given_in c.args.self.now c.game-game.ensures.classes) _ _ c.requires.x.plan.plan c.requires.y.plan.plan c.args.end _ _ _ c.requires.end (next (goal.at.scaled-requires c).After-end_sum-worth)
+    next_fits _ _ (given_in c.args.self.now) _ _ c.requires.x.plan.plan c.requires.y.plan.plan c.args.end _ _ _ c.requires.end (next (goal.at.scaled-requires c).After-end_sum-worth)
 
 pub plus-sum-requires : goal.plus-sum-requires
 plus-sum-requires c =
-    next_within _ _ (given_in c.args.self.now c.game-game.ensures.classes) _ _ c.requires.x.plan.plan c.requires.y.plan.plan c.args.end _ _ _ c.requires.end (next (goal.at.plus-sum-requires c).After-end_sum-worth) _ _ c.loop-before.invariant
+    next_within _ _ (given_in c.args.self.now) _ _ c.requires.x.plan.plan c.requires.y.plan.plan c.args.end _ _ _ c.requires.end (next (goal.at.plus-sum-requires c).After-end_sum-worth) _ _ c.loop-before.invariant
     (read_back c.scaled.result _ (search rules) c.scaled.ensures)
 
 pub loop-before-preserved : goal.loop-before-preserved
 loop-before-preserved c =
     read_back c.plus-sum.result _ (search rules) (c.plus-sum.ensures
-    ∙ next_put _ _ (given_in c.args.self.now c.game-game.ensures.classes) _ _ c.requires.x.plan.plan c.requires.y.plan.plan c.args.end _ _ _ c.requires.end (next (goal.at.loop-before-preserved c).After-end_sum-worth) _ _ c.loop-before.invariant
+    ∙ next_put _ _ (given_in c.args.self.now) _ _ c.requires.x.plan.plan c.requires.y.plan.plan c.args.end _ _ _ c.requires.end (next (goal.at.loop-before-preserved c).After-end_sum-worth) _ _ c.loop-before.invariant
     (read_back c.scaled.result _ (search rules) c.scaled.ensures))

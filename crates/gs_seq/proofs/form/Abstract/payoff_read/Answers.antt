@@ -19,7 +19,7 @@ next c fits =
     let x = class_plan f ls c.args.x.now in
     let n = c.loop-before.before in
     let sums = c.end_sums.new.sums in
-    let class : IsClass ls (round_of f (at_end c.args.end)) (n + 1) = (omega arith, omega (arith, c.class_total-before-end.ensures, c.loop-before-test.true)) in
+    let class : IsClass ls (round_of f (at_end c.args.end)) (n + 1) = (omega arith, omega (arith, c.end_class_total-before-end.ensures, c.loop-before-test.true)) in
     record {
       class = class;
       number = subst (λ p. c.number_at_end-number.result ≡ class_number f ls p x c.args.end (n + 1)) c.requires.x.player_is c.number_at_end-number.ensures.value;
@@ -28,15 +28,15 @@ next c fits =
 
 pub scaled-requires : goal.scaled-requires
 scaled-requires c =
-    next_fits _ _ (given_in c.args.self.now c.game-game.ensures.classes) _ _ c.requires.x.plan.plan c.requires.y.plan.plan c.args.end _ _ _ c.requires.end (next (goal.at.scaled-requires c).After-number_at_end-number (search rules))
+    next_fits _ _ (given_in c.args.self.now) _ _ c.requires.x.plan.plan c.requires.y.plan.plan c.args.end _ _ _ c.requires.end (next (goal.at.scaled-requires c).After-number_at_end-number (search rules))
 
 pub plus-sum-requires : goal.plus-sum-requires
 plus-sum-requires c =
-    next_within _ _ (given_in c.args.self.now c.game-game.ensures.classes) _ _ c.requires.x.plan.plan c.requires.y.plan.plan c.args.end _ _ _ c.requires.end (next (goal.at.plus-sum-requires c).After-number_at_end-number (search rules)) _ _ c.loop-before.invariant
+    next_within _ _ (given_in c.args.self.now) _ _ c.requires.x.plan.plan c.requires.y.plan.plan c.args.end _ _ _ c.requires.end (next (goal.at.plus-sum-requires c).After-number_at_end-number (search rules)) _ _ c.loop-before.invariant
     (read_back c.scaled.result _ (search rules) c.scaled.ensures)
 
 pub loop-before-preserved : goal.loop-before-preserved
 loop-before-preserved c =
     read_back c.plus-sum.result _ (search rules) (c.plus-sum.ensures
-    ∙ next_put _ _ (given_in c.args.self.now c.game-game.ensures.classes) _ _ c.requires.x.plan.plan c.requires.y.plan.plan c.args.end _ _ _ c.requires.end (next (goal.at.loop-before-preserved c).After-number_at_end-number (search rules)) _ _ c.loop-before.invariant
+    ∙ next_put _ _ (given_in c.args.self.now) _ _ c.requires.x.plan.plan c.requires.y.plan.plan c.args.end _ _ _ c.requires.end (next (goal.at.loop-before-preserved c).After-number_at_end-number (search rules)) _ _ c.loop-before.invariant
     (read_back c.scaled.result _ (search rules) c.scaled.ensures))

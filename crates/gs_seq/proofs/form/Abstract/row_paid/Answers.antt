@@ -4,19 +4,19 @@ use Rattle.gs_game.specs.Seen.{end_of}
 use Rattle.gs_model.specs.{Classes.{IsClass}, Frame.{round_of}, Positions.{at_end}}
 use Rattle.gs_seq.specs.{Abstracts.{abstract_frame, lists_of}, Payoffs.{pair_pays}, declared.pair.Pair.{Pair}}
 use Rattle.gs_seq.proofs.{EndSums.{number_term}, Signed.{read_back}, Turns.{IsAlong, IsHere, come_begun, here_in, paid, paid_as, sum_is_all}}
-use Rattle.gs_seq.proofs.form.Abstract.row_paid.Goals.{After-game-game, After-number_of-number, In-Some}
+use Rattle.gs_seq.proofs.form.Abstract.row_paid.Goals.{After-end_in-at, After-number_of-number, In-Some}
 use Rattle.gs_seq.proofs.form.Abstract.row_paid.Goals as goal
 
 -- the number of a class
 abbrev number_in : List ℕ → ℕ → ℕ
 number_in numbers e = get_or numbers (e - 1) 0
 
-along : (c : After-game-game) → IsAlong c.args.self.now c.args.player c.args.end c.args.class c.args.row
-along c = record { classes = c.game-game.ensures.classes; some = c.requires.some; two = c.requires.two; inside = c.requires.end; is_row = c.requires.row }
+along : (c : After-end_in-at) → IsAlong c.args.self.now c.args.player c.args.end c.args.class c.args.row
+along c = record { some = c.requires.some; two = c.requires.two; inside = c.requires.end; is_row = c.requires.row }
 
 here : (c : In-Some) → IsHere c.args.self.now c.args.player c.args.end c.args.row c.next.new.self c.in-Some.pair (number_in c.args.numbers.now) (to_z w128 c.loop-pair.sum-bits)
 here c =
-    here_in c.args.self.now c.args.player c.args.end c.args.class c.args.row (along (goal.at.In-Some c).After-game-game) (number_in c.args.numbers.now) c.loop-pair.pair-iterator c.next.new.self c.in-Some.pair _
+    here_in c.args.self.now c.args.player c.args.end c.args.class c.args.row (along (goal.at.In-Some c).After-end_in-at) (number_in c.args.numbers.now) c.loop-pair.pair-iterator c.next.new.self c.in-Some.pair _
     c.loop-pair.invariant c.in-Some.ensures.steps
 
 -- the pair's part
@@ -53,5 +53,5 @@ loop-pair-preserved c =
 
 pub returns : goal.returns
 returns c =
-    sum_is_all c.args.self.now c.args.player c.args.end c.args.class c.args.row (along (goal.at.returns c).After-game-game) (number_in c.args.numbers.now) c.loop-pair.pair-iterator _ c.loop-pair.invariant
+    sum_is_all c.args.self.now c.args.player c.args.end c.args.class c.args.row (along (goal.at.returns c).After-end_in-at) (number_in c.args.numbers.now) c.loop-pair.pair-iterator _ c.loop-pair.invariant
     c.in-None.ensures.steps.0

@@ -2,7 +2,7 @@ use Rattle.std.proofs.Common.{rules, ◌≡◌, ◌≤◌, ◌^◌, ap, sym, ◌
 use Rattle.std.specs.{Int.{w128}, Prelude.{◌*ℤ◌}}
 use Rattle.gs_game.specs.Seen.{end_of}
 use Rattle.gs_model.specs.{Classes.{IsClass}, Frame.{other_player, round_of}, Pairs.{class_number}, Positions.{at_end}}
-use Rattle.gs_seq.specs.{Abstracts.{abstract_frame, lists_of}, Payoffs.{pair_pays}, Plans.{IsPlanOf, class_plan}, Sources.{MatchSource}}
+use Rattle.gs_seq.specs.{Abstracts.{abstract_frame, lists_of}, Games.{frame_in}, Payoffs.{pair_pays}, Plans.{IsPlanOf, class_plan}, Sources.{MatchSource}}
 use Rattle.gs_seq.specs.{declared.form.Abstract.{Abstract}, declared.pair.Pair.{Pair}, declared.plan.Plan.{Plan}}
 use Rattle.gs_seq.proofs.{EndSums.{pair_term}, Ends.{number_few}, Forms.{carried, given_in}, Signed.{read_back}}
 use Rattle.gs_seq.proofs.Turns.{IsAlong, IsHere, come_begun, here_in, paid, paid_as, sum_is_all}
@@ -14,7 +14,7 @@ abbrev number_at : Abstract → ℕ → Plan → ℕ → ℕ → ℕ
 number_at a player other z e = class_number (abstract_frame a) (lists_of a) (other_player player) (class_plan (abstract_frame a) (lists_of a) other) z e
 
 along : (c : After-game-game) → IsAlong c.args.self.now c.args.player c.args.end c.args.class c.args.row
-along c = record { classes = c.game-game.ensures.classes; some = c.requires.some; two = c.requires.two; inside = c.requires.end; is_row = c.requires.row }
+along c = record { some = c.requires.some; two = c.requires.two; inside = c.requires.end; is_row = c.requires.row }
 
 here : (c : In-Some)
     → IsHere c.args.self.now c.args.player c.args.end c.args.row c.next.new.self c.in-Some.pair (number_at c.args.self.now c.args.player c.args.other.now c.args.end) (to_z w128 c.loop-pair.sum-bits)
@@ -29,7 +29,7 @@ number_is c =
     let f = abstract_frame c.args.self.now in
     let ls = lists_of c.args.self.now in
     let q = c.args.other.now in
-    carried (λ f ls. c.number_by-number.result ≡ class_number f ls q.player (class_plan f ls q) c.args.end c.in-Some.pair.two) c.game-game.ensures.held c.classes-classes.ensures.lists c.number_by-number.ensures.value
+    carried (λ f ls. c.number_by-number.result ≡ class_number f ls q.player (class_plan f ls q) c.args.end c.in-Some.pair.two) (ap frame_in c.game-game.ensures) c.classes-classes.ensures.lists c.number_by-number.ensures.value
     ∙ ap (λ p. class_number f ls p (class_plan f ls q) c.args.end c.in-Some.pair.two) c.requires.other.player_is
 
 -- the pair's part
@@ -46,19 +46,19 @@ pub number_by-number-requires-clause-plan : goal.number_by-number-requires-claus
 number_by-number-requires-clause-plan c =
     let f = abstract_frame c.args.self.now in
     let ls = lists_of c.args.self.now in
-    carried (λ f ls. IsPlanOf f ls c.args.other.now.player c.args.other.now) (sym c.game-game.ensures.held) (sym c.classes-classes.ensures.lists) (subst (λ p. IsPlanOf f ls p c.args.other.now) (sym c.requires.other.player_is) c.requires.other)
+    carried (λ f ls. IsPlanOf f ls c.args.other.now.player c.args.other.now) (sym (ap frame_in c.game-game.ensures)) (sym c.classes-classes.ensures.lists) (subst (λ p. IsPlanOf f ls p c.args.other.now) (sym c.requires.other.player_is) c.requires.other)
 
 pub number_by-number-requires-clause-source : goal.number_by-number-requires-clause-source
 number_by-number-requires-clause-source c =
     let f = abstract_frame c.args.self.now in
     let ls = lists_of c.args.self.now in
     let z = c.args.end in
-    carried (λ f ls. MatchSource f ls c.args.other.now.player (at_end z) c.args.source) (sym c.game-game.ensures.held) (sym c.classes-classes.ensures.lists)
+    carried (λ f ls. MatchSource f ls c.args.other.now.player (at_end z) c.args.source) (sym (ap frame_in c.game-game.ensures)) (sym c.classes-classes.ensures.lists)
     (subst (λ p. MatchSource f ls p (at_end z) c.args.source) (sym c.requires.other.player_is) c.requires.source)
 
 pub number_by-number-requires-clause-class : goal.number_by-number-requires-clause-class
 number_by-number-requires-clause-class c =
-    carried (λ f ls. IsClass ls (round_of f (at_end c.args.end)) c.in-Some.pair.two) (sym c.game-game.ensures.held) (sym c.classes-classes.ensures.lists) (here (goal.at.number_by-number-requires-clause-class c).In-Some).known.class
+    carried (λ f ls. IsClass ls (round_of f (at_end c.args.end)) c.in-Some.pair.two) (sym (ap frame_in c.game-game.ensures)) (sym c.classes-classes.ensures.lists) (here (goal.at.number_by-number-requires-clause-class c).In-Some).known.class
 
 pub add_pays-sum-requires : goal.add_pays-sum-requires
 add_pays-sum-requires c =
@@ -67,7 +67,7 @@ add_pays-sum-requires c =
     let ls = lists_of c.args.self.now in
     let y = class_plan f ls c.args.other.now in
     let own = other_player c.args.player in
-    let g = given_in c.args.self.now c.game-game.ensures.classes in
+    let g = given_in c.args.self.now in
     let k = here at.In-Some in
     let most = c.requires.other.plan.plan.total_in.1 in
     let few : (e : _) → IsClass ls (round_of f (at_end c.args.end)) e → class_number f ls own y c.args.end e ≤ 2 ^ 36 = λ e h.

@@ -2,12 +2,12 @@ use Rattle.std.proofs.Common.{◌≡◌, ap, ◌∙◌, arith}
 use Rattle.gs_filter.specs.Filter.{Filter}
 use Rattle.gs_lossless.specs.declared.checking.Lossless.{Lossless}
 use Rattle.gs_model.specs.Classes.{class_count}
-use Rattle.gs_best.proofs.Forms.{form_class_few}
-use Rattle.gs_best.proofs.form.class_total.Goals as goal
+use Rattle.gs_seq.proofs.Forms.{form_class_few}
+use Rattle.gs_seq.proofs.asking.Abstract.class_total.Goals as goal
 
 pub returns-clause-few : goal.returns-clause-few
 returns-clause-few c =
-    let a = c.args.form.now in
+    let a = c.args.self.now in
     let few = form_class_few a c.args.round c.requires.some c.requires.top in
     let held : c.classes.result.now ≡ a.lossless.now.classes.now = c.classes.ensures.held ∙ ap (λ (l : Lossless). l.classes.now) c.lossless.ensures in
     omega (arith, c.classes-2.ensures, ap (λ (k : Filter). class_count k.lists c.args.round) held, few)
