@@ -12,9 +12,7 @@ pub are_judged : (f : Frame) (one two : Stored) (v : Verdict) → f ≡ strategy
     → IsJudgedOf f one.classes.lists one.one two.classes.lists two.two v
     → AreJudged (stored_view one) (stored_view two) (numbers_of v)
 are_judged f one two v first second j = record {
-  value = v.value.reduced;
-  gap1 = v.gap1.reduced;
-  gap2 = v.gap2.reduced;
+  fractions = record { value = v.value.reduced; gap1 = v.gap1.reduced; gap2 = v.gap2.reduced };
   verdict = subst (λ (h : Frame). IsJudgedVerdict (strategy_frame (stored_view one)) one.classes.lists
       (class_plan (strategy_frame (stored_view one)) one.classes.lists one.one) two.classes.lists (class_plan h two.classes.lists two.two) (parts v.value)
       (parts v.gap1) (parts v.gap2))

@@ -5,7 +5,7 @@ use Rattle.gs_card.specs.Decks.{DeckValue}
 use Rattle.gs_frac.specs.Texts.{number_line}
 use Rattle.gs_model.specs.{Frame.{signal_count}, Game.{Game}, Payoff.{IsHandValue}, Plans.{Plan}, Signals.{signal_at}, Verdict.{IsJudgedVerdict}}
 use Rattle.gs_seq.specs.Slots.{plan_of}
-use Rattle.gs_strategy.specs.{Confirmed.{strategy_frame, over, raw_plan}, Values.{IsFractionOf, Numbers, FractionParts, Strategy, Weights}}
+use Rattle.gs_strategy.specs.{Confirmed.{strategy_frame, over, raw_plan}, Values.{AreFractions, IsFractionOf, Numbers, FractionParts, Strategy, Weights}}
 use Rattle.gs_tree.specs.Texts.{signal_text}
 
 -- the weights as a plan over the strategy's classes
@@ -14,9 +14,7 @@ plan_in s w = plan_of (strategy_frame s) s.classes w.total w.weights
 
 -- reduced fractions that are the value of the two plans, and what each player could still gain by any raw plan
 pub record AreJudged (one two : Strategy) (n : Numbers) : Type 0 where
-  pub value : IsFractionOf n.value
-  pub gap1 : IsFractionOf n.gap1
-  pub gap2 : IsFractionOf n.gap2
+  pub fractions : AreFractions n
   pub verdict : IsJudgedVerdict (strategy_frame one) one.classes (plan_in one one.one) two.classes (plan_in two two.two)
       (over n.value) (over n.gap1) (over n.gap2)
 

@@ -5,5 +5,7 @@ mod commands;
 mod games;
 mod hands;
 mod judging;
+mod laws;
 
 pub use commands::{duel_answer, judge_answer};
+pub use laws::{hands_weigh_some, raw_games_are_within, raw_sequences_are_few};

@@ -45,7 +45,7 @@ numbers_are s w k n e f h =
     (parts n.gap1) (parts n.gap2)) e h in
     let at_classes = subst (λ (x : Filter). IsVerdict (frame_in s.game) (lifted (frame_in s.game) x.lists s.one) (lifted (frame_in s.game) x.lists s.two)
     (parts n.value) (parts n.gap1) (parts n.gap2)) f at_game in
-    record { value = n.value.reduced; gap1 = n.gap1.reduced; gap2 = n.gap2.reduced; verdict = at_classes }
+    record { fractions = record { value = n.value.reduced; gap1 = n.gap1.reduced; gap2 = n.gap2.reduced }; verdict = at_classes }
 
 pub wrong_told : (s : Stored) (n : Verdict) (name : List ℕ) (stated found : FractionParts) (a : Answer) → IsLossless (strategy_frame (stored_view s)) s.classes.lists
     → IsSmall (strategy_frame (stored_view s)) s.classes.lists

@@ -129,11 +129,11 @@ stated_is t s few h =
 
 -- ---- the game
 
-deck_ok : (d : DeckValue) (o : Option DeckFault) (e : DeckValue) → deck_made d o ≡ Ok e → (o ≡ None) × (d ≡ e)
+pub deck_ok : (d : DeckValue) (o : Option DeckFault) (e : DeckValue) → deck_made d o ≡ Ok e → (o ≡ None) × (d ≡ e)
 deck_ok d None e h = (refl, same_ok d e h)
 deck_ok d (Some why) e h = absurd (never (deck why) e h)
 
-lawful_ok : (g : FileGame) (o : Option Refusal) (h : FileGame) → unless_refused g o ≡ Ok h → (o ≡ None) × (g ≡ h)
+pub lawful_ok : (g : FileGame) (o : Option Refusal) (h : FileGame) → unless_refused g o ≡ Ok h → (o ≡ None) × (g ≡ h)
 lawful_ok g None h e = (refl, same_ok g h e)
 lawful_ok g (Some why) h e = absurd (never (game why) h e)
 

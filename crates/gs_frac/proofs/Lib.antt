@@ -4,3 +4,4 @@ pub mod Made
 pub mod TextLaws
 pub mod Signs
 pub mod OneForm
+pub mod Fractions

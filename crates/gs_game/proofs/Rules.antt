@@ -121,8 +121,7 @@ none_over g (suc left) n h =
 
 -- ---- each rule
 
-rounds_-- where no refusal applies, the rules are kept
-pub kept : (g : Game) → rounds_refusal g ≡ None → (1 ≤ round_count g) × (round_count g ≤ 4)
+rounds_kept : (g : Game) → rounds_refusal g ≡ None → (1 ≤ round_count g) × (round_count g ≤ 4)
 unfolding rounds_refusal
 rounds_kept g h =
     let e = unless_true (nat_le 1 (round_count g) && nat_le (round_count g) 4) (rounds (round_count g)) h in
@@ -134,8 +133,7 @@ unfolding rounds_refusal
 rounds_fine g h =
     let e = and_from (nat_le 1 (round_count g)) (nat_le (round_count g) 4) (le-leb 1 (round_count g) h.0) (le-leb (round_count g) 4 h.1) in rw e refl
 
-private_-- where no refusal applies, the rules are kept
-pub kept : (g : Game) → private_refusal g ≡ None → 0 < (round_at g 1).private
+private_kept : (g : Game) → private_refusal g ≡ None → 0 < (round_at g 1).private
 unfolding private_refusal
 private_kept g h =
     let e = unless_false ((round_at g 1).private == 0) no_private h in
@@ -146,8 +144,7 @@ private_fine : (g : Game) → 0 < (round_at g 1).private → private_refusal g �
 unfolding private_refusal
 private_fine g h = let e = ne_eqb ((round_at g 1).private) 0 (λ z. omega arith) in rw e refl
 
-ranking_-- where no refusal applies, the rules are kept
-pub kept : (g : Game) → ranking_refusal g ≡ None → ranks g.ranking (own_card_total g.rounds) (own_card_total g.rounds + public_card_total g.rounds) ≡ true
+ranking_kept : (g : Game) → ranking_refusal g ≡ None → ranks g.ranking (own_card_total g.rounds) (own_card_total g.rounds + public_card_total g.rounds) ≡ true
 unfolding ranking_refusal
 ranking_kept g h = unless_true (ranks g.ranking (own_card_total g.rounds) (own_card_total g.rounds + public_card_total g.rounds)) _ h
 
@@ -155,8 +152,7 @@ ranking_fine : (g : Game) → ranks g.ranking (own_card_total g.rounds) (own_car
 unfolding ranking_refusal
 ranking_fine g h = rw h refl
 
-copies_-- where no refusal applies, the rules are kept
-pub kept : (g : Game) → copies_refusal g ≡ None → 2 * own_card_total g.rounds + public_card_total g.rounds ≤ sum g.copies
+copies_kept : (g : Game) → copies_refusal g ≡ None → 2 * own_card_total g.rounds + public_card_total g.rounds ≤ sum g.copies
 unfolding copies_refusal
 copies_kept g h =
     let need = 2 * own_card_total g.rounds + public_card_total g.rounds in ltb-false (sum g.copies) need (unless_false (nat_lt (sum g.copies) need) _ h)
@@ -165,8 +161,7 @@ copies_fine : (g : Game) → 2 * own_card_total g.rounds + public_card_total g.r
 unfolding copies_refusal
 copies_fine g h = let e = not_less (sum g.copies) (2 * own_card_total g.rounds + public_card_total g.rounds) h in rw e refl
 
-put_-- where no refusal applies, the rules are kept
-pub kept : (g : Game) → put_refusal g ≡ None → most_in (trees_of g) g.ante g.ante * greatest g.bonus ≤ 4096
+put_kept : (g : Game) → put_refusal g ≡ None → most_in (trees_of g) g.ante g.ante * greatest g.bonus ≤ 4096
 unfolding put_refusal
 put_kept g h =
     let chips = most_in (trees_of g) g.ante g.ante * greatest g.bonus in ltb-false 4096 chips (unless_false (nat_lt 4096 chips) _ h)
@@ -175,8 +170,7 @@ put_fine : (g : Game) → most_in (trees_of g) g.ante g.ante * greatest g.bonus 
 unfolding put_refusal
 put_fine g h = let e = not_less 4096 (most_in (trees_of g) g.ante g.ante * greatest g.bonus) h in rw e refl
 
-lines_-- where no refusal applies, the rules are kept
-pub kept : (g : Game) → lines_refusal g ≡ None → length (walk g.ante (trees_of g)).ends ≤ 8192
+lines_kept : (g : Game) → lines_refusal g ≡ None → length (walk g.ante (trees_of g)).ends ≤ 8192
 unfolding lines_refusal
 lines_kept g h =
     let ends = length (walk g.ante (trees_of g)).ends in ltb-false 8192 ends (unless_false (nat_lt 8192 ends) _ h)
@@ -185,8 +179,7 @@ lines_fine : (g : Game) → length (walk g.ante (trees_of g)).ends ≤ 8192 → 
 unfolding lines_refusal
 lines_fine g h = let e = not_less 8192 (length (walk g.ante (trees_of g)).ends) h in rw e refl
 
-weight_-- where no refusal applies, the rules are kept
-pub kept : (g : Game) → weight_refusal g ≡ None → total_weight (frame_of g) ≤ 67108864
+weight_kept : (g : Game) → weight_refusal g ≡ None → total_weight (frame_of g) ≤ 67108864
 unfolding weight_refusal
 weight_kept g h = ltb-false 67108864 (total_weight (frame_of g)) (unless_false (nat_lt 67108864 (total_weight (frame_of g))) _ h)
 
@@ -194,8 +187,7 @@ weight_fine : (g : Game) → total_weight (frame_of g) ≤ 67108864 → weight_r
 unfolding weight_refusal
 weight_fine g h = let e = not_less 67108864 (total_weight (frame_of g)) h in rw e refl
 
-deals_-- where no refusal applies, the rules are kept
-pub kept : (g : Game) → deals_refusal g ≡ None → length (deals g) ≤ 8000000
+deals_kept : (g : Game) → deals_refusal g ≡ None → length (deals g) ≤ 8000000
 unfolding deals_refusal
 deals_kept g h = ltb-false 8000000 (length (deals g)) (unless_false (nat_lt 8000000 (length (deals g))) _ h)
 

@@ -2,20 +2,17 @@
 use Rattle.std.proofs.Common.{◌≡◌, ℕ, ◌*◌, ◌<◌, List, Ok, ap, subst, inl, inr, arith}
 use Rattle.gs_confirm.specs.{Commands.{Evaluates, OfConfirmed, SaysNumbers}, Troubles.{IsFirstWrong, IsTrouble}}
 use Rattle.gs_file.specs.{Reading.{FileGame, read_at}, declared.version.Version.{Version}, declared.version.Version.TheVariants.{Two}}
-use Rattle.gs_model.specs.{Classes.{ClassLists}, Frame.{Frame, total_weight}, Plans.{Plan as RawPlan}, Verdict.{IsVerdict}}
+use Rattle.gs_model.specs.{Classes.{ClassLists}, Frame.{total_weight}}
 use Rattle.gs_reply.specs.Refusals.{Limit, Refusal, Sequences, Cells, Table_numbers, Raw_cells, Bad_game, Unlike_pair, Overflows, Many_pivots, Too_large, Bad_strategy, Wrong_number, Bad_query, Other_game, Bad_certificate}
 use Rattle.gs_reply.specs.{Replies.{OfRead, Reply, Prints}, Troubles.{Passes}, declared.strategies.Which.TheVariants.{Only}, VerdictText.{verdict_text}}
 use Rattle.gs_seq.specs.{Stops.{IsSmall}, declared.plan.Plan.{Plan}}
 use Rattle.gs_settle.specs.Texts.{IsSettledText}
 use Rattle.gs_strategy.proofs.Only.{only}
-use Rattle.gs_strategy.specs.{Checks.{ReadResult}, Confirmed.{AreNumbersOf, IsConfirmed, strategy_frame, over, raw_plan}, Laws.{AreFractions, IsStrategy}}
+use Rattle.gs_strategy.specs.{Checks.{ReadResult}, Confirmed.{AreNumbersOf, IsConfirmed, strategy_frame, raw_plan}, Laws.{IsStrategy}}
 use Rattle.gs_strategy.specs.{Texts.{strategy_text}, Values.{FractionParts, Numbers, Strategy, file_frame}}
-use Rattle.gs_laws.proofs.{Dealt.{told_dealt}, Strategies.{printed_strategy}, Verdicts.{numbers_one, scale_some}}
-
-pub verdicts_one : (f : Frame) (x y : RawPlan) (n m : Numbers) → 0 < total_weight f * x.total * y.total → AreFractions n → AreFractions m
-    → IsVerdict f x y (over n.value) (over n.gap1) (over n.gap2) → IsVerdict f x y (over m.value) (over m.gap1) (over m.gap2) → n ≡ m
-verdicts_one f x y n m some h k one two =
-    numbers_one f x y n m some (record { value = h.value; gap1 = h.gap1; gap2 = h.gap2 }) (record { value = k.value; gap1 = k.gap1; gap2 = k.gap2 }) one two
+use Rattle.gs_file.proofs.Dealt.{told_dealt}
+use Rattle.gs_settle.proofs.Printed.{printed_strategy}
+use Rattle.gs_strategy.proofs.Verdicts.{scale_some, verdicts_one}
 
 -- the weight of all deals and both totals are above 0
 pub strategy_scale : (version : Version) (s : Strategy) → IsStrategy version s
@@ -28,7 +25,7 @@ strategy_scale version s h =
 pub strategy_numbers : (version : Version) (s : Strategy) (n m : Numbers) → IsStrategy version s → AreNumbersOf s n → AreNumbersOf s m → n ≡ m
 strategy_numbers version s n m h a b =
     verdicts_one (strategy_frame s) (raw_plan s s.one) (raw_plan s s.two) n m (strategy_scale version s h)
-    (record { value = a.value; gap1 = a.gap1; gap2 = a.gap2 }) (record { value = b.value; gap1 = b.gap1; gap2 = b.gap2 }) a.verdict b.verdict
+    a.fractions b.fractions a.verdict b.verdict
 
 pub small_passes : (g : FileGame) (lists : ClassLists) (limit : Limit) → IsSmall (file_frame g) lists → Passes g lists limit → ⊥
 small_passes g lists (Sequences player count) small (inl h) = let k = small.sequences.one in let e = h.1 in let o = h.2 in omega arith

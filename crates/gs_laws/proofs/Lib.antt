@@ -1,11 +1,4 @@
-mod Told
-mod Dealt
-mod Fractions
-mod Slots
-pub mod Strategies
-mod Verdicts
 pub mod Confirming
-mod OneReading
 mod OneGame
 mod OneStrategy
 mod OneCertificate
@@ -14,7 +7,5 @@ mod OneSettled
 mod OneProgram
 mod OneSolve
 mod OnePath
-mod Dealing
 mod OneDuel
 pub mod Answering
-pub mod RawSequences

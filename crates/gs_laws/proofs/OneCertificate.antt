@@ -25,8 +25,10 @@ use Rattle.gs_reply.specs.Refusals.{Limit, Bad_game, Unlike_pair, Overflows, Man
 use Rattle.gs_reply.specs.{Replies.{Reply, Prints, Refuses}, Troubles.{IsUnlikePair}, declared.strategies.Which.TheVariants.{Only}}
 use Rattle.gs_seq.proofs.SlotLaws.{sum_range_more}
 use Rattle.gs_strategy.specs.{Confirmed.{strategy_frame, raw_plan}, Laws.{IsStrategy}, Texts.{strategy_text}, Values.{FractionParts, Strategy}}
-use Rattle.gs_laws.proofs.{Confirming.{small_passes, strategy_scale}, Dealt.{told_dealt, told_playable}, OneGame.{unlike_pair_one}}
-use Rattle.gs_laws.proofs.{OneReading.{difference_one, one_least, then_one}, OneStrategy.{confirmed_one, limit_one, over_file}, Verdicts.{value_one}}
+use Rattle.gs_laws.proofs.{Confirming.{small_passes, strategy_scale}, OneGame.{unlike_pair_one}}
+use Rattle.gs_file.proofs.Dealt.{told_dealt, told_playable}
+use Rattle.gs_strategy.proofs.{OneReading.{difference_one, one_least, then_one}, Verdicts.{value_one}}
+use Rattle.gs_laws.proofs.OneStrategy.{confirmed_one, limit_one, over_file}
 
 -- ---- best values as a list
 

@@ -6,8 +6,10 @@ use Rattle.gs_json.specs.FirstLine.{first_line}
 use Rattle.gs_model.specs.{Frame.{signal_count, total_weight}, Payoff.{hand_weight}, Plans.{lift}}
 use Rattle.gs_reply.specs.{Replies.{OfFile, Reply, Prints}, declared.strategies.Which.TheVariants.{First, Second}, VerdictText.{verdict_text}}
 use Rattle.gs_strategy.specs.{Confirmed.{strategy_frame, raw_plan}, Laws.{IsStrategy}, Values.{FractionParts, Numbers, Strategy}}
-use Rattle.gs_laws.proofs.{Confirming.{verdicts_one}, Dealing.{hand_some}, Dealt.{told_dealt}, OneStrategy.{over_file}, Verdicts.{hand_one, scale_some}}
-use Rattle.gs_game.proofs.Rules.{not_refused}
+use Rattle.gs_strategy.proofs.Verdicts.{verdicts_one, hand_one, scale_some}
+use Rattle.gs_raw.proofs.Dealing.{hand_some}
+use Rattle.gs_file.proofs.Dealt.{told_dealt}
+use Rattle.gs_laws.proofs.OneStrategy.{over_file}
 
 hands_one : (v w : Version) (one two : Strategy) (hs gs : List FractionParts) → IsStrategy v one → IsStrategy w two → AreHandValues one two hs → AreHandValues one two gs
     → hs ≡ gs
@@ -20,7 +22,7 @@ hands_one v w one two hs gs is it h k =
     let a = h.each s e inside in
     let b = k.each s e inside in
     let some = scale_some (hand_weight f s) one.one.total two.two.total
-    (hand_some (file_rules one.game) d.playable (not_refused _ is.written.game.lawful) s inside) is.first.plan.total_in.0 it.second.plan.total_in.0 in
+    (hand_some (file_rules one.game) d.playable is.written.game.lawful s inside) is.first.plan.total_in.0 it.second.plan.total_in.0 in
     hand_one f (raw_plan one one.one) (raw_plan two two.two) s (get_or hs s e) (get_or gs s e) some a.reduced b.reduced a.value b.value))
 
 duelled_one : (v w : Version) (one two : Strategy) (x y : Reply) → IsStrategy v one → IsStrategy w two → SaysHands one two x → SaysHands one two y → x ≡ y
@@ -29,7 +31,7 @@ duelled_one v w one two x y is it (inl (few, (n, a, (hs, h, e)))) (inl (low, (m,
     let some = scale_some (total_weight f) one.one.total two.two.total (told_dealt v one.game is.written.game).deals is.first.plan.total_in.0
     it.second.plan.total_in.0 in
     let same = verdicts_one f (lift f one.classes (plan_in one one.one)) (lift f two.classes (plan_in two two.two)) n m some
-    (record { value = a.value; gap1 = a.gap1; gap2 = a.gap2 }) (record { value = b.value; gap1 = b.gap1; gap2 = b.gap2 }) a.verdict b.verdict in
+    a.fractions b.fractions a.verdict b.verdict in
     let hands = hands_one v w one two hs gs is it h k in
     e ∙ ap (λ (z : Numbers). Prints (verdict_text z ++ hands_text one.game.deck (file_rules one.game) hs)) same
     ∙ ap (λ (z : List FractionParts). Prints (verdict_text m ++ hands_text one.game.deck (file_rules one.game) z)) hands ∙ sym e'

@@ -12,7 +12,8 @@ use Rattle.gs_simplex.specs.{Trace.{IsAimValue, IsTrace, IsTraceOf}, declared.an
 use Rattle.gs_solve.specs.Solutions.{most_pivots}
 use Rattle.gs_strategy.specs.{Values.{file_frame}, Views.{parts_of}}
 use Rattle.gs_words.specs.declared.request.Grouping.{Grouping}
-use Rattle.gs_laws.proofs.{Dealt.{told_playable}, OneProgram.{Same, SameParts, ratio_one, stop_over}, OneSettled.{SaysOne, settles_one}}
+use Rattle.gs_file.proofs.Dealt.{told_playable}
+use Rattle.gs_laws.proofs.{OneProgram.{Same, SameParts, ratio_one, stop_over}, OneSettled.{SaysOne, settles_one}}
 use Rattle.gs_laws.proofs.OneSolve.{ended_or_stopped, path_one, stopped_one}
 
 -- ---- one path

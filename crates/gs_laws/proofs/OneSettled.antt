@@ -12,8 +12,13 @@ use Rattle.gs_seq.specs.{Plans.{class_plan}, Slots.{IsPlan, plan_of}, declared.p
 use Rattle.gs_settle.specs.{Playing.{Plays}, Settling.{OfForm, OfGrouping, Settles}, Texts.{IsSettledText}}
 use Rattle.gs_strategy.specs.{Checks.{AreClasses}, Confirmed.{over}, Texts.{strategy_text}, Values.{Numbers, Strategy, Weights, file_frame}, Views.{weights_of}}
 use Rattle.gs_words.specs.{declared.request.Grouping.{Grouping}, declared.request.Grouping.TheVariants.{Isomorphism, Coarsest, Single}}
-use Rattle.gs_laws.proofs.{Confirming.{small_passes, verdicts_one}, Dealt.{told_dealt, told_playable}, OneGame.{groupings_one, not_both, not_lossless_one}}
-use Rattle.gs_laws.proofs.{OnePlay.{SameNumbers, play_one}, OneStrategy.{limit_one}, Slots.{place_at}, Told.{file_told}, Verdicts.{scale_some}}
+use Rattle.gs_laws.proofs.{Confirming.{small_passes}, OneGame.{groupings_one, not_both, not_lossless_one}}
+use Rattle.gs_strategy.proofs.Verdicts.{verdicts_one}
+use Rattle.gs_file.proofs.Dealt.{told_dealt, told_playable}
+use Rattle.gs_laws.proofs.{OnePlay.{SameNumbers, play_one}, OneStrategy.{limit_one}}
+use Rattle.gs_seq.proofs.Slots.{place_at}
+use Rattle.gs_file.proofs.Told.{file_told}
+use Rattle.gs_strategy.proofs.Verdicts.{scale_some}
 
 -- ---- settling
 
@@ -119,7 +124,7 @@ text_of_one g lists one two one' two' a b t ones twos h k =
     let some = scale_some (total_weight (file_frame s.game)) s.one.total s.two.total (told_dealt Two s.game told).deals h.first_is.plan.total_in.0
     h.second_is.plan.total_in.0 in
     let e5 : s.numbers ≡ u.numbers = verdicts_one (file_frame s.game) _ _ s.numbers u.numbers some
-    (record { value = n.value; gap1 = n.gap1; gap2 = n.gap2 }) (record { value = m.value; gap1 = m.gap1; gap2 = m.gap2 }) n.verdict v in
+    n.fractions m.fractions n.verdict v in
     let same : u ≡ s = same_core u.game s.game u.classes s.classes u.one s.one u.two s.two u.numbers s.numbers e1 e2 e3 e4 (sym e5) in
     h.printed ∙ ap (strategy_text Two) (sym same) ∙ sym k.printed
 

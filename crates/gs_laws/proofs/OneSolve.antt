@@ -20,7 +20,9 @@ use Rattle.gs_solve.specs.Solutions.{most_pivots, table_numbers}
 use Rattle.gs_solve.specs.Weights.{sequence_weight}
 use Rattle.gs_strategy.specs.{Values.{Weights}, Views.{weights_of}, Values.{file_frame}}
 use Rattle.gs_laws.proofs.{OnePlay.{best_same, first_moves_one}, OneProgram.{Same, SameEnds, SameFractions, best_one, best_over, programs_same, stops_over}}
-use Rattle.gs_laws.proofs.{OneReading.{one_least}, Dealt.{told_playable}, OneSettled.{SaysOne, settles_one, text_of_one}}
+use Rattle.gs_strategy.proofs.OneReading.{one_least}
+use Rattle.gs_file.proofs.Dealt.{told_playable}
+use Rattle.gs_laws.proofs.OneSettled.{SaysOne, settles_one, text_of_one}
 use Rattle.gs_file.specs.{Reading.{FileGame, file_rules}, declared.version.Version.TheVariants.{Two}}
 use Rattle.gs_reply.specs.Refusals.{Refusal, Overflows, At_step, At_total, Many_pivots, Too_large, Sequences, Cells, Table_numbers, Raw_cells, Bad_game, Unlike_pair, Bad_strategy, Wrong_number, Bad_query, Other_game, Bad_certificate}
 use Rattle.gs_reply.specs.Replies.{Reply, Prints, Refuses}

@@ -23,8 +23,10 @@ use Rattle.gs_seq.specs.Stops.{IsSmall}
 use Rattle.gs_strategy.specs.{Checks.{ReadResult, Reads}, Confirmed.{strategy_frame, raw_plan}, Laws.{IsStrategy}}
 use Rattle.gs_strategy.specs.Values.{FractionParts, Numbers, Strategy, file_frame}
 use Rattle.gs_tree.proofs.Named.{text_once}
-use Rattle.gs_laws.proofs.{Confirming.{no_trouble, small_passes, strategy_numbers, verdicts_one}, Dealt.{told_dealt, told_playable}, OneGame.{unlike_pair_one}}
-use Rattle.gs_laws.proofs.{OneReading.{reads_one}, Strategies.{reads_strategy}, Verdicts.{scale_some}}
+use Rattle.gs_laws.proofs.{Confirming.{no_trouble, small_passes, strategy_numbers}, OneGame.{unlike_pair_one}}
+use Rattle.gs_strategy.proofs.Verdicts.{verdicts_one}
+use Rattle.gs_file.proofs.Dealt.{told_dealt, told_playable}
+use Rattle.gs_strategy.proofs.{OneReading.{reads_one}, Strategies.{reads_strategy}, Verdicts.{scale_some}}
 
 -- ---- files
 
@@ -140,8 +142,8 @@ judged_one version s one two is (inl (few, (n, a, e))) (inl (low, (m, b, e'))) =
     let f = strategy_frame s in
     let some = scale_some (total_weight f) s.one.total s.two.total (told_dealt version s.game is.written.game).deals is.first.plan.total_in.0
     is.second.plan.total_in.0 in
-    let same = verdicts_one f (raw_plan s s.one) (raw_plan s s.two) n m some (record { value = a.value; gap1 = a.gap1; gap2 = a.gap2 })
-    (record { value = b.value; gap1 = b.gap1; gap2 = b.gap2 }) a.verdict b.verdict in
+    let same = verdicts_one f (raw_plan s s.one) (raw_plan s s.two) n m some a.fractions
+    b.fractions a.verdict b.verdict in
     e ∙ ap (λ (x : Numbers). Prints (verdict_text x)) same ∙ sym e'
 judged_one version s one two is (inl (few, (n, a, e))) (inr (many, e')) = absurd (omega arith)
 judged_one version s one two is (inr (many, e)) (inl (few, (n, a, e'))) = absurd (omega arith)

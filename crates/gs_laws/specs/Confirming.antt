@@ -1,25 +1,12 @@
--- Verdicts are unique. A confirmed strategy passes all checks, and `evaluate` prints its numbers. So it does for what `solve` and `play` print.
-use Rattle.std.specs.Prelude.{◌≡◌, ◌<◌, ◌*◌, ℕ, List, Ok}
+-- A confirmed strategy passes all checks, and `evaluate` prints its numbers. So it does for what `solve` and `play` print.
+use Rattle.std.specs.Prelude.{◌≡◌, ℕ, List, Ok}
 use Rattle.gs_confirm.specs.{Commands.{Evaluates}, Troubles.{IsTrouble}}
 use Rattle.gs_file.specs.{Reading.{FileGame, read_at}, declared.version.Version.{Version}}
-use Rattle.gs_model.specs.{Classes.{ClassLists}, Frame.{Frame, total_weight}, Payoff.{IsHandValue, hand_weight}, Plans.{Plan as RawPlan}, Verdict.{IsVerdict}}
+use Rattle.gs_model.specs.Classes.{ClassLists}
 use Rattle.gs_reply.specs.{Refusals.{Refusal}, Replies.{Reply, Prints}, VerdictText.{verdict_text}}
 use Rattle.gs_seq.specs.declared.plan.Plan.{Plan}
 use Rattle.gs_settle.specs.Texts.{IsSettledText}
-use Rattle.gs_strategy.specs.{Confirmed.{IsConfirmed, over}, Laws.{AreFractions, IsStrategy}, Texts.{strategy_text}}
-use Rattle.gs_strategy.specs.Values.{FractionParts, IsFractionOf, Numbers, Strategy}
-
--- two raw plans have only one verdict in reduced fractions, if the weight of all deals and both totals are above 0
-abbrev pub VerdictsAreOne : Type 0
-VerdictsAreOne =
-    (f : Frame) (x y : RawPlan) (n m : Numbers) → 0 < total_weight f * x.total * y.total → AreFractions n → AreFractions m
-    → IsVerdict f x y (over n.value) (over n.gap1) (over n.gap2) → IsVerdict f x y (over m.value) (over m.gap1) (over m.gap2) → n ≡ m
-
--- a raw signal has only one value in reduced fractions, if the weight of its deals and both totals are above 0
-abbrev pub HandsAreOne : Type 0
-HandsAreOne =
-    (f : Frame) (x y : RawPlan) (s : ℕ) (p q : FractionParts) → 0 < hand_weight f s * x.total * y.total → IsFractionOf p → IsFractionOf q
-    → IsHandValue f x y s (over p).0 (over p).1 → IsHandValue f x y s (over q).0 (over q).1 → p ≡ q
+use Rattle.gs_strategy.specs.{Confirmed.{IsConfirmed}, Laws.{IsStrategy}, Texts.{strategy_text}, Values.{Strategy}}
 
 -- a confirmed strategy passes each check of `evaluate`
 abbrev pub ConfirmedHaveNoTrouble : Type 0

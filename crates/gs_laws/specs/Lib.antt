@@ -1,4 +1,2 @@
-pub mod Lawful
 pub mod Confirming
 pub mod Answers
-pub mod RawGames

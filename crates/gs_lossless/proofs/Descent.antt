@@ -154,7 +154,7 @@ pub keys_long : (g : Game) (l : Filter) → l.parents ≡ (frame_of g).parents �
     → HasSide (frame_of g) side round → length (keys_of (frame_of g) l.lists side round) ≡ key_count g side round
 keys_long g l e p Deals round h = length-map-range_with_len (λ x. class_of l.lists round (at_round (frame_of g) round x)) 0
     (signal_count (frame_of g) (last_round (frame_of g))) ∙ count_last g p
-keys_long g l e s p Children round h = list_long g l e s (round + 1) (omega arith) (omega (arith, h.1, last_round_of g))
+keys_long g l e p Children round h = list_long g l e (round + 1) (omega arith) (omega (arith, h.1, last_round_of g))
 
 -- the children of a signal are a run of the next round
 pub child_run : (g : Game) → IsPlayable g → (round s : ℕ) → 0 < round → round < round_count g → s < length (signals g round)

@@ -11,7 +11,9 @@ use Rattle.gs_file.specs.{Faults.{Fault}, Reading.{FileGame, read_at, file_rules
 use Rattle.gs_file.specs.declared.version.Version.TheVariants.{Two}
 use Rattle.gs_group.specs.{Checking.{ChecksGame, IsChecked, IsGrouping}, Shrinking.{IsShrunk, ShrinksGame}}
 use Rattle.gs_json.specs.FirstLine.{first_line}
-use Rattle.gs_laws.proofs.{RawSequences.{hands_weigh}, Strategies.{printed_raw, printed_strategy, reads_strategy, strategies_raw}}
+use Rattle.gs_compare.proofs.RawGames.{hands_weigh}
+use Rattle.gs_settle.proofs.Printed.{printed_raw, printed_strategy}
+use Rattle.gs_strategy.proofs.Strategies.{reads_strategy, strategies_raw}
 use Rattle.gs_made.specs.{Made.{made_game}, declared.kind.Kind.{Kind}}
 use Rattle.gs_model.specs.{Classes.{ClassLists}, Plans.{lift}, Play.{IsFictitiousPlay}, Verdict.{IsVerdict}}
 use Rattle.gs_reply.specs.{Replies.{OfFile, OfRead, OfReading, Reply, Prints}, declared.strategies.Which.TheVariants.{Only, First, Second}}
@@ -146,7 +148,7 @@ on_raw_cards says one two text same (inl h) =
     let j = h.1.1 in
     let verdict = subst (λ (g : FileGame). IsVerdict (file_frame one.game) (raw_plan one one.one) (lift (file_frame g) two.classes (plan_in two two.two))
     (over n.value) (over n.gap1) (over n.gap2)) same j.verdict in
-    (n, record { few = h.0; fractions = record { value = j.value; gap1 = j.gap1; gap2 = j.gap2 }; verdict = verdict }, h.1.2)
+    (n, record { few = h.0; fractions = j.fractions; verdict = verdict }, h.1.2)
 on_raw_cards says one two text same (inr h) = let bad = h.1 in cc
 
 judged : (s : Strategy) (text : List ℕ) → SaysJudged s (Prints text) → IsJudgedText s text

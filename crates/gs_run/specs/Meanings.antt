@@ -6,14 +6,14 @@ use Rattle.gs_compare.specs.Judging.{AreHandValues, hands_text}
 use Rattle.gs_confirm.specs.Queries.{IsQueried}
 use Rattle.gs_file.specs.{Reading.{FileGame, file_rules}, States.{FileStates}, declared.version.Version.{Version}, declared.version.Version.TheVariants.{Two}}
 use Rattle.gs_group.specs.{Checking.{IsChecked, IsGrouping}, Shrinking.{IsShrunk}}
-use Rattle.gs_laws.specs.Lawful.{AreRawPlans}
+use Rattle.gs_strategy.specs.RawPlans.{AreRawPlans}
 use Rattle.gs_made.specs.Made.{made_game}
 use Rattle.gs_model.specs.{Classes.{ClassLists}, Frame.{signal_count}, Lossless.{IsLossless}, Payoff.{hand_weight}, Play.{IsFictitiousPlay}}
 use Rattle.gs_model.specs.Verdict.{IsVerdict}
 use Rattle.gs_raw.specs.Cells.{raw_cell_count}
 use Rattle.gs_seq.specs.{Slots.{plan_of}, Stops.{IsSmall}}
 use Rattle.gs_settle.specs.{Paths.{IsPathShown}, Solving.{IsSolved}}
-use Rattle.gs_strategy.specs.{Confirmed.{IsConfirmed, over, raw_plan}, Laws.{AreFractions, IsStrategy}, Texts.{strategy_text}}
+use Rattle.gs_strategy.specs.{Confirmed.{IsConfirmed, over, raw_plan}, Values.{AreFractions}, Laws.{IsStrategy}, Texts.{strategy_text}}
 use Rattle.gs_strategy.specs.Values.{FractionParts, Numbers, Strategy, file_frame}
 use Rattle.gs_reply.specs.VerdictText.{verdict_text}
 use Rattle.gs_words.specs.{Commands.{entry_of}, Plain.{Given, are_plain, given_for, option_words}, Requests.{task_for}}

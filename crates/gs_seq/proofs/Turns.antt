@@ -2,7 +2,7 @@
 use Rattle.std.proofs.Common.{◌≡◌, ℕ, zero, suc, ◌+◌, ◌-◌, ◌*◌, ◌<◌, ◌≤◌, ◌^◌, List, [], ◌∷◌, length, get_or, drop, take, sym, ap, ◌∙◌, subst, arith}
 use Rattle.std.proofs.lemmas.List.{length-drop, take_all}
 use Rattle.std.specs.Prelude.{ℤ, pos, ◌+ℤ◌, ◌*ℤ◌, unsigned_abs}
-use Rattle.gs_model.specs.{Classes.{ClassLists, IsClass, classes_in}, Frame.{Frame, end_at, end_count, payoff_to, round_of}}
+use Rattle.gs_model.specs.{Classes.{ClassLists, IsClass, IsClasses, classes_in}, Frame.{Frame, end_at, end_count, payoff_to, round_of}}
 use Rattle.gs_model.specs.{FrameFacts.{InRange, IsWalked}, Pairs.{pair_sum}, Positions.{End, at_end}, Sums.{sum_z}}
 use Rattle.gs_model.proofs.{Sparse.{sum_z-more}, Tables.{is_table}}
 use Rattle.gs_seq.specs.{Abstracts.{abstract_frame, lists_of}, Payoffs.{pair_pays}, Rows.{IsRow}, declared.form.Abstract.{Abstract}, declared.pair.Pair.{Pair}}

@@ -18,7 +18,7 @@ impl<'a> Abstract<'a> {
     pub fn game(&self) -> &'a ValidGame
         ensures { result.now ≡ game_in self.now }
     {
-        self.lossless.signals().game()
+        self.lossless().signals().game()
     }
 
     /// Returns the number of rounds.
@@ -26,7 +26,7 @@ impl<'a> Abstract<'a> {
         ensures value { result ≡ last_round (abstract_frame self.now) }
         ensures few { result ≤ 4 }
     {
-        self.lossless.classes().rounds()
+        self.lossless().classes().rounds()
     }
 
     /// Returns the number of points.
@@ -97,7 +97,7 @@ impl<'a> Abstract<'a> {
         ensures value { result ≡ class_count (lists_of self.now) round }
         ensures few { result ≤ 200000 }
     {
-        self.lossless.classes().classes(round)
+        self.lossless().classes().classes(round)
     }
 
     /// Returns the class of a signal.
@@ -108,7 +108,7 @@ impl<'a> Abstract<'a> {
         ensures value { result ≡ class_of (lists_of self.now) round signal }
         ensures class { IsClass (lists_of self.now) round result }
     {
-        self.lossless.classes().class_of(round, signal)
+        self.lossless().classes().class_of(round, signal)
     }
 
     /// Returns the class of an earlier round from which a class descends; in its own round, the class itself.
@@ -120,7 +120,7 @@ impl<'a> Abstract<'a> {
         ensures value { result ≡ class_of (lists_of self.now) to (ancestor (abstract_frame self.now) from to (first_member (lists_of self.now) from class)) }
         ensures class { IsClass (lists_of self.now) to result }
     {
-        class_above(self.lossless.classes(), from, to, class)
+        class_above(self.lossless().classes(), from, to, class)
     }
 
     /// Returns the first member of a class.
@@ -131,7 +131,7 @@ impl<'a> Abstract<'a> {
         ensures value { result ≡ first_member (lists_of self.now) round class }
         ensures within { result < signal_count (abstract_frame self.now) round }
     {
-        self.lossless.classes().first(round, class)
+        self.lossless().classes().first(round, class)
     }
 
     /// Returns the number of signals of a round.
@@ -140,7 +140,7 @@ impl<'a> Abstract<'a> {
         requires top { round ≤ last_round (abstract_frame self.now) }
         ensures { result ≡ signal_count (abstract_frame self.now) round }
     {
-        self.lossless.classes().signals(round)
+        self.lossless().classes().signals(round)
     }
 
     /// Returns the point or end at which play starts.

@@ -4,3 +4,4 @@ pub mod Said
 pub mod SolvedGaps
 pub mod Told
 pub mod TurnLines
+pub mod Printed

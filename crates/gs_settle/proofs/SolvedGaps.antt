@@ -41,8 +41,8 @@ module _ (g : FileGame) (lists : ClassLists) (x y : Plan) (text : List ℕ) (tol
         two = y;
         solution = solution;
         told = told;
-        gap1 = zero_over_one n.gap1.0 n.gap1.1 told.confirmed.numbers.gap1
+        gap1 = zero_over_one n.gap1.0 n.gap1.1 told.confirmed.numbers.fractions.gap1
             (no_first_gap (file_frame g) a b (over n.gap1).0 (over n.gap1).1 deals some_one some_two v.first_gap solution.first_gap);
-        gap2 = zero_over_one n.gap2.0 n.gap2.1 told.confirmed.numbers.gap2
+        gap2 = zero_over_one n.gap2.0 n.gap2.1 told.confirmed.numbers.fractions.gap2
             (no_second_gap (file_frame g) a b (over n.gap2).0 (over n.gap2).1 deals some_one some_two v.second_gap solution.second_gap);
       }

@@ -29,7 +29,7 @@ told game classes one two found text are lossless small first second verdict pri
   confirmed = record {
     lossless = lossless;
     small = small;
-    numbers = record { value = found.value.reduced; gap1 = found.gap1.reduced; gap2 = found.gap2.reduced; verdict = verdict };
+    numbers = record { fractions = record { value = found.value.reduced; gap1 = found.gap1.reduced; gap2 = found.gap2.reduced }; verdict = verdict };
   };
   printed = printed;
 }

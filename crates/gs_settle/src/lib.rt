@@ -16,7 +16,7 @@ ghost use Rattle.gs_settle.specs.{Paths.{ShowsPath}, Playing.{Plays}, Settling.{
 
 use gs_reply::Answer;
 use gs_words::Grouping;
-pub use laws::pivot_limit_is_told;
+pub use laws::{pivot_limit_is_told, printed_are_raw, printed_are_strategies};
 use settling::settle;
 use std::alloc::{AllocError, Global};
 use tasks::Task;

@@ -2,7 +2,7 @@
 use Rattle.std.specs.Prelude.{ℕ, ℤ, unsigned_abs}
 use Rattle.gs_model.specs.{Frame.{Frame}, Lossless.{IsLossless}, Plans.{Plan, lift}, Verdict.{IsVerdict}}
 use Rattle.gs_seq.specs.{Slots.{plan_of}, Stops.{IsSmall}}
-use Rattle.gs_strategy.specs.Values.{IsFractionOf, Numbers, FractionParts, Strategy, Weights, file_frame}
+use Rattle.gs_strategy.specs.Values.{AreFractions, Numbers, FractionParts, Strategy, Weights, file_frame}
 
 -- the frame of a strategy's game
 abbrev pub strategy_frame : Strategy → Frame
@@ -18,9 +18,7 @@ over p = (p.0, unsigned_abs p.1)
 
 -- reduced fractions that are the value of the strategy's plans and what each player could still gain by any raw plan
 pub record AreNumbersOf (s : Strategy) (n : Numbers) : Type 0 where
-  pub value : IsFractionOf n.value
-  pub gap1 : IsFractionOf n.gap1
-  pub gap2 : IsFractionOf n.gap2
+  pub fractions : AreFractions n
   pub verdict : IsVerdict (strategy_frame s) (raw_plan s s.one) (raw_plan s s.two) (over n.value) (over n.gap1) (over n.gap2)
 
 -- the classes are lossless, the game over them keeps the limits, and the strategy's numbers are those of its plans

@@ -1,8 +1,9 @@
-use Rattle.std.proofs.Common.{ap, sym, ◌∙◌, subst}
+use Rattle.std.proofs.Common.{ℕ, ◌<◌, ap, sym, ◌∙◌, subst}
 use Rattle.gs_filter.specs.Filter.{Filter}
 use Rattle.gs_model.specs.Lossless.{IsLossless}
 use Rattle.gs_seq.specs.{Cells.{cell_count}, Games.{frame_in}}
 use Rattle.gs_tree.specs.declared.signals.Signals.{Signals}
+use Rattle.gs_raw.proofs.TooMany.{too_many_cells}
 use Rattle.gs_raw.proofs.judging.raw_stop.Goals as goal
 
 pub cell_total-requires-clause-lossless : goal.cell_total-requires-clause-lossless
@@ -12,8 +13,9 @@ cell_total-requires-clause-lossless c =
 
 pub returns-in-Ok : goal.returns-in-Ok
 returns-in-Ok c =
-    let f = frame_in c.args.lossless.now.signals.now.game.now in (
-      c.in-Ok.ensures ∙ ap (λ (x : Signals). cell_count (frame_in x.game.now) c.classes.result.now.lists) c.signals.ensures.held
-          ∙ ap (cell_count f) (ap (λ (x : Filter). x.lists) c.classes.ensures.held ∙ c.requires.singles),
-      c.if-count.true,
-    )
+    let g = c.args.lossless.now.signals.now.game.now in
+    let f = frame_in g in
+    let count = c.in-Ok.ensures ∙ ap (λ (x : Signals). cell_count (frame_in x.game.now) c.classes.result.now.lists) c.signals.ensures.held
+        ∙ ap (cell_count f) (ap (λ (x : Filter). x.lists) c.classes.ensures.held ∙ c.requires.singles) in
+    let many = too_many_cells g c.args.lossless.now.classes.now.lists _ _ c.requires.singles c.requires.stop in
+    (count, subst (λ (n : ℕ). 16777216 < n) (sym count) many)

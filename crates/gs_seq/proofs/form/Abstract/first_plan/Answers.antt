@@ -1,6 +1,6 @@
-use Rattle.std.proofs.Common.{refl, arith, ap}
+use Rattle.std.proofs.Common.{◌≡◌, refl, arith, ap, sym}
 use Rattle.gs_model.specs.{Frame.{point_count}, Plans.{IsClassPlan}}
-use Rattle.gs_seq.specs.{Firsts.{AreFirstBefore}, Games.{frame_in}, Slots.{plan_of}}
+use Rattle.gs_seq.specs.{Abstracts.{abstract_frame, lists_of}, Firsts.{AreFirstBefore}, Games.{frame_in}, Slots.{AreOffsets, plan_of, slot_count}}
 use Rattle.gs_seq.proofs.{Firsts.{first_plan_is}, Forms.{carried}, Choices.{some_move}}
 use Rattle.gs_seq.proofs.form.Abstract.first_plan.Goals as goal
 
@@ -27,3 +27,15 @@ returns-clause-first c =
       one = refl;
       first = λ q k m l own h lo hi. (firsts q k l own h).others m lo hi;
     }
+
+pub first_weights-requires-clause-offsets : goal.first_weights-requires-clause-offsets
+first_weights-requires-clause-offsets c =
+    carried (λ f ls. AreOffsets f ls c.offsets.result.now) (sym (ap frame_in c.game.ensures)) (sym c.classes.ensures.lists) c.offsets.ensures
+
+pub first_weights-requires-clause-count : goal.first_weights-requires-clause-count
+first_weights-requires-clause-count c =
+    let a = c.args.self.now in
+    let p = c.args.player in
+    let same : slot_count (frame_in c.game.result.now) c.classes.result.now.lists p ≡ slot_count (abstract_frame a) (lists_of a) p =
+    carried (λ f ls. slot_count f ls p ≡ slot_count (abstract_frame a) (lists_of a) p) (sym (ap frame_in c.game.ensures)) (sym c.classes.ensures.lists) refl in
+    omega (arith, same, c.sequences-count.ensures)

@@ -1,5 +1,0 @@
-use Rattle.gs_laws.proofs.Told.{file_told}
-use Rattle.gs_laws.proofs.laws.accepted_are_told.Goals as goal
-
-pub returns : goal.returns
-returns c = file_told

@@ -1,5 +1,0 @@
-use Rattle.gs_laws.proofs.OneReading.{reads_one}
-use Rattle.gs_laws.proofs.laws.readings_are_one.Goals as goal
-
-pub returns : goal.returns
-returns c = reads_one
