@@ -1,3 +1,4 @@
 pub mod Decks
 pub mod Puts
 pub mod Kuhn
+pub mod Pivots

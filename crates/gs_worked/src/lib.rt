@@ -1,10 +1,10 @@
-//! Worked values of the definitions, as laws: two decks whose classes are known by hand, Kuhn's game after one turn of play, and the chips put in at
-//! ends. More values of cards and of Kuhn's game stand in `proofs/`.
+//! Worked values of the definitions, as laws: two decks whose classes are known by hand, Kuhn's game after one turn of play, the chips put in at ends,
+//! and the path of a linear program. More values of cards and of Kuhn's game stand in `proofs/`.
 //!
 //! The crate runs nothing: a function here is a law, and its contract names the values.
 #![tactic(auto)]
 
-ghost use Rattle.gs_worked.specs.{Decks.{OneRank, TwoSuits}, Kuhn.{KuhnPlay, KuhnVerdict}, Puts.{PutsAreChips}};
+ghost use Rattle.gs_worked.specs.{Decks.{OneRank, TwoSuits}, Kuhn.{KuhnPlay, KuhnVerdict}, Pivots.{TiedPath, TiedPivot}, Puts.{PutsAreChips}};
 
 /// Kuhn poker with two suits: hands of one rank are in one class, and hands of different ranks are not.
 pub fn two_suits()
@@ -29,4 +29,14 @@ pub fn kuhn_play()
 /// Kuhn poker after one turn of play: the value is 1/12, and the players could still gain 13/12 and 7/6.
 pub fn kuhn_verdict()
     ensures { KuhnVerdict }
+{}
+
+/// A linear program in three rows: Bland's rule makes one pivot, and the path ends.
+pub fn tied_path()
+    ensures { TiedPath }
+{}
+
+/// No other column can enter or leave in the first pivot of that program.
+pub fn tied_pivot()
+    ensures { TiedPivot }
 {}
