@@ -7,5 +7,6 @@ mod OneSettled
 mod OneProgram
 mod OneSolve
 mod OnePath
+mod OneEach
 mod OneDuel
 pub mod Answering

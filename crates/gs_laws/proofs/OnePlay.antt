@@ -8,12 +8,7 @@ use Rattle.gs_model.specs.Deals.{Deal}
 use Rattle.gs_model.specs.Frame.{Frame, ancestor, at_round, end_count, last_round, last_step, move_count, other_player, payoff_to, player_at, point_count, round_of, signal_count}
 use Rattle.gs_model.specs.{FrameFacts.{InRange, IsWalked}, Payoff.{number_at_end}, Plans.{Plan, lift, number_before}}
 use Rattle.gs_model.specs.{Play.{IsFictitiousPlay, IsFirstMoves, IsPlanSum}, Positions.{Step, at_end, at_point}}
-
--- two plans over classes with the same total and the same numbers
-pub record SameNumbers (f : Frame) (lists : ClassLists) (player : ℕ) (x y : Plan) : Type 0 where
-  pub total : x.total ≡ y.total
-  pub numbers : (q c m : ℕ) → q < point_count f → player_at f q ≡ player → IsClass lists (round_of f (at_point q)) c → m < move_count f q
-      → x.number q c m ≡ y.number q c m
+use Rattle.gs_laws.specs.Answers.{SameNumbers}
 
 -- what comes to a class at a point
 abbrev comes : Frame → ClassLists → ℕ → Plan → ℕ → ℕ → ℕ

@@ -4,5 +4,6 @@
 mod laws;
 
 pub use laws::{
-    answers_are_one, confirmed_are_evaluated, confirmed_have_no_trouble, printed_are_evaluated,
+    answers_are_one, confirmed_are_evaluated, confirmed_have_no_trouble, plays_are_one,
+    printed_are_evaluated, signal_classes_are_one, solutions_are_one,
 };

@@ -8,7 +8,7 @@ use Rattle.gs_bet.specs.{Grammar.{are_sound, is_sound}, MoveLists.{count, has_mo
 use Rattle.gs_bet.proofs.Letters.{at_most_26}
 use Rattle.gs_filter.proofs.ClassLaws.{greatest_within, single_are_classes, single_at}
 use Rattle.gs_filter.specs.Filter.{single_classes}
-use Rattle.gs_game.proofs.{MoneyLaws.{sound_act, sound_move, tree_sound}, Totals.{sum-total, total, total-append, total-places}}
+use Rattle.gs_game.proofs.{MoneyLaws.{sound_act, sound_move}, Totals.{sum-total, total, total-append, total-places}}
 use Rattle.gs_game.specs.Rules.{KeepsRules}
 use Rattle.gs_lossless.proofs.Descent.{first_end}
 use Rattle.gs_model.proofs.{Push.{le_greatest}, Ranges.{in_range, signal_count_is}, Tables.{kept}, Walked.{last_round_of, walked_one}}
@@ -128,8 +128,8 @@ module _ (W V : ℕ → ℕ) (n : ℕ) (weighs : (r : ℕ) → 0 < r → r ≤ n
         let b = moves_bound ms left d go_on player q (choice + 1) there m.others some top h in
         let points = total-append (λ (x : Point). W x.round * length x.moves) first.points others.walked.points in
         let ends = total-append (λ (z : End). V z.round) first.ends others.walked.ends in
-        let few = joined (moves_weigh W first.points) (moves_weigh W others.walked.points) (ends_weigh V first.ends) (ends_weigh V others.walked.ends) (left + d)
-        a.few b.few in
+        let few = joined (moves_weigh W first.points) (moves_weigh W others.walked.points) (ends_weigh V first.ends) (ends_weigh V others.walked.ends)
+        (left + d) a.few b.few in
         let weight = ap W same in
         record {
           few = subst (λ (x : ℕ). x ≤ (left + d) * ends_weigh V (first.ends ++ others.walked.ends)) (sym points)
@@ -189,7 +189,8 @@ some_any p (x ∷ xs) (suc k) d l h = elim (cases_Bool (p x)) [ inl e ↦ rw e r
 abbrev pub single : Game → ClassLists
 single g = single_classes (frame_of g).parents
 
-single_class : (g : Game) (round s : ℕ) → 0 < round → round ≤ last_round (frame_of g) → s < signal_count (frame_of g) round → class_of (single g) round s ≡ 1 + s
+single_class : (g : Game) (round s : ℕ) → 0 < round → round ≤ last_round (frame_of g) → s < signal_count (frame_of g) round
+    → class_of (single g) round s ≡ 1 + s
 single_class g round s some top l =
     ap (λ (xs : List ℕ). get_or xs s 0) (single_at (frame_of g).parents round some top) ∙ get_or-range_with_len 1 (signal_count (frame_of g) round) s 0 l
 
@@ -262,7 +263,8 @@ module _ (g : Game) (p : IsPlayable g) (lawful : KeepsRules g) where
         range_le f h (a + 1) n (λ k lo hi. e k (omega arith) (omega arith)),
       )
 
-  all_points : sum_by (λ q. signal_count (frame_of g) (round_of (frame_of g) (at_point q)) * move_count (frame_of g) q) (range_with_len 0 (point_count (frame_of g)))
+  all_points : sum_by (λ q. signal_count (frame_of g) (round_of (frame_of g) (at_point q)) * move_count (frame_of g) q)
+      (range_with_len 0 (point_count (frame_of g)))
       ≡ moves_weigh (λ r. signal_count (frame_of g) r) (frame_of g).points
   unfolding round_of move_count
   all_points =
@@ -336,7 +338,8 @@ points_few g p lawful sound =
     let n = lawful.rounds in
     let V = λ (i : ℕ). pair_count f (single g) i in
     let b = by (trees_of g) sound (trees_long g.rounds) in
-    omega (arith, cells_weigh g, wider (moves_weigh (λ (i : ℕ). signal_count f i) f.points) (16 * length g.rounds) 64 (ends_weigh V f.ends) b (omega (arith, n)))
+    let wide = wider (moves_weigh (λ (i : ℕ). signal_count f i) f.points) (16 * length g.rounds) 64 (ends_weigh V f.ends) b (omega (arith, n)) in
+    omega (arith, cells_weigh g, wide)
   where
     by : (ts : List Bet) → AllByRecursion (λ t. is_sound 16 t ≡ true) ts → length ts ≡ length g.rounds
         → moves_weigh (λ i. signal_count (frame_of g) i) (walk g.ante ts).points

@@ -190,7 +190,8 @@ after_one : (version : Version) (parts : Whole) (bytes : List ℕ) (x y : ReadRe
     → After (ReadsParts version parts) (IsCanonical version bytes) y → x ≡ y
 after_one version parts bytes x y h k =
     let e = parts_read version parts k.0 h.0 k.1 h.1 in
-    then_one h.0 (IsCanonical version bytes) x y (λ s. canonical_one version bytes s x y) h.2 (subst (λ (r : ReadResult). Then r (IsCanonical version bytes) y) e k.2)
+    then_one h.0 (IsCanonical version bytes) x y (λ s. canonical_one version bytes s x y) h.2
+    (subst (λ (r : ReadResult). Then r (IsCanonical version bytes) y) e k.2)
 
 -- bytes are read as one thing
 pub reads_one : (bytes : List ℕ) (x y : ReadResult) → Reads bytes x → Reads bytes y → x ≡ y

@@ -4,7 +4,7 @@ use Rattle.std.proofs.lemmas.List.{get_or_default}
 use Rattle.std.specs.Option.{ok_or}
 use Rattle.serde_json.specs.{Data.{Data}, Find.{as_str}}
 use Rattle.gs_file.specs.{Faults.{Fault as GameFault}, JsonLaws.{IsTold}, JsonReading.{json_game_at}, Reading.{FileGame, file_rules}}
-use Rattle.gs_file.specs.{declared.version.Version.{Version}, declared.version.Version.TheVariants.{Two}}
+use Rattle.gs_file.specs.declared.version.Version.{Version}
 use Rattle.gs_filter.proofs.ClassLaws.{greatest_within}
 use Rattle.gs_frac.specs.{declared.fault.FracFault.{FracFault}, Texts.{fraction_of}}
 use Rattle.gs_json.proofs.Outcomes.{clash, same}
@@ -13,13 +13,12 @@ use Rattle.gs_model.proofs.{Push.{le_greatest}, Ranges.{in_range}, Walked.{walke
 use Rattle.gs_model.proofs.{Gather.{known_from, firsts_from, plan_by}, Alike.{keeps_from}}
 use Rattle.gs_model.specs.{Classes.{ClassLists, list_of}, Frame.{Frame, last_round}, FrameFacts.{InRange, IsWalked}, Game.{IsPlayable}, Plans.{IsRawPlan}}
 use Rattle.gs_strategy.specs.Checks.{AreClasses, After, IsCanonical, IsClassFault, IsPlanFault, Reads, ReadsClasses, ReadsNumbers, ReadsParts, ReadsPlans, ReadsSecond, Unless}
-use Rattle.gs_strategy.specs.{Confirmed.{raw_plan}, Faults.{Fault, classes, fraction as no_fraction, plan, shape}, Values.{AreFractions}}
+use Rattle.gs_strategy.specs.{Confirmed.{raw_plan}, Faults.{Fault, classes, fraction as no_fraction, plan, shape}}
 use Rattle.gs_strategy.specs.Laws.{AreWeights, IsStrategy}
-use Rattle.gs_strategy.specs.Reading.{Whole, class_lists_at, fraction_at, stored_game_at, json_at, numbers_at, of_fraction, of_game, parts_at}
-use Rattle.gs_strategy.specs.Reading.{stored_version_at}
-use Rattle.gs_strategy.specs.Reading.{weights_at}
+use Rattle.gs_strategy.specs.Reading.{Whole, class_lists_at, fraction_at, json_at, numbers_at, of_fraction, of_game, parts_at, stored_game_at}
+use Rattle.gs_strategy.specs.Reading.{stored_version_at, weights_at}
 use Rattle.gs_strategy.specs.Texts.{strategy_data, strategy_text}
-use Rattle.gs_strategy.specs.Values.{FractionParts, IsFractionOf, ArePlanWeights, Numbers, Strategy, Weights, file_frame}
+use Rattle.gs_strategy.specs.Values.{AreFractions, ArePlanWeights, FractionParts, IsFractionOf, Numbers, Strategy, Weights, file_frame}
 use Rattle.gs_strategy.specs.declared.fault.FilePart.{FilePart}
 use Rattle.gs_strategy.proofs.OneText.{classes_are, game_is, json_is, numbers_are, parts_are, parts_of, version_is, weights_are}
 use Rattle.gs_strategy.specs.declared.fault.FilePart.TheVariants as part
@@ -51,8 +50,8 @@ few_classes version g lists t c r ds lr k d l =
       few_signals (file_rules g) t.lawful (r + 1) some top,
     )
 
-few_weights : (f : Frame) (player : ℕ) (g : FileGame) (lists : ClassLists) (w : Weights) → f ≡ file_frame g → InRange (file_frame g) → IsWalked (file_frame g) player
-    → AreClasses g lists → ArePlanWeights g lists player w → AreWeights w
+few_weights : (f : Frame) (player : ℕ) (g : FileGame) (lists : ClassLists) (w : Weights) → f ≡ file_frame g → InRange (file_frame g)
+    → IsWalked (file_frame g) player → AreClasses g lists → ArePlanWeights g lists player w → AreWeights w
 few_weights f player g lists w e r walked c p =
     let total = p.plan.total_in.1 in
     record {
@@ -213,7 +212,8 @@ text_is_read version s h =
     then_is (stored_game_at version parts.game) g (λ g. Then (class_lists_at parts.classes) (λ lists. ReadsClasses parts g lists)) read (game_is version s w)
     (then_is (class_lists_at parts.classes) lists (λ lists. ReadsClasses parts g lists) read (classes_are lists w.classes) classed) in
     let canonical : IsCanonical version bytes s read = inl (refl, refl) in
-    then_is (json_at bytes) d (λ d. Then (stored_version_at d) (λ version. Then (parts_at d) (λ parts. After (ReadsParts version parts) (IsCanonical version bytes))))
+    then_is (json_at bytes) d (λ d. Then (stored_version_at d) (λ version. Then (parts_at d) (λ parts.
+    After (ReadsParts version parts) (IsCanonical version bytes))))
     read (json_is version s w)
     (then_is (stored_version_at d) version (λ version. Then (parts_at d) (λ parts. After (ReadsParts version parts) (IsCanonical version bytes))) read
     (version_is version s)

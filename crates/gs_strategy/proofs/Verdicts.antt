@@ -85,7 +85,8 @@ made a b c = record { value = a; gap1 = b; gap2 = c }
 
 same_numbers : (n m : Numbers) → n.value ≡ m.value → n.gap1 ≡ m.gap1 → n.gap2 ≡ m.gap2 → n ≡ m
 same_numbers n m a b c =
-    ap (λ (v : FractionParts). made v n.gap1 n.gap2) a ∙ ap (λ (v : FractionParts). made m.value v n.gap2) b ∙ ap (λ (v : FractionParts). made m.value m.gap1 v) c
+    ap (λ (v : FractionParts). made v n.gap1 n.gap2) a ∙ ap (λ (v : FractionParts). made m.value v n.gap2) b
+    ∙ ap (λ (v : FractionParts). made m.value m.gap1 v) c
 
 -- two reduced fractions that are equal crosswise are one
 pub one_fraction : (p q : FractionParts) → IsFractionOf p → IsFractionOf q → (over p).0 *ℤ pos (over q).1 ≡ (over q).0 *ℤ pos (over p).1 → p ≡ q

@@ -16,6 +16,6 @@ returns-in-Ok c =
     let g = c.args.lossless.now.signals.now.game.now in
     let f = frame_in g in
     let count = c.in-Ok.ensures ∙ ap (λ (x : Signals). cell_count (frame_in x.game.now) c.classes.result.now.lists) c.signals.ensures.held
-        ∙ ap (cell_count f) (ap (λ (x : Filter). x.lists) c.classes.ensures.held ∙ c.requires.singles) in
+    ∙ ap (cell_count f) (ap (λ (x : Filter). x.lists) c.classes.ensures.held ∙ c.requires.singles) in
     let many = too_many_cells g c.args.lossless.now.classes.now.lists _ _ c.requires.singles c.requires.stop in
     (count, subst (λ (n : ℕ). 16777216 < n) (sym count) many)
