@@ -22,6 +22,8 @@ fn push_hand(
     ensures { OnOk result (string_bytes text.new ≡ string_bytes text.old
         ++ hand_line (deck_of signals.now) (rules_of signals.now) signal (parts_of value.now)) }
 {
+    // called only for what its contract says
+    let _rounds = signals.rounds();
     text.push_str("hand ")?;
     push_line(text, signals.text(alloc, 1, signal)?.as_str(), value)
 }
@@ -31,6 +33,7 @@ fn hands_text(alloc: Global, signals: &Signals, values: &[Fraction]) -> Result<S
     requires { length values.now ≡ length (signals_in (rules_of signals.now) 1) }
     ensures { IfOk result (λ t. string_bytes t ≡ text_of_hands (deck_of signals.now) (rules_of signals.now) (map parts_of values.now)) }
 {
+    let _rounds = signals.rounds();
     let mut text = String::new(alloc);
     for signal in 0..signals.count(1) {
         let value = &values[signal as usize];

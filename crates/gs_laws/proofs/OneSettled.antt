@@ -17,7 +17,7 @@ use Rattle.gs_strategy.proofs.Verdicts.{verdicts_one}
 use Rattle.gs_file.proofs.Dealt.{told_dealt, told_playable}
 use Rattle.gs_laws.specs.Answers.{SameNumbers}
 use Rattle.gs_laws.proofs.{OnePlay.{play_one}, OneStrategy.{limit_one}}
-use Rattle.gs_seq.proofs.Slots.{place_at}
+use Rattle.gs_seq.proofs.PlanSlots.{place_at}
 use Rattle.gs_file.proofs.Told.{file_told}
 use Rattle.gs_strategy.proofs.Verdicts.{scale_some}
 

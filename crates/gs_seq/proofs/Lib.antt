@@ -31,4 +31,4 @@ pub mod Signed
 pub mod Singles
 pub mod Stopped
 pub mod Turns
-pub mod Slots
+pub mod PlanSlots

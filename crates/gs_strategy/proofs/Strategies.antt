@@ -25,7 +25,7 @@ use Rattle.gs_strategy.specs.declared.fault.FilePart.TheVariants as part
 use Rattle.gs_strategy.specs.RawPlans.{AreRawPlans}
 use Rattle.gs_file.proofs.{Dealt.{few_signals, told_dealt, told_playable}, Told.{json_told}}
 use Rattle.gs_frac.proofs.Fractions.{read_fraction}
-use Rattle.gs_seq.proofs.Slots.{weights_within}
+use Rattle.gs_seq.proofs.PlanSlots.{weights_within}
 
 -- ---- a strategy from its parts
 

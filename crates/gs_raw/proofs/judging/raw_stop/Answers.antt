@@ -1,8 +1,9 @@
 use Rattle.std.proofs.Common.{ℕ, ◌<◌, ap, sym, ◌∙◌, subst}
 use Rattle.gs_filter.specs.Filter.{Filter}
 use Rattle.gs_model.specs.Lossless.{IsLossless}
-use Rattle.gs_seq.specs.{Cells.{cell_count}, Games.{frame_in}}
+use Rattle.gs_seq.specs.{Cells.{cell_count}, Games.{frame_in}, Stops.{IsStopAt}}
 use Rattle.gs_tree.specs.declared.signals.Signals.{Signals}
+use Rattle.gs_raw.specs.Answers.{raw_limits}
 use Rattle.gs_raw.proofs.TooMany.{too_many_cells}
 use Rattle.gs_raw.proofs.judging.raw_stop.Goals as goal
 
@@ -17,5 +18,6 @@ returns-in-Ok c =
     let f = frame_in g in
     let count = c.in-Ok.ensures ∙ ap (λ (x : Signals). cell_count (frame_in x.game.now) c.classes.result.now.lists) c.signals.ensures.held
     ∙ ap (cell_count f) (ap (λ (x : Filter). x.lists) c.classes.ensures.held ∙ c.requires.singles) in
-    let many = too_many_cells g c.args.lossless.now.classes.now.lists _ _ c.requires.singles c.requires.stop in
+    let stop = subst (IsStopAt raw_limits f c.args.lossless.now.classes.now.lists) c.in-TooManySequences.is c.requires.stop in
+    let many = too_many_cells g c.args.lossless.now.classes.now.lists _ _ c.requires.singles stop in
     (count, subst (λ (n : ℕ). 16777216 < n) (sym count) many)

@@ -5,18 +5,15 @@ use Rattle.gs_model.specs.{Frame.{end_at}, Sums.{sum_z}}
 use Rattle.gs_model.proofs.Sparse.{abs_sum}
 use Rattle.gs_seq.specs.{Abstracts.{game_in, abstract_frame, lists_of}, Payoffs.{pair_pays}, declared.pair.Pair.{Pair}}
 use Rattle.gs_seq.proofs.{Sizes.{modest}, Turns.{IsKnown, IsTurn, begun, known, none_passed, passed, sum_ended, sum_turned, turn}}
-use Rattle.gs_solve.specs.{Laws.{IsForm}, Layout.{cell_at, class_adds, end_sequence}, Programs.{unit}, Sequences.{form_sizes}}
+use Rattle.gs_solve.specs.{Layout.{cell_at, class_adds, end_sequence}, Programs.{unit}, Sequences.{form_sizes}}
 use Rattle.gs_solve.proofs.{AddedCells.{added_none, added_same, added_then, added_within}, Cells.{first_in, pair_adds, prefix_small, row_adds, second_in}}
-use Rattle.gs_solve.proofs.{EndSteps.{form_is}, payoffs.add_row.Goals.{After-pays, After-round_total-rounds, After-sequence_at-two, In-Some}}
+use Rattle.gs_solve.proofs.{EndSteps.{form_is}, payoffs.add_row.Goals.{After-pays, After-sequence_at-two, In-Some}}
 use Rattle.gs_solve.proofs.payoffs.add_row.Goals as goal
-
-form : (c : After-round_total-rounds) → IsForm (abstract_frame c.args.form.now) (lists_of c.args.form.now)
-form c = form_is c.args.form.now
 
 -- where the walk stands, and what is known of the pair there
 at_pair : (c : In-Some) → IsTurn {X = Pair} c.args.row c.loop-pair.pair-iterator c.next.new.self c.in-Some.pair × IsKnown (abstract_frame c.args.form.now) (lists_of c.args.form.now) 1 c.args.end c.in-Some.pair
 at_pair c =
-    let u = form (goal.at.In-Some c).After-round_total-rounds in
+    let u = form_is c.args.form.now in
     let t = turn {X = Pair} c.args.row c.loop-pair.pair-iterator c.next.new.self c.in-Some.pair c.loop-pair.invariant.on c.in-Some.ensures.steps in (
       t,
       known (abstract_frame c.args.form.now) u.in_range (lists_of c.args.form.now) u.classes 1 u.one (modest (game_in c.args.form.now)) c.args.end c.requires.end c.args.class c.args.row c.requires.row c.loop-pair.pair-iterator
@@ -29,7 +26,7 @@ inside c =
     let f = abstract_frame c.args.form.now in
     let ls = lists_of c.args.form.now in
     let at = goal.at.After-sequence_at-two c in
-    let u = form at.After-round_total-rounds in
+    let u = form_is c.args.form.now in
     let n = form_sizes f ls in
     let k : c.sequence_at-one.result < n.ones = omega (arith, c.sequence_at-one.ensures, first_in f ls u c.args.end c.args.class c.requires.end c.requires.class) in
     let l : c.sequence_at-two.result < c.args.twos = omega (arith, c.sequence_at-two.ensures, second_in f ls u c.args.end c.in-Some.pair.two c.requires.end (at_pair at.In-Some).1.class, c.requires.twos) in
@@ -62,7 +59,7 @@ add-requires-clause-fits c =
     let f = abstract_frame c.args.form.now in
     let ls = lists_of c.args.form.now in
     let z = c.args.end in
-    let u = form at.After-round_total-rounds in
+    let u = form_is c.args.form.now in
     let k = (at_pair at.In-Some).1 in
     let row : List Pair = c.args.row in
     let i = passed row c.loop-pair.pair-iterator in
@@ -99,7 +96,7 @@ pub returns : goal.returns
 returns c =
     let f = abstract_frame c.args.form.now in
     let ls = lists_of c.args.form.now in
-    let u = form (goal.at.returns c).After-round_total-rounds in
+    let u = form_is c.args.form.now in
     let row : List Pair = c.args.row in
     let v = pair_adds f ls c.args.end c.args.class in
     added_same (λ k. sum_z (v k) (take (passed row c.loop-pair.pair-iterator) row)) (class_adds f ls c.args.end c.args.class) c.args.sums.now c.loop-pair.sums c.loop-pair.invariant.added
