@@ -23,7 +23,7 @@ following c = carried c.args.ledger.now c.args.totals.now c.args.point c.of-at.r
 pub of-at-requires-clause-modest : goal.of-at-requires-clause-modest
 of-at-requires-clause-modest c =
     let k = c.args.ledger.now in
-    λ s. known_modest k.role s k.other.now k.plan c.args.totals.now.points.items (moves_in k.role c.args.picks.now) (c.args.point + 1) c.requires.later
+    known_modest k.role k.other.now k.plan c.args.totals.now.points.items (moves_in k.role c.args.picks.now) (c.args.point + 1) c.requires.later
 
 pub copy_values-requires-clause-row : goal.copy_values-requires-clause-row
 copy_values-requires-clause-row c =

@@ -20,10 +20,10 @@ rises c = carried _ c.args.course.now.steps.now c.args.point c.of-step.result c.
     (λ k t q. AreWorths (role_frame k.role) (role_lists k.role) (total_worth (role_frame k.role) (role_lists k.role) (totals_in k.role k.other.now t.points.items)) q c.args.choice c.read_worths-rise.result.now) c.read_worths-rise.ensures.worths
 
 pub of-now-requires-clause-modest : goal.of-now-requires-clause-modest
-of-now-requires-clause-modest c = λ s. now_modest c.args.course.now s (c.args.point + 1)
+of-now-requires-clause-modest c = now_modest c.args.course.now (c.args.point + 1)
 
 pub of-step-requires-clause-modest : goal.of-step-requires-clause-modest
-of-step-requires-clause-modest c = λ s. added_modest c.args.course.now s (c.args.point + 1)
+of-step-requires-clause-modest c = added_modest c.args.course.now (c.args.point + 1)
 
 pub read_worths-worth-requires-clause-choice : goal.read_worths-worth-requires-clause-choice
 read_worths-worth-requires-clause-choice c = brought _ c.args.course.now.totals.now c.args.point c.of-now.result c.of-now.ensures.ledger c.of-now.ensures.totals c.of-now.ensures.point (λ k t q. c.args.choice < move_count (role_frame k.role) q) c.requires.choice
