@@ -3,7 +3,7 @@
 from fractions import Fraction
 
 from atlas_games import LEDUC, PLAYED, RHODE, name_of
-from texts import decimal, span
+from texts import decimal, outwards, span
 
 NAMES = {"kuhn": "Kuhn", "leduc": "Leduc", "rhode": "Rhode Island"}
 
@@ -39,12 +39,16 @@ def favoured(rows):
     even = [deck for deck, row in rows.items() if row.is_exact() and row.value == 0]
     below = [deck for deck, row in rows.items() if high(row) < 0]
     above = [deck for deck, row in rows.items() if low(row) > 0]
-    yield "Player 2, who acts second, is favoured in %d of %d games: their upper bound is below 0." % (len(below), len(rows)), "all rows"
-    yield "Player 1 is favoured in %s." % (grouped(above) or "none"), "all rows: the lower bound is above 0 in %s" % (len(above) or "none")
-    yield "%d games are even: value and both gaps are exactly 0." % len(even), grouped(even)
     left = [deck for deck in rows if deck not in even + below + above]
+    yield "Player 2, who acts second, is favoured in %d of the %d games besides Kuhn's: the upper bound is below 0." % (len(below), len(rows)), "all rows below but those of the next lines"
+    if above:
+        yield "Player 1 is favoured in %d: the lower bound is above 0." % len(above), grouped(above)
+    else:
+        yield "Player 1 is favoured in none: no lower bound is above 0.", "all rows below"
+    yield "%d games are even: value and both gaps are exactly 0." % len(even), grouped(even)
     if left:
-        yield "In %d game%s the bracket has 0 in it and more." % (len(left), "s" * (len(left) > 1)), grouped(left)
+        known = ", and the exact solver finds 0" if all(rows[deck].exact() == "0" for deck in left) else ""
+        yield "In %d game%s a bracket wider than 0 contains 0%s." % (len(left), "s" * (len(left) > 1), known), grouped(left)
 
 
 def of(rows, kind, test):
@@ -55,13 +59,14 @@ def ranges(rows):
     """Between which numbers the values lie."""
     for kind, text, test in (
         ("leduc", "Leduc of three or more ranks and two or more suits", lambda r, s, c: r >= 3 and s >= 2),
+        ("leduc", "Leduc of eight or more ranks and two or more suits", lambda r, s, c: r >= 8 and s >= 2),
         ("leduc", "Leduc of one suit, where nobody can pair, and four or more ranks", lambda r, s, c: r >= 4 and s == 1),
         ("rhode", "Rhode Island of three or more ranks", lambda r, s, c: r >= 3),
     ):
         chosen = of(rows, kind, test)
         if chosen:
             least, a, most, b = ends(chosen)
-            yield "%s is worth from %s to %s chips a deal, rounded outwards." % (text, least, most), "%d rows; the ends are %s and %s" % (len(chosen), a, b)
+            yield "%s is worth from %s to %s chips a deal, rounded outwards." % (text, least, most), "%d rows; the least is that of %s, the greatest that of %s" % (len(chosen), a, b)
 
 
 def change(rows, kind, at, now):
@@ -71,9 +76,17 @@ def change(rows, kind, at, now):
     pairs = {deck: (rows[moved(deck)], rows[deck]) for deck in decks}
     fall = [deck for deck, (before, after) in pairs.items() if high(after) < low(before)]
     rise = [deck for deck, (before, after) in pairs.items() if low(after) > high(before)]
-    same = [deck for deck, (before, after) in pairs.items() if deck not in fall + rise and before.exact() == after.exact()]
+    same = [deck for deck, (before, after) in pairs.items() if deck not in fall + rise and before.exact() and before.exact() == after.exact()]
     size = {deck: abs(after.value - before.value) for deck, (before, after) in pairs.items()}
     return decks, fall, rise, same, max(decks, key=size.get) if decks else None, size
+
+
+def rarer(fall, rise, same):
+    """Returns which decks move as fewer decks do, and which do not move, as a text behind a colon."""
+    few, word = min((rise, "rises"), (fall, "falls"), key=lambda pair: len(pair[0]))
+    parts = ["it %s in %s" % (word, grouped(few))] if few else []
+    parts += ["it stays in %s" % grouped(same)] if same else []
+    return "".join(part + "; " for part in parts)
 
 
 def changes(rows, kind, at, name, steps):
@@ -81,12 +94,12 @@ def changes(rows, kind, at, name, steps):
     for now in steps:
         decks, fall, rise, same, most, size = change(rows, kind, at, now)
         if decks:
-            left = len(decks) - len(fall) - len(rise)
+            left = len(decks) - len(fall) - len(rise) - len(same)
             text = "From %s the value of %s falls in %d of %d decks of three or more ranks and rises in %d"
             text %= name % (now - 1, now), NAMES[kind], len(fall), len(decks), len(rise)
-            equal = ", and the exact values are equal in %d of them" % len(same) if same else ""
-            text += "; in %d the brackets meet%s." % (left, equal) if left else "."
-            yield text, "the largest change, %s chips, has %s" % (decimal(size[most], 4), named(most))
+            text += "; in %d the brackets overlap and the exact values are equal" % len(same) if same else ""
+            text += "; in %d the brackets overlap" % left if left else ""
+            yield text + ".", "%sthe largest change, %s chips, is that of %s" % (rarer(fall, rise, same), decimal(size[most], 4), named(most))
 
 
 def suits(rows):
@@ -113,12 +126,8 @@ def ranks(rows):
             mixed += [(suit, cap)] if fall and rise else []
     if whole:
         others = ", ".join("%d suit%s with cap %d" % (suit, "s" * (suit > 1), cap) for suit, cap in whole if (suit, cap) not in mixed)
-        text = "With the ranks the value of Leduc moves both ways for %d of %d pairs of suits and cap."
+        text = "As ranks are added one by one, the value of Leduc rises at some steps and falls at others for %d of %d pairs of suits and cap."
         yield text % (len(mixed), len(whole)), "all but %s" % others if others else "Leduc's rows of three or more ranks"
-    late = of(rows, "leduc", lambda r, s, c: r >= 8 and s >= 2)
-    if late:
-        least, a, most, b = ends(late)
-        yield "From 8 ranks and two suits on the values of Leduc lie close together, from %s to %s." % (least, most), "%d rows; the ends are %s and %s" % (len(late), a, b)
 
 
 def isomorphism(rows, cache):
@@ -135,15 +144,16 @@ def isomorphism(rows, cache):
     if free:
         yield "In %d games the classes are not lossless and the plans found over them still lose less than 10^-9." % len(free), grouped(free)
     if cost:
-        least, most = min(cost, key=lambda deck: sum(lost[deck])), max(cost, key=lambda deck: sum(lost[deck]))
-        text = "In the other %d games plans that are optimal over the isomorphism classes leave both players together from %s to %s chips a deal."
-        yield text % (len(cost), decimal(sum(lost[least]), 4), decimal(sum(lost[most]), 4)), "%s has least, %s most" % (named(least), named(most))
+        both = {deck: sum(lost[deck]) for deck in cost}
+        least, most = min(cost, key=both.get), max(cost, key=both.get)
+        text = "In the other %d games the classes are not lossless, and both gaps on raw cards together are from %s to %s chips a deal, rounded outwards."
+        yield text % (len(cost), outwards(both[least], 4)[0], outwards(both[most], 4)[1]), "%s has the least, %s the most" % (named(least), named(most))
         for suit in (2, 4):
             line = sorted(deck for deck in cost if deck[0] == "leduc" and deck[2:] == (suit, 2))
             if line:
                 first, last = line[0], line[-1]
-                text = "Of Leduc with %d suits and cap 2 they leave %s at %d ranks and %s at %d."
-                yield text % (suit, decimal(sum(lost[first]), 4), first[1], decimal(sum(lost[last]), 4), last[1]), "%s and %s" % (named(first), named(last))
+                text = "For Leduc of %d suits and cap 2 both gaps together are %s at %d ranks and %s at %d."
+                yield text % (suit, decimal(both[first], 4), first[1], decimal(both[last], 4), last[1]), "%s and %s" % (named(first), named(last))
 
 
 def play(cache):
@@ -152,8 +162,8 @@ def play(cache):
     both = {deck: {int(n): Fraction(one) + Fraction(two) for n, (_, one, two) in record["turns"].items()} for deck, record in records.items() if "turns" in record}
     if both:
         factors = [found[10**k] / found[10 ** (k + 1)] for found in both.values() for k in (3, 4, 5)]
-        text = "From 1,000 turns of play on, ten times as many turns divide both gaps together by %s to %s."
-        yield text % (decimal(min(factors), 1), decimal(max(factors), 1)), "%s, up to 1,000,000 turns" % ", ".join(map(named, both))
+        text = "From 1,000 turns of `play` on, ten times as many turns divide the sum of both gaps by %s to %s."
+        yield text % (outwards(min(factors), 1)[0], outwards(max(factors), 1)[1]), "%s, up to 1,000,000 turns; [gaps_by_turns.csv](atlas/gaps_by_turns.csv)" % ", ".join(map(named, both))
 
 
 def claims(rows, cache):

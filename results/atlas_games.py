@@ -9,6 +9,8 @@ import json
 import lzma
 import math
 import os
+import resource
+import signal
 import subprocess
 import tempfile
 import time
@@ -23,6 +25,7 @@ RANKS, SUITS = range(2, 14), range(1, 5)
 KUHN = [("kuhn", ranks, suits, cap) for ranks in RANKS for suits in SUITS for cap in range(9)]
 LEDUC = [("leduc", ranks, suits, cap) for ranks in RANKS for suits in SUITS for cap in range(1, 5)]
 RHODE = [("rhode", ranks, suits, cap) for ranks in range(2, 7) for suits in range(2, 5) for cap in range(1, 4)]
+LOSSY = [deck for deck in LEDUC + RHODE if deck[0] == "leduc" or deck[3] == 1]
 PLAYED = [("kuhn", 3, 1, 1), ("kuhn", 13, 4, 2), ("leduc", 3, 2, 2), ("leduc", 13, 4, 1), ("rhode", 3, 4, 1)]
 TURNS = sorted({n * 10**k for n in (1, 2, 3, 5, 7) for k in range(6)} | {10**6})
 WIDEST = Fraction(1, 10**9)
@@ -33,6 +36,10 @@ SOLVE_SECONDS, TRIES = 60, 12
 
 class Refused(Exception):
     """The line of a refusal by the program."""
+
+
+class Stopped(Exception):
+    """Why a piece of work did not end within the hours of its run."""
 
 
 class Judge(Program):
@@ -65,6 +72,11 @@ class Judge(Program):
 
 def name_of(deck):
     return "%s_%d_%d_%d" % tuple(deck)
+
+
+def reason(record):
+    """Returns why a record has no numbers, or has numbers that do not serve; nothing where they do."""
+    return record.get("refused") or record.get("failed") or record.get("stopped")
 
 
 # ---- the cache
@@ -255,10 +267,13 @@ def lost(judge, deck, cache, seconds):
 
 def own_solution(judge, deck, _cache, _seconds):
     """Returns the value that `solve` finds, or the line of its refusal."""
-    try:
-        done = subprocess.run([judge.path, "solve"], input=judge.game(deck).encode(), capture_output=True, check=False, timeout=SOLVE_SECONDS)
-    except subprocess.TimeoutExpired:
-        return {"refused": "not ended within %d seconds" % SOLVE_SECONDS}
+
+    def limit():
+        resource.setrlimit(resource.RLIMIT_CPU, (SOLVE_SECONDS, SOLVE_SECONDS))
+
+    done = subprocess.run([judge.path, "solve"], input=judge.game(deck).encode(), capture_output=True, preexec_fn=limit, check=False)
+    if done.returncode < 0:
+        return {"refused": "not ended within %d processor seconds" % SOLVE_SECONDS}
     return {"refused": done.stderr.decode().strip()} if done.returncode else {"value": json.loads(done.stdout)["value"]}
 
 
@@ -281,19 +296,39 @@ def size(deck):
 def jobs():
     """Returns all work: the name of each record, what makes it, and its deck; what takes least time first."""
     decks = [(kind, ranks, suits, 1) for kind in ROUNDS for ranks in RANKS for suits in SUITS]
-    lossy = [deck for deck in LEDUC + RHODE if deck[0] == "leduc" or deck[3] == 1]
     small = [deck for deck in LEDUC + RHODE if deck[1] <= 5 and deck[3] <= 2]
     work = [("classes_", classed, decks), ("", solved, KUHN + LEDUC + RHODE), ("solve_", own_solution, KUHN + small)]
-    work += [("isomorphic_", lost, lossy), ("play_", played, PLAYED)]
+    work += [("isomorphic_", lost, LOSSY), ("play_", played, PLAYED)]
     named = [(prefix + name_of(deck), make, deck) for prefix, make, decks in work for deck in decks]
     return sorted(named, key=lambda job: size(job[2]))
 
 
-def done(cache, judge, name, make, deck, seconds):
-    """Makes a record and keeps it; a refusal and a failure are records too."""
+def in_time(end, work):
+    """Returns what work returns, or raises Stopped at a time of the clock; without one it waits for as long as the work takes."""
+    if end is None:
+        return work()
+    left = end - time.time()
+    if left <= 0:
+        raise Stopped("not begun when the run ended")
+
+    def stop(*_):
+        raise Stopped("stopped after %d minutes, when the run ended" % (left // 60))
+
+    signal.signal(signal.SIGALRM, stop)
+    signal.setitimer(signal.ITIMER_REAL, left)
+    try:
+        return work()
+    finally:
+        signal.setitimer(signal.ITIMER_REAL, 0)
+
+
+def done(cache, judge, name, make, deck, seconds, end):
+    """Makes a record and keeps it; a refusal, a failure and the end of the run are records too."""
     begun = time.time()
     try:
-        record = make(judge, deck, cache, seconds)
+        record = in_time(end, lambda: make(judge, deck, cache, seconds))
+    except Stopped as stopped:
+        record = {"stopped": str(stopped)}
     except Refused as refusal:
         record = {"refused": str(refusal)}
     except atlas_solvers.Failure as failure:

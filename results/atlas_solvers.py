@@ -23,7 +23,7 @@ class Optimum:
     seconds: float
 
 
-MEMORY = 8 * 2**30
+MEMORY = 6 * 2**30
 
 
 class Failure(Exception):
@@ -31,7 +31,7 @@ class Failure(Exception):
 
 
 def run_solver(folder, words, seconds):
-    """Runs a solver of at most so many processor seconds and 8 GiB; returns what it printed and the seconds that it took."""
+    """Runs a solver of at most so many processor seconds and 6 GiB; returns what it printed and the seconds that it took."""
 
     def limit():
         resource.setrlimit(resource.RLIMIT_CPU, (seconds, seconds))
@@ -43,7 +43,8 @@ def run_solver(folder, words, seconds):
     took = after.ru_utime + after.ru_stime - before.ru_utime - before.ru_stime
     if done.returncode < 0 and took >= seconds - 1:
         raise Failure("%s did not end within %d processor seconds" % (words[0], seconds))
-    return done.stdout.decode(errors="replace"), took
+    ended = " (ended by signal %d)" % -done.returncode if done.returncode < 0 else ""
+    return done.stdout.decode(errors="replace") + ended, took
 
 
 def read(folder, name):

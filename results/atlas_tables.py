@@ -1,14 +1,14 @@
 """docs/ATLAS.md and docs/atlas/: the tables of the atlas, its CSV, its stored strategies and its pictures, from the records of the cache."""
 
 import gzip
-import json
 import os
 from dataclasses import dataclass
 from fractions import Fraction
 
 import atlas_pictures
+import atlas_runs
 from atlas_claims import NAMES, claims, grouped
-from atlas_games import KUHN, LEDUC, NUMBERS, PLAYED, RANKS, RHODE, ROUNDS, SUITS, name_of
+from atlas_games import KUHN, LEDUC, LOSSY, NUMBERS, PLAYED, RANKS, RHODE, name_of, reason
 from program import TOP
 from texts import decimal, listed, number, outwards, small, table, write_csv
 
@@ -79,7 +79,7 @@ def csv_row(cache, deck, row, record):
     sizes += record.get("sequences", ["", ""])
     own = cache.record("solve_" + name_of(deck)) or {}
     found = own.get("value") or own.get("refused", "")
-    note = record.get("refused") or record.get("failed") or ""
+    note = reason(record) or ""
     if row is None:
         return [*deck, *sizes, *[""] * 8, found, *[""] * 4, note]
     exact = row.exact() or ""
@@ -186,11 +186,17 @@ def of_kind(rows, kind):
 
 
 def failed_lines(others):
-    """Returns the games without a bracket, by reason."""
+    """Returns what has no numbers, by reason."""
     reasons = {}
     for deck, record in others:
-        reasons.setdefault(record.get("refused") or record.get("failed"), []).append(deck)
-    return ["- `%s`: %s." % (reason, grouped(decks)) for reason, decks in reasons.items()]
+        reasons.setdefault(reason(record), []).append(deck)
+    return ["- `%s`: %s." % (why, grouped(decks)) for why, decks in reasons.items()]
+
+
+def without_losses(cache):
+    """Returns the decks, with their records, for which it was not found what the isomorphism classes lose."""
+    found = [(deck, cache.record("isomorphic_" + name_of(deck)) or {"failed": "not tried"}) for deck in LOSSY]
+    return [(deck, record) for deck, record in found if "gap1" not in record]
 
 
 def stored_table(rows, sizes):
@@ -210,30 +216,6 @@ def lost_table(cache):
     return table(["game", "ranks", "suits", "cap", "value", "gap 1 on raw cards", "gap 2 on raw cards"], cells)
 
 
-def runs_of(cache):
-    """Returns what the cache notes of its runs."""
-    path = cache.path("runs.jsonl")
-    if not os.path.exists(path):
-        return []
-    with open(path, encoding="ascii") as file:
-        return [json.loads(line) for line in file]
-
-
-def run_lines(cache):
-    """Returns what the runs did, when and how long."""
-    lines = []
-    for run in runs_of(cache):
-        some = " of `--only %s`" % run["only"] if run["only"] else ""
-        if run["run"] == "worked":
-            what = "%d records made%s%s" % (run["records"], some, "" if run["whole"] else ", broken off")
-        else:
-            numbers = run["records"] - run["wrong"], some, run["wrong"]
-            what = "%d records%s confirmed, %d otherwise" % numbers + ("" if run["whole"] else ", broken off")
-        took = "%d s" % run["seconds"] if run["seconds"] < 600 else "%.1f hours" % (run["seconds"] / 3600)
-        lines.append("| %s | %s | %d | `%s` | %s |" % (run["when"], took, run["processes"], run["program"][:16], what))
-    return ["| begun, UTC | took | processes | program's sha256 | what |", "| --- | --- | --- | --- | --- |", *lines]
-
-
 def seconds_of(rows):
     return sum(sum(row.record["seconds"]) for row in rows.values()) / 3600
 
@@ -250,10 +232,11 @@ def head_lines(rows, kuhn):
         "",
         "The atlas has %d games: %d Leduc decks, %d Rhode Island decks and %d Kuhn decks, as `./gameshrink make` prints them." % (len(both), len(of_kind(rows, "leduc")), len(of_kind(rows, "rhode")), len(kuhn)),
         "Each has plans of both players whose value and gaps the program computed exactly. The widest bracket is %s." % small(widest.gap1 + widest.gap2),
-        "For %d games QSopt_ex, an exact solver, gives the value as a fraction too; each lies in its bracket." % named,
+        "For %d of them QSopt_ex, an exact solver, gives the value as a fraction too; each fraction lies in its bracket." % named,
         "In %d games both gaps are 0, so the program alone proves the fraction; among them are %d of Kuhn's %d." % (len(proved), len(of_kind(proved, "kuhn")), len(kuhn)),
+        "[Runs](#runs) says when all this was made, how long it took, and on what.",
         "",
-        "The value is what player 1, who acts first, gets on average a deal, in chips. The ante is 1 in Kuhn and Leduc and 5 in Rhode Island. A deck is named by ranks, suits and cap: "
+        "The value is what player 1, who acts first, gets on average a deal, in chips. The ante is 1 in Kuhn and Leduc and 5 in Rhode Island; a bet is 1 in Kuhn, 2 and then 4 in Leduc, 10 and then 20 and 20 in Rhode Island. A deck is named by ranks, suits and cap: "
         "Leduc 3/2/2 has three ranks and two suits, and at most one bet and one raise a round.",
         "",
         "**How a row is made.** Clp solves the linear program of the game in sequence form over the coarsest lossless classes. QSopt_ex begins at Clp's basis and solves it exactly. "
@@ -261,7 +244,8 @@ def head_lines(rows, kuhn):
         "Where a game has too many pairs of raw signals for `judge`, `evaluate` alone does both. "
         "So no number of the bracket rests on a solver: the value lies between the plans' value less gap 2 and their value plus gap 1. The exact fractions rest on QSopt_ex where a gap is not 0.",
         "",
-        "**How to check a row.** A [stored strategy](#stored-strategies) needs the program alone. `results/atlas CACHE` makes any row again, and `results/atlas CACHE --confirm` has the program judge all strategies of a run again. "
+        "**How to check a row.** A [stored strategy](#stored-strategies) needs the program alone. `results/atlas CACHE --only leduc_3_2_2` makes that row again in the folder CACHE; with the same solvers the strategy has the checksum of games.csv. "
+        "`results/atlas CACHE --confirm` has the program judge all strategies of a run again. "
         "`tools/recheck.py` computes value and gaps a second time, without the program.",
         "",
         "**Columns.** Classes are the coarsest lossless ones, round by round. Sequences count the empty one; both players have as many. Bounds are rounded outwards and gaps up. "
@@ -269,6 +253,7 @@ def head_lines(rows, kuhn):
         "Seconds are processor seconds of Clp and of QSopt_ex.",
         "",
         "**CSV.** [games.csv](atlas/games.csv) has every game with its numbers as fractions, what `solve` finds, and the checksum of its strategy; its bounds are decimals rounded outwards. "
+        "Counts for each round stand in one cell, in the order of the rounds. A game without numbers has the reason under `note`. "
         "[isomorphism.csv](atlas/isomorphism.csv) has what the isomorphism classes lose. The class counts of all decks stand in [results/csv/classes.csv](../results/csv/classes.csv).",
         "",
     ]
@@ -315,13 +300,16 @@ def stored_lines(rows, sizes):
 
 
 def lost_lines(cache):
+    missing = without_losses(cache)
     return [
         "## What the isomorphism classes lose",
         "",
-        "The same work over the classes of `shrink`: plans that are optimal where both players see these classes alone, judged on raw cards. Other optimal plans over the same classes may have other gaps.",
+        "The same work over the classes of `shrink`: plans that are optimal where both players see these classes alone, rounded as above and judged on raw cards. "
+        "Other optimal plans over the same classes may have other gaps. For Rhode Island only cap 1 was tried.",
         "",
         *lost_table(cache),
         "",
+        *(["Not found:", "", *failed_lines(missing), ""] if missing else []),
     ]
 
 
@@ -339,6 +327,6 @@ def write(cache, judge):
         lines += ["## %s" % NAMES[kind], "", *game_table(of_kind(rows, kind)), ""]
     lines += lost_lines(cache) + picture_lines() + stored_lines({**rows, **kuhn}, sizes)
     lines += ["## What is not here", "", "The exact values of Kuhn's decks stand in [RESULTS.md](RESULTS.md) too.", "", *failed_lines(others + left), ""]
-    lines += ["## Runs", "", "The solvers took %.2f processor hours for the games above. Runs of `results/atlas`:" % seconds_of({**rows, **kuhn}), "", *run_lines(cache)]
+    lines += ["## Runs", "", "The solvers took %.2f processor hours for the games above. Runs of `results/atlas`:" % seconds_of({**rows, **kuhn}), "", *atlas_runs.lines(cache)]
     with open(os.path.join(TOP, "docs", "ATLAS.md"), "w", encoding="ascii") as file:
         file.write("\n".join(lines) + "\n")
