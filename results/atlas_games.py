@@ -342,12 +342,14 @@ def confirmed(cache, judge, name, make, deck):
     """Has the program judge a record's strategy again, or solve its game again; returns what is wrong, an empty text where nothing is, and
     nothing where the record has neither."""
     record = cache.record(name)
-    if make is own_solution and record:
+    if record is None or "stopped" in record:
+        return None
+    if make is own_solution:
         again = own_solution(judge, deck, cache, None)
         if "value" not in record:
             cache.keep(name, {**record, **again})
         return "" if again.get("value") == record.get("value") or "value" not in record else "%s: solve finds otherwise" % name
-    if record is None or "sha256" not in record:
+    if "sha256" not in record:
         return None
     text = cache.strategy(name)
     if hashlib.sha256(text.encode()).hexdigest() != record["sha256"]:

@@ -232,7 +232,7 @@ def head_lines(rows, kuhn):
         "",
         "The atlas has %d games: %d Leduc decks, %d Rhode Island decks and %d Kuhn decks, as `./gameshrink make` prints them." % (len(both), len(of_kind(rows, "leduc")), len(of_kind(rows, "rhode")), len(kuhn)),
         "Each has plans of both players whose value and gaps the program computed exactly. The widest bracket is %s." % small(widest.gap1 + widest.gap2),
-        "For %d of them QSopt_ex, an exact solver, gives the value as a fraction too; each fraction lies in its bracket." % named,
+        "For %s of them QSopt_ex, an exact solver, gives the value as a fraction too; each fraction lies in its bracket." % ("all" if named == len(both) else named),
         "In %d games both gaps are 0, so the program alone proves the fraction; among them are %d of Kuhn's %d." % (len(proved), len(of_kind(proved, "kuhn")), len(kuhn)),
         "[Runs](#runs) says when all this was made, how long it took, and on what.",
         "",
@@ -248,9 +248,9 @@ def head_lines(rows, kuhn):
         "`results/atlas CACHE --confirm` has the program judge all strategies of a run again. "
         "`tools/recheck.py` computes value and gaps a second time, without the program.",
         "",
-        "**Columns.** Classes are the coarsest lossless ones, round by round. Sequences count the empty one; both players have as many. Bounds are rounded outwards and gaps up. "
+        "**Columns.** Classes are the coarsest lossless ones, round by round. Sequences include the empty one; one number stands for both players. Bounds are rounded outwards and gaps up. "
         "\"agreed\" is the value with as many digits, 12 at most, as both bounds have when they are rounded to the nearest. Exact values of more than 40 characters stand in the CSV alone. "
-        "Seconds are processor seconds of Clp and of QSopt_ex.",
+        "Seconds are processor seconds of Clp and of QSopt_ex on the machine that [Runs](#runs) names.",
         "",
         "**CSV.** [games.csv](atlas/games.csv) has every game with its numbers as fractions, what `solve` finds, and the checksum of its strategy; its bounds are decimals rounded outwards. "
         "Counts for each round stand in one cell, in the order of the rounds. A game without numbers has the reason under `note`. "
@@ -326,7 +326,7 @@ def write(cache, judge):
     for kind in ("leduc", "rhode"):
         lines += ["## %s" % NAMES[kind], "", *game_table(of_kind(rows, kind)), ""]
     lines += lost_lines(cache) + picture_lines() + stored_lines({**rows, **kuhn}, sizes)
-    lines += ["## What is not here", "", "The exact values of Kuhn's decks stand in [RESULTS.md](RESULTS.md) too.", "", *failed_lines(others + left), ""]
+    lines += ["## What is not here", "", "Decks without a bracket, by reason. The exact values of Kuhn's decks stand in games.csv and in [RESULTS.md](RESULTS.md).", "", *failed_lines(others + left), ""]
     lines += ["## Runs", "", "The solvers took %.2f processor hours for the games above. Runs of `results/atlas`:" % seconds_of({**rows, **kuhn}), "", *atlas_runs.lines(cache)]
     with open(os.path.join(TOP, "docs", "ATLAS.md"), "w", encoding="ascii") as file:
         file.write("\n".join(lines) + "\n")
