@@ -81,11 +81,20 @@ def change(rows, kind, at, now):
     return decks, fall, rise, same, max(decks, key=size.get) if decks else None, size
 
 
-def rarer(fall, rise, same):
-    """Returns which decks move as fewer decks do, and which do not move, as a text behind a colon."""
+def by_suits(decks):
+    """Returns decks of one kind and one cap as a text, the ranks of as many suits together."""
+    groups = {}
+    for deck in decks:
+        groups.setdefault(deck[2], []).append(deck[1])
+    return ", ".join("%d suit%s with %s ranks" % (suit, "s" * (suit > 1), span(found).replace(", ", " and ")) for suit, found in sorted(groups.items()))
+
+
+def rarer(fall, rise, same, at):
+    """Returns which decks move as fewer decks do, and which do not move, as the beginning of a text; `at` is the number that has changed."""
     few, word = min((rise, "rises"), (fall, "falls"), key=lambda pair: len(pair[0]))
-    parts = ["it %s in %s" % (word, grouped(few))] if few else []
-    parts += ["it stays in %s" % grouped(same)] if same else []
+    listed = by_suits if at == 3 else grouped
+    parts = ["it %s in %s" % (word, listed(few))] if few else []
+    parts += ["it stays in %s" % listed(same)] if same else []
     return "".join(part + "; " for part in parts)
 
 
@@ -99,7 +108,7 @@ def changes(rows, kind, at, name, steps):
             text %= name % (now - 1, now), NAMES[kind], len(fall), len(decks), len(rise)
             text += "; in %d the brackets overlap and the exact values are equal" % len(same) if same else ""
             text += "; in %d the brackets overlap" % left if left else ""
-            yield text + ".", "%sthe largest change, %s chips, is that of %s" % (rarer(fall, rise, same), decimal(size[most], 4), named(most))
+            yield text + ".", "%sthe largest change, %s chips, is that of %s" % (rarer(fall, rise, same, at), decimal(size[most], 4), named(most))
 
 
 def suits(rows):

@@ -261,7 +261,7 @@ def lost(judge, deck, cache, seconds):
     game = judge.game(deck)
     form = SequenceForm(Game(game), read_classes(judge.printed("shrink", game)))
     near, exact = optimum(form, seconds)
-    text = judged(judge, form, plans_of(form, near if isinstance(exact, str) else exact))
+    text = judge.filled(form.strategy(plans_of(form, near if isinstance(exact, str) else exact)))
     return kept(cache, "isomorphic_" + name_of(deck), text)
 
 

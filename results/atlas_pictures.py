@@ -71,7 +71,7 @@ def classes(folder, columns):
     """Draws the classes of the last round against its signals."""
     columns = [column for column in columns if column[1]]
     table_of(folder, "class_counts", "signals", columns)
-    script = 'set logscale xy\nset xlabel "signals of the last round"\nset ylabel "classes of the last round"\nset key top left\n'
+    script = 'set logscale xy\nset xlabel "signals of the last round"\nset ylabel "classes of the last round"\nset key bottom right\n'
     draw(folder, "class_counts", (800, 520), script + lines("class_counts", 2, columns))
 
 
