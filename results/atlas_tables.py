@@ -327,6 +327,6 @@ def write(cache, judge):
         lines += ["## %s" % NAMES[kind], "", *game_table(of_kind(rows, kind)), ""]
     lines += lost_lines(cache) + picture_lines() + stored_lines({**rows, **kuhn}, sizes)
     lines += ["## What is not here", "", "Decks without a bracket, by reason. The exact values of Kuhn's decks stand in games.csv and in [RESULTS.md](RESULTS.md).", "", *failed_lines(others + left), ""]
-    lines += ["## Runs", "", "The solvers took %.2f processor hours for the games above. Runs of `results/atlas`:" % seconds_of({**rows, **kuhn}), "", *atlas_runs.lines(cache)]
+    lines += ["## Runs", "", "The solvers took %.2f processor hours for the games above. Runs of `results/atlas`; the first began with an empty folder, each later one took up what was left:" % seconds_of({**rows, **kuhn}), "", *atlas_runs.lines(cache)]
     with open(os.path.join(TOP, "docs", "ATLAS.md"), "w", encoding="ascii") as file:
         file.write("\n".join(lines) + "\n")
