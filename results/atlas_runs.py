@@ -83,7 +83,8 @@ def lines(cache):
         times = run["when"], time_text(run["seconds"]), time_text(run["processor_seconds"])
         rows.append("| %s | %s | %s | %d | `%s` | %s |" % (*times, run["processes"], run["program"][:16], what_text(run)))
     made = [run for run in runs if run["run"] == "worked"]
-    machines, kits, built = (distinct(made, key) for key in ("machine", "kit", "built"))
+    machines, kits = (distinct(made, key) for key in ("machine", "kit"))
+    built = list(dict.fromkeys("`%s` is of %s" % (run["program"][:16], run["built"]) for run in runs if run["built"]))
     facts = ["Machine: %s." % "; ".join(machines)] if machines else []
     facts += ["Solvers: %s." % " and ".join(dict.fromkeys(name for run in made for name in run["solvers"]))] if made else []
     facts += ["Kit: %s." % "; ".join("`%s`" % one for one in kits)] if kits else []
