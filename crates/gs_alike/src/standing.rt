@@ -16,7 +16,7 @@ use std::collections::HashMap;
 /// The list of boards is empty if some kind of card has several copies, or if players are not dealt exactly one private card.
 #[derive(Drop)]
 pub struct Boards<'a> {
-    signals: &'a Signals<'a>,
+    pub signals: &'a Signals<'a>,
     list: Vec<Board>,
     by_rank: bool,
     ghost each: { All (IsBoard (rules_of signals.now) by_rank) list.items },

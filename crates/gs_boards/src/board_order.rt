@@ -15,7 +15,7 @@ use std::alloc::{AllocError, Global};
 /// looked at.
 #[derive(Drop)]
 pub struct BoardOrder<'s> {
-    signals: &'s Signals<'s>,
+    pub signals: &'s Signals<'s>,
     places: Vec<Place>,
     ghost plain: { IsPlain (rules_of signals.now) },
     ghost placed: { ArePlaces (rules_of signals.now) places.items },

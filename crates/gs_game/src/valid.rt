@@ -10,7 +10,7 @@ use crate::positions::{End, Point, Target};
 /// A game that keeps every rule, with its betting positions, the number of its deals and their weight.
 #[derive(Drop)]
 pub struct ValidGame {
-    pub(crate) game: Game,
+    pub game: Game,
     pub(crate) points: Vec<Point>,
     pub(crate) ends: Vec<End>,
     pub(crate) start: Target,

@@ -19,8 +19,8 @@ use std::alloc::{AllocError, Global};
 /// They also have the same weight of deals against each class of the opponent; in the last round, the same weight for each outcome too.
 #[derive(Clone, Copy)]
 pub struct Lossless<'a> {
-    signals: &'a Signals<'a>,
-    classes: &'a Classes,
+    pub signals: &'a Signals<'a>,
+    pub classes: &'a Classes,
     ghost parents: { classes.now.parents ≡ (frame_of (rules_of signals.now)).parents },
     ghost lossless: { IsLossless (frame_of (rules_of signals.now)) classes.now.lists },
 }

@@ -32,7 +32,7 @@ const USUAL: Limits = Limits {
 /// A point with a class of its round is an information set after abstraction.
 #[derive(Drop)]
 pub struct Abstract<'a> {
-    lossless: &'a Lossless<'a>,
+    pub lossless: &'a Lossless<'a>,
     // for each point the slot of its first class and first move
     offsets: Vec<u32>,
     // how many slots players 1 and 2 have

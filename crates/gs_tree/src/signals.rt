@@ -34,7 +34,7 @@ fn pair_weight(one: u32, two: u32) -> u64
 /// signals of a round are named by their places, from 0. They are in lexicographic order of what they show, round by round and the own group first.
 #[derive(Drop)]
 pub struct Signals<'g> {
-    game: &'g ValidGame,
+    pub game: &'g ValidGame,
     tables: Tables,
     // of the hands of the last round's signals
     strengths: Vec<u32>,
