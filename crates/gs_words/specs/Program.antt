@@ -3,7 +3,8 @@ use Rattle.std.specs.Prelude.{◌≡◌, ℕ, List, Bool, Option, Some, None, tr
 use Rattle.clap.specs.{Words.{App, Rule, new_app, new_rule, app_of, with_rule, with_subcommand}, Simple.{on_top}, declared.builder.command.Command.{Command}}
 use Rattle.clap.specs.{declared.builder.command.Command.TheViews.{out-Command}, declared.builder.ArgAction.{ArgAction}}
 use Rattle.clap.specs.declared.builder.ArgAction.TheVariants.{SetTrue}
-use Rattle.gs_words.specs.{Commands.{OptionOf, command_word, commands, options_of}, declared.names.CommandName.{CommandName}}
+use Rattle.gs_words.specs.{Commands.{OptionOf, classes, command_word, commands, options_of, required_option, summary}, declared.names.CommandName.{CommandName}}
+use Rattle.gs_words.specs.{declared.command.Choice.{Choice}, declared.command.Choice.TheVariants.{Classes, Summary, Value}}
 
 -- the command is this one, and no argument of it is global
 abbrev pub Is : App → Command → Type 0
@@ -17,6 +18,12 @@ action_by (Some rule) = None
 -- `--name`, with one value or as a flag
 abbrev pub rule_for : OptionOf → Rule
 rule_for o = record (new_rule o.name) { long = Some o.name; required = o.is_required; action = action_by o.rule }
+
+-- what `clap` makes of an option of the table in code
+abbrev pub rule_by : Choice → Rule
+rule_by Summary = rule_for summary
+rule_by Classes = rule_for classes
+rule_by (Value name) = rule_for (required_option name.now (λ word. true))
 
 -- a command with options
 abbrev pub with_options : List ℕ → List OptionOf → App

@@ -1,9 +1,9 @@
 //! The command of `clap` that parses the words.
 
-ghost use Rattle.std.specs.Prelude.{◌≡◌, List, [], ◌∷◌, ◌++◌, IfOk, false, true};
+ghost use Rattle.std.specs.Prelude.{◌≡◌, List, [], ◌∷◌, ◌++◌, IfOk, false, map};
 ghost use Rattle.clap.specs.Words.{rule_of};
-ghost use Rattle.gs_words.specs.Commands.{classes, required_option, summary};
-ghost use Rattle.gs_words.specs.Program.{Is, app_for, bare, program as whole, rule_for, with_commands};
+ghost use Rattle.gs_words.specs.Commands.{options_of};
+ghost use Rattle.gs_words.specs.Program.{Is, app_for, bare, program as whole, rule_by, rule_for, with_commands};
 ghost use Rattle.gs_words.specs.declared.names.CommandName.{CommandName};
 ghost use Rattle.gs_words.specs.declared.names.CommandName.TheVariants as name;
 
@@ -11,30 +11,57 @@ use crate::names::{COMMANDS, CommandName};
 use clap::{Arg, ArgAction, Command};
 use std::alloc::{AllocError, Global};
 
-// Returns the flag `--summary`.
-fn summary_flag<'a>(alloc: Global) -> Arg<'a>
-    ensures rule { rule_of result ≡ rule_for summary }
-    ensures local { result.global ≡ false }
-{
-    Arg::new(alloc, "summary")
-        .long("summary")
-        .action(ArgAction::SetTrue)
+// An option of a command: the flag `--summary`, the option `--classes`, or one of this name that
+// has to be given a value.
+#[derive(Clone, Copy)]
+enum Choice {
+    Summary,
+    Classes,
+    Value(&'static str),
 }
 
-// Returns the option `--classes`.
-fn classes_option<'a>(alloc: Global) -> Arg<'a>
-    ensures rule { rule_of result ≡ rule_for classes }
-    ensures local { result.global ≡ false }
+// Returns the options of a command, in the order of its table.
+fn choices_of(name: CommandName) -> &'static [Choice]
+    ensures { map rule_by result.now ≡ map rule_for (options_of name) }
 {
-    Arg::new(alloc, "classes").long("classes")
+    match name {
+        CommandName::Shrink => &[Choice::Summary],
+        CommandName::Check => &[Choice::Classes, Choice::Summary],
+        CommandName::Solve | CommandName::Path => &[Choice::Classes],
+        CommandName::Play => &[Choice::Classes, Choice::Value("turns")],
+        CommandName::Query => &[
+            Choice::Value("player"),
+            Choice::Value("line"),
+            Choice::Value("signal"),
+        ],
+        CommandName::Make => &[
+            Choice::Value("kind"),
+            Choice::Value("ranks"),
+            Choice::Value("suits"),
+            Choice::Value("cap"),
+            Choice::Summary,
+        ],
+        CommandName::Evaluate
+        | CommandName::Upgrade
+        | CommandName::Judge
+        | CommandName::Duel
+        | CommandName::Certify
+        | CommandName::Verify => &[],
+    }
 }
 
-// Returns a required option with one value.
-fn required_value<'a>(alloc: Global, name: &'a str) -> Arg<'a>
-    ensures rule { rule_of result ≡ rule_for (required_option name.entry.now (λ _. true)) }
+// Returns an option as `clap` has it.
+fn arg_of<'a>(alloc: Global, choice: Choice) -> Arg<'a>
+    ensures rule { rule_of result ≡ rule_by choice }
     ensures local { result.global ≡ false }
 {
-    Arg::new(alloc, name).long(name).required(true)
+    match choice {
+        Choice::Summary => Arg::new(alloc, "summary")
+            .long("summary")
+            .action(ArgAction::SetTrue),
+        Choice::Classes => Arg::new(alloc, "classes").long("classes"),
+        Choice::Value(name) => Arg::new(alloc, name).long(name).required(true),
+    }
 }
 
 // Returns the subcommand of this name with its options.
@@ -42,31 +69,11 @@ fn command_for<'a>(alloc: Global, name: CommandName) -> Result<Command<'a>, Allo
     ensures { IfOk result (Is (app_for name)) }
 {
     let word: &'a str = name.word();
-    let command = Command::new(alloc, word);
-    match name {
-        CommandName::Shrink => command.arg(summary_flag(alloc)),
-        CommandName::Check => command.arg(classes_option(alloc))?.arg(summary_flag(alloc)),
-        CommandName::Solve | CommandName::Path => command.arg(classes_option(alloc)),
-        CommandName::Play => command
-            .arg(classes_option(alloc))?
-            .arg(required_value(alloc, "turns")),
-        CommandName::Query => command
-            .arg(required_value(alloc, "player"))?
-            .arg(required_value(alloc, "line"))?
-            .arg(required_value(alloc, "signal")),
-        CommandName::Make => command
-            .arg(required_value(alloc, "kind"))?
-            .arg(required_value(alloc, "ranks"))?
-            .arg(required_value(alloc, "suits"))?
-            .arg(required_value(alloc, "cap"))?
-            .arg(summary_flag(alloc)),
-        CommandName::Evaluate
-        | CommandName::Upgrade
-        | CommandName::Judge
-        | CommandName::Duel
-        | CommandName::Certify
-        | CommandName::Verify => Ok(command),
+    let mut command = Command::new(alloc, word);
+    for choice in choices_of(name) {
+        command = command.arg(arg_of(alloc, *choice))?;
     }
+    Ok(command)
 }
 
 fn bare_command<'a>(alloc: Global) -> Command<'a>
