@@ -1,11 +1,9 @@
 //! The command of `clap` that parses the words.
 
-ghost use Rattle.std.specs.Prelude.{◌≡◌, List, [], ◌∷◌, ◌++◌, IfOk, false, map};
+ghost use Rattle.std.specs.Prelude.{◌≡◌, IfOk, false, map};
 ghost use Rattle.clap.specs.Words.{rule_of};
 ghost use Rattle.gs_words.specs.Commands.{options_of};
 ghost use Rattle.gs_words.specs.Program.{Is, app_for, bare, program as whole, rule_by, rule_for, with_commands};
-ghost use Rattle.gs_words.specs.declared.names.CommandName.{CommandName};
-ghost use Rattle.gs_words.specs.declared.names.CommandName.TheVariants as name;
 
 use crate::names::{COMMANDS, CommandName};
 use clap::{Arg, ArgAction, Command};
@@ -84,25 +82,20 @@ fn bare_command<'a>(alloc: Global) -> Command<'a>
         .subcommand_required(true)
 }
 
-// Adds the subcommand of this name to a command.
-fn with_command<'a>(
-    command: Command<'a>,
-    alloc: Global,
-    name: CommandName,
-) -> Result<Command<'a>, AllocError>
-    ensures { IfOk result (λ r. (names : List CommandName) → Is (with_commands names) command.entry → Is (with_commands (names ++ name ∷ [])) r) }
+// Returns the bare command with these subcommands.
+fn with_commands<'a>(alloc: Global, names: &[CommandName]) -> Result<Command<'a>, AllocError>
+    ensures { IfOk result (Is (with_commands names.now)) }
 {
-    command.subcommand(command_for(alloc, name)?)
+    let mut command = bare_command(alloc);
+    for name in names {
+        command = command.subcommand(command_for(alloc, *name)?)?;
+    }
+    Ok(command)
 }
 
 /// Returns the program's command with all its subcommands.
 pub(crate) fn program<'a>(alloc: Global) -> Result<Command<'a>, AllocError>
     ensures { IfOk result (Is whole) }
 {
-    let names = COMMANDS;
-    let mut command = bare_command(alloc);
-    for name in &names {
-        command = with_command(command, alloc, *name)?;
-    }
-    Ok(command)
+    with_commands(alloc, &COMMANDS)
 }
