@@ -14,7 +14,7 @@ pub enum Grouping {
 }
 
 /// A request of the command line. The texts of a query are words of it.
-#[derive(Clone, Copy, Debug, PartialEq, Eq)]
+#[derive(Clone, Copy, Debug)]
 pub enum Request<'w> {
     /// The signal classes of a game, or only how many there are.
     Shrink {
