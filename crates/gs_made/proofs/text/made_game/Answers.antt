@@ -1,4 +1,4 @@
-use Rattle.std.proofs.Common.{◌≡◌, ◌∙◌, ◌++◌, ◌+◌, ◌<◌, ℕ, List, get_or, length, map, take, ap, sym}
+use Rattle.std.proofs.Common.{◌≡◌, ◌∙◌, ◌++◌, ◌+◌, ◌<◌, ℕ, List, get_or, length, map, take, ap, sym, rules}
 use Rattle.std.proofs.lemmas.List.{flat_map_more, map_more}
 use Rattle.std.specs.Prelude.{flat_map}
 use Rattle.gs_made.specs.{Made.{round_block, three_numbers}, declared.kind.Round.{Round}}
@@ -19,3 +19,6 @@ one_more head cap rounds i d old new lt before added =
 pub loop-round-preserved : goal.loop-round-preserved
 loop-round-preserved c =
     one_more _ c.args.cap c.rounds-round-items.result.now c.loop-round.round-index _ _ _ c.loop-round-test.true c.loop-round.invariant c.in_ok-push_round.ensures
+
+pub loop-round-init : goal.loop-round-init
+loop-round-init c = search rules
