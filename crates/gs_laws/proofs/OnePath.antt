@@ -30,17 +30,16 @@ turn_one : (p : Program) (o : Listing) (t u : ℕ) (x y : States) → IsOpening 
     → length o + d < u → SameTurn (x.entering (length o + d)) (y.entering (length o + d)) (x.leaving (length o + d)) (y.leaving (length o + d))
 turn_one p o t u x y ok h g d lt lu =
     let k = length o + d in
-    let same = lists_same p o t u x.lists y.lists x.rows y.rows x.aim y.aim x.entering y.entering x.leaving y.leaving ok h g d (omega arith) (omega arith) in
-    let agree = paths_agree p o t u x.lists y.lists x.rows y.rows x.aim y.aim x.entering y.entering x.leaving y.leaving ok h g d (omega arith) (omega arith) in
-    let full = (path_trail p o t x.lists x.rows x.aim x.entering x.leaving ok h d (omega arith)).0 in
+    let same = lists_same ok h g d (omega arith) (omega arith) in
+    let agree = paths_agree ok h g d (omega arith) (omega arith) in
+    let full = (path_trail ok h d (omega arith)).0 in
     let one = h.pivots k (omega arith) lt in
     let two : IsPivot p (x.lists k) (y.rows k) (y.aim k) (y.lists (suc k)) (y.entering k) (y.leaving k) =
     subst (λ (l : Listing). IsPivot p l (y.rows k) (y.aim k) (y.lists (suc k)) (y.entering k) (y.leaving k)) (sym same) (g.pivots k (omega arith) lu) in
-    let e = enters_same p (x.lists k) (x.rows k) (y.rows k) (x.aim k) (y.aim k) (x.entering k) (y.entering k) agree one.enters two.enters in
+    let e = enters_same agree one.enters two.enters in
     let leaves : Leaves p (x.lists k) (y.rows k) (x.entering k) two.place.1 (y.leaving k) =
     subst (λ (i : ℕ). Leaves p (x.lists k) (y.rows k) i two.place.1 (y.leaving k)) (sym e) two.place.4 in
-    let rc = leaves_same p (x.lists k) (x.rows k) (y.rows k) (x.aim k) (y.aim k) (x.entering k) one.place.1 (x.leaving k) two.place.1 (y.leaving k)
-    full.is_list one.enters.column agree one.place.4 leaves in
+    let rc = leaves_same full.is_list one.enters.column agree one.place.4 leaves in
     record { enters = e; leaves = rc.1 }
 
 -- ---- the lines of a path
@@ -89,7 +88,7 @@ text_one p o n m l k x y t u ok h g a b =
     let two = g.0.path in
     let la = a.turns_long in
     let lb = b.turns_long in
-    let first = paths_agree p o (length o + n) (length o + m) x.lists y.lists x.rows y.rows x.aim y.aim x.entering y.entering x.leaving y.leaving ok one two in
+    let first = paths_agree ok one two in
     let begin : length o + 0 ≡ length o = omega arith in
     let start_agree : Agree p (x.rows (length o)) (y.rows (length o)) (x.aim (length o)) (y.aim (length o)) =
     subst (λ (i : ℕ). Agree p (x.rows i) (y.rows i) (x.aim i) (y.aim i)) begin (first 0 (omega arith) (omega arith)) in

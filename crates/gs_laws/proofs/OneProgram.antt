@@ -272,7 +272,7 @@ last_full : (p : Program) (o : Listing) (limit : ℕ) (b : Best) → IsOpening p
 last_full p o limit b ok u =
     let t = u.stops.stops.0 in let s = u.stops.stops.1 in let w = u.stops.stops.2 in
     let e : t ≡ length o + b.pivots = w.2 in let el : b.basis.items ≡ s.lists t = w.3 in
-    let z = path_trail p o t s.lists s.rows s.aim s.entering s.leaving ok w.0.path b.pivots (omega arith) in
+    let z = path_trail ok w.0.path b.pivots (omega arith) in
     subst (IsFull p) (sym el) (subst (λ (k : ℕ). IsFull p (s.lists k)) (sym e) z.0)
 
 same_basis : (n m : ℕ) (l k : Listing) → ends n l ≡ ends m k → l ≡ k
@@ -295,7 +295,7 @@ best_one p o limit b c ok u w =
     let d = w.last.1 in
     let there : IsBestAt p l S d c.value.items c.price.items =
     subst (λ (k : Listing). IsBestAt p k S d c.value.items c.price.items) (sym basis) w.last.2 in
-    let same = rows_agree p l R S a d full at.rows_of there.rows_of in
+    let same = rows_agree full at.rows_of there.rows_of in
     record {
       values = λ j x y lj. value_at p l R S a d b.value.items c.value.items b.price.items c.price.items full same at there j x y lj;
       prices = λ j x y lj. price_at p l R S a d b.value.items c.value.items b.price.items c.price.items same at there j x y lj;
@@ -303,9 +303,9 @@ best_one p o limit b c ok u w =
   where
     value_at : (p : Program) (l : Listing) (R S : ℕ → ℕ → ℤ) (a d : ℕ → ℤ) (vs ws ps rs : List Fraction) → IsFull p l → Agree p R S a d
         → IsBestAt p l R a vs ps → IsBestAt p l S d ws rs → SameFractions p.cols vs ws
-    value_at p l R S a d vs ws ps rs full same at there j x y lj = elim (find_col p.rows (col_of p l full) j) [
+    value_at p l R S a d vs ws ps rs full same at there j x y lj = elim (find_col p.rows (col_of l) j) [
       | inl found ↦
-          let (i, listed) = from_cols p l full j found in
+          let (i, listed) = from_cols full j found in
           let inside = full.is_list.row_inside i j listed in
           let low : j ≤ p.cols = omega arith in
           let own = (at.rows_of.listed i j listed).2.own in
@@ -316,7 +316,7 @@ best_one p o limit b c ok u w =
           ap (λ v. f.num *ℤ v) e1 ∙ there.listed i j listed y ∙ ap (λ v. v *ℤ f.den) (sym e2) in
           ratio_one (slice_index_or vs j x) f (R i j) (R i p.cols) own (at.listed i j listed x) other
       | inr none ↦
-          let free : ¬ ColListed l j = λ h. (let z = in_cols p l full j h in none z.0 z.1 z.2) in
+          let free : ¬ ColListed l j = λ h. (let z = in_cols full j h in none z.0 z.1 z.2) in
           zero_one (slice_index_or vs j x) (slice_index_or ws j y) (at.unlisted j lj free x) (there.unlisted j lj free y)
     ]
 

@@ -1,11 +1,11 @@
 -- The lists of an opening are regular, the whole opening is full and feasible, and no path from there on has a basis twice.
-use Rattle.std.proofs.Common.{◌≡◌, ℕ, zero, suc, ◌+◌, ◌-◌, ◌<◌, ◌≤◌, ◌⊎◌, inl, inr, [], ◌∷◌, ◌++◌, length, slice_index_or, take, ℤ, pos, ◌*ℤ◌, neg_ℤ, ◌≤ℤ◌, ◌<ℤ◌, refl, sym, ap, subst, ◌∙◌, arith}
-use Rattle.std.proofs.{lemmas.Bool.{cases_eq, cases_lt}, Math.Seq.{take-length}, lemmas.List.{take_more, length_push, get_or_append_left, get_or_push}}
+use Rattle.std.proofs.Common.{◌≡◌, ℕ, zero, suc, ◌+◌, ◌-◌, ◌<◌, ◌≤◌, ◌⊎◌, inl, inr, [], ◌∷◌, ◌++◌, length, slice_index_or, take, ℤ, pos, ◌*ℤ◌, neg_ℤ, ◌≤ℤ◌, ◌<ℤ◌, sym, ap, subst, ◌∙◌, arith}
+use Rattle.std.proofs.{lemmas.Bool.{cases_lt}, Math.Seq.{take-length}, lemmas.List.{take_more, length_push, get_or_append_left, get_or_push}}
 use Rattle.gs_rows.specs.{declared.Program.{Program}, Sums.{sum_to}}
-use Rattle.gs_rows.specs.Program.{number, Listing, IsListed, RowListed, ColListed, IsRowsOf, CanTake, IsTakenInTurn, IsOpening, IsRegularList}
-use Rattle.gs_rows.specs.Path.{IsPivot, IsPath}
-use Rattle.gs_rows.proofs.{States.{states}, Ring.{ring, linear, times_nonneg, cancel_nonneg}, Sums.{sum_same}, Steps.{IsList, take_is_list, take_is_regular}}
-use Rattle.gs_rows.proofs.{Pivots.{IsOnce, any_default}, Solutions.{IsBasic, row_at_basic}}
+use Rattle.gs_rows.specs.Program.{number, Listing, IsListed, RowListed, ColListed, IsRowsOf, CanTake, IsTakenInTurn, IsSolution, IsOpening, IsRegularList}
+use Rattle.gs_rows.specs.Path.{IsPivot, States, IsPath}
+use Rattle.gs_rows.proofs.{States.{later}, Ring.{ring, linear, times_nonneg, cancel_nonneg}, Sums.{sum_same}, Steps.{IsList, take_is_list, take_is_regular}}
+use Rattle.gs_rows.proofs.{Pivots.{IsOnce, any_default}, Solutions.{IsKilled, IsBasic, placed, row_at_basic}}
 use Rattle.gs_rows.proofs.Bases.{IsFull, IsTrail, RowsFeasible, col_of, col_is, in_cols, table_of, turn_is_full, turn_is_feasible, trail_columns_differ}
 
 -- what stands at a place after a push
@@ -32,9 +32,9 @@ old_row p l r c k w out h e =
     let s : n.0 ≡ r = omega arith in
     out (n.1, let P : ℕ → Type 0 = λ x. IsListed l x n.1 in subst P s (k, h, any_default l k (n.0 + 1, n.1 + 1) (0, 0) h ∙ n.2))
 
-pub opened_push : (p : Program) (l : Listing) (r c : ℕ) → IsOpened p l → CanTake p l r c → IsOpened p (l ++ (r + 1, c + 1) ∷ [])
-opened_push p l r c w t = record {
-  is_list = take_is_list p l r c w.is_list t;
+pub opened_push : {p : Program} {l : Listing} {r c : ℕ} → IsOpened p l → CanTake p l r c → IsOpened p (l ++ (r + 1, c + 1) ∷ [])
+opened_push {p} {l} {r} {c} w t = record {
+  is_list = take_is_list w.is_list t;
   once = record {
     place = λ q k ql kl s. elim (place_push l (r + 1, c + 1) q ql) [
       | inl x ↦ elim (place_push l (r + 1, c + 1) k kl) [
@@ -51,11 +51,11 @@ opened_push p l r c w t = record {
     | inl x ↦ (let n = w.named k x.0 in (n.0, n.1, x.1 ∙ n.2))
     | inr x ↦ (r, c, x.1)
   ];
-  regular = take_is_regular p l r c w.is_list w.regular t;
+  regular = take_is_regular w.is_list w.regular t;
 }
 
-pub opened : (p : Program) (o : Listing) → IsTakenInTurn p o → (k : ℕ) → k ≤ length o → IsOpened p (take k o)
-opened p o taken zero h = record {
+pub opened : {p : Program} (o : Listing) → IsTakenInTurn p o → (k : ℕ) → k ≤ length o → IsOpened p (take k o)
+opened o taken zero h = record {
   is_list = record {
     row_inside = λ i j x. absurd (omega (arith, x.1));
     column_inside = λ i j x. absurd (omega (arith, x.1));
@@ -66,92 +66,99 @@ opened p o taken zero h = record {
   named = λ k x. absurd (omega arith);
   regular = record { only = λ z off on i im. off i im (λ x. absurd (omega (arith, x.1.1))) };
 }
-opened p o taken (suc k) h =
-    let w = opened p o taken k (omega arith) in
+opened {p} o taken (suc k) h =
+    let w = opened o taken k (omega arith) in
     let t = taken k (omega arith) in
     let e : take (k + 1) o ≡ take k o ++ (slice_index_or o k (0, 0) ∷ []) = take_more o k (0, 0) (omega arith) in
     let f : take (suc k) o ≡ take k o ++ ((t.0 + 1, t.1 + 1) ∷ []) = ap (λ x. take x o) (let q : suc k ≡ k + 1 = omega arith in q) ∙ e
     ∙ ap (λ x. take k o ++ (x ∷ [])) t.2 in
     let P : Listing → Type 0 = λ x. IsOpened p x in
-    subst P (sym f) (opened_push p (take k o) t.0 t.1 w t.3)
+    subst P (sym f) (opened_push w t.3)
 
--- the whole opening is full
-pub opening_is_full : (p : Program) (o : Listing) → IsOpening p o → IsFull p o
-opening_is_full p o u =
-    let w : IsOpened p o = (let P : Listing → Type 0 = λ x. IsOpened p x in subst P (take-length o) (opened p o u.taken (length o) (omega arith))) in
-    record { is_list = w.is_list; once = w.once; regular = w.regular; all = u.each_row; free_in = u.free_named }
-
--- and its rows are feasible
-pub opening_is_feasible : (p : Program) (o : Listing) (R : ℕ → ℕ → ℤ) (a : ℕ → ℤ) → IsOpening p o → IsRowsOf p o R a → RowsFeasible p o R
-opening_is_feasible p o R a u w i j h bound =
-    let f = opening_is_full p o u in
-    let d = u.feasible.0 in let v = u.feasible.1 in let fs = u.feasible.2 in
-    let n = p.cols in let m = p.rows in
-    let pick : (k : ℕ) → (k ≡ n) ⊎ (k ≡ n → ⊥) → ℤ = λ k q. elim q [ inl e ↦ neg_ℤ d | inr ne ↦ v k ] in
-    let x : ℕ → ℤ = λ k. pick k (cases_eq k n) in
-    let side : x n ≡ neg_ℤ d = elim (cases_eq n n) as (λ q. pick n q ≡ neg_ℤ d) [ inl e ↦ refl | inr ne ↦ absurd (ne refl) ] in
-    let below : (k : ℕ) → k < n → x k ≡ v k = λ k kn. elim (cases_eq k n) as (λ q. pick k q ≡ v k) [ inl e ↦ absurd (omega arith) | inr ne ↦ refl ] in
-    let b : IsBasic m n (number p) (col_of p o f) d x = record {
-      killed = record {
+-- a solution, with minus its denominator at the right side's place
+pub solution_killed : {p : Program} {d : ℤ} {v : ℕ → ℤ} → IsSolution p d v
+    → (x : ℕ → ℤ) × IsKilled p.rows p.cols (number p) x × (x p.cols ≡ neg_ℤ d) × ((j : ℕ) → j < p.cols → x j ≡ v j)
+solution_killed {p} {d} {v} u =
+    let n = p.cols in
+    let w = placed n (neg_ℤ d) v in let x : ℕ → ℤ = w.0 in let side : x n ≡ neg_ℤ d = w.1 in
+    let below : (k : ℕ) → k < n → x k ≡ v k = λ k kn. w.2 k (λ (e : k ≡ n). omega arith) in (
+      x,
+      record {
         row = λ k km.
             let e : sum_to n (λ c. number p k c *ℤ x c) ≡ d *ℤ number p k n =
-            sum_same n (λ c. number p k c *ℤ x c) (λ c. number p k c *ℤ v c) (λ c cn. ap (λ t. number p k c *ℤ t) (below c cn))
-            ∙ fs.solution.solves k km in
+            sum_same n (λ c. number p k c *ℤ x c) (λ c. number p k c *ℤ v c) (λ c cn. ap (λ t. number p k c *ℤ t) (below c cn)) ∙ u.solves k km in
             let g : number p k n *ℤ x n ≡ neg_ℤ (d *ℤ number p k n) = ap (λ t. number p k n *ℤ t) side ∙ simp ring in omega (arith, linear);
-      };
-      side = side;
-      positive = (let q = fs.solution.positive in omega (arith, linear));
-      outside = λ k kn out. below k kn ∙ u.feasible.3 k kn (λ y. (let z = in_cols p o f k y in out z.0 z.1 z.2));
-    } in
-    let im : i < m = f.is_list.row_inside i j h in
-    let e : R i (col_of p o f i) *ℤ x (col_of p o f i) ≡ d *ℤ R i n = row_at_basic m n (number p) (col_of p o f) R d x (table_of p o f R a w) b i im in
-    let c : col_of p o f i ≡ j = col_is p o f i j h in
-    let jn : j < n = f.is_list.column_inside i j h in
-    let own : pos 0 <ℤ R i j = (w.listed i j h).2.own in
-    let e2 : R i j *ℤ v j ≡ d *ℤ R i n = ap (λ t. R i j *ℤ t) (sym (below j jn)) ∙ (let P : ℕ → Type 0 = λ t. R i t *ℤ x t ≡ d *ℤ R i n in subst P c e) in
-    let vj : pos 0 ≤ℤ v j = fs.nonnegative j jn bound in
-    let y : pos 0 ≤ℤ (R i j *ℤ v j) = times_nonneg (R i j) (v j) (omega (arith, linear)) vj in
-    cancel_nonneg d (R i n) (let q = fs.solution.positive in omega (arith, linear)) (omega (arith, linear))
+      },
+      side,
+      below,
+    )
 
--- a path from the end of the opening on
-pub path_trail : (p : Program) (o : Listing) (t : ℕ) (lists : ℕ → Listing) (R : ℕ → ℕ → ℕ → ℤ) (a : ℕ → ℕ → ℤ) (e c : ℕ → ℕ) → IsOpening p o
-    → IsPath p o t (states lists R a e c)
-    → (d : ℕ) → length o + d ≤ t → (IsFull p (lists (length o + d))) × (RowsFeasible p (lists (length o + d)) (R (length o + d)))
-path_trail p o t lists R a e c u w zero h =
-    let s : lists (length o + 0) ≡ o = ap lists (let q : length o + 0 ≡ length o = omega arith in q) ∙ w.opens (length o) (omega arith) (omega arith)
-    ∙ take-length o in
-    let r : IsRowsOf p o (R (length o + 0)) (a (length o + 0)) = (let P : Listing → Type 0 = λ x. IsRowsOf p x (R (length o + 0)) (a (length o + 0)) in
-    subst P s (w.rows (length o + 0) h)) in
-    let P : Listing → Type 0 = λ x. (IsFull p x) × (RowsFeasible p x (R (length o + 0))) in
-    subst P (sym s) (opening_is_full p o u, opening_is_feasible p o (R (length o + 0)) (a (length o + 0)) u r)
-path_trail p o t lists R a e c u w (suc d) h =
-    let k = length o + d in
-    let z = path_trail p o t lists R a e c u w d (omega arith) in
-    let tn = w.pivots k (omega arith) (omega arith) in
-    let full = turn_is_full p (lists k) (lists (suc k)) z.0 (R k) (a k) (e k) (c k) (w.rows k (omega arith)) tn in
-    let feas = turn_is_feasible p (lists k) (lists (suc k)) z.0 (R k) (R (suc k)) (a k) (a (suc k)) (e k) (c k) (w.rows k (omega arith))
-    (w.rows (suc k) (omega arith)) tn z.1 in
-    let P : ℕ → Type 0 = λ x. (IsFull p (lists x)) × (RowsFeasible p (lists x) (R x)) in
-    let q : suc k ≡ length o + suc d = omega arith in subst P q (full, feas)
+module _ {p : Program} {o : Listing} where
+  -- the whole opening is full
+  pub opening_is_full : IsOpening p o → IsFull p o
+  opening_is_full u =
+      let w : IsOpened p o = (let P : Listing → Type 0 = λ x. IsOpened p x in subst P (take-length o) (opened o u.taken (length o) (omega arith))) in
+      record { is_list = w.is_list; once = w.once; regular = w.regular; all = u.each_row; free_in = u.free_named }
 
--- NO BASIS TWICE: two steps of a path never list the same columns
-pub bases_differ : (p : Program) (o : Listing) (t : ℕ) (lists : ℕ → Listing) (R : ℕ → ℕ → ℕ → ℤ) (a : ℕ → ℕ → ℤ) (e c : ℕ → ℕ) → IsOpening p o
-    → IsPath p o t (states lists R a e c)
-    → (k l : ℕ) → length o ≤ k → k < l → l ≤ t → ((j : ℕ) → ColListed (lists l) j → ColListed (lists k) j)
-    → ((j : ℕ) → ColListed (lists k) j → ColListed (lists l) j) → ⊥
-bases_differ p o t lists R a e c u w k l ok kl lt back forth =
-    let at : (x : ℕ) → x ≤ l - k → (IsFull p (lists (x + k))) × (RowsFeasible p (lists (x + k)) (R (x + k))) = λ x h.
-    (let P : ℕ → Type 0 = λ y. (IsFull p (lists y)) × (RowsFeasible p (lists y) (R y)) in let q : length o + (x + k - length o) ≡ x + k = omega arith in
-    subst P q (path_trail p o t lists R a e c u w (x + k - length o) (omega arith))) in
-    let trail : IsTrail p (l - k) (λ x. lists (x + k)) (λ x. R (x + k)) (λ x. a (x + k)) (λ x. e (x + k)) (λ x. c (x + k)) = record {
-      full = λ x h. (at x h).0;
-      rows = λ x h. w.rows (x + k) (omega arith);
-      feasible = λ x h. (at x h).1;
-      turn = λ x h. (let q : suc (x + k) ≡ suc x + k = omega arith in let P : ℕ
-          → Type 0 = λ y. IsPivot p (lists (x + k)) (R (x + k)) (a (x + k)) (lists y) (e (x + k)) (c (x + k)) in
-          subst P q (w.pivots (x + k) (omega arith) (omega arith)));
-    } in
-    let last : (l - k) + k ≡ l = omega arith in let first : 0 + k ≡ k = omega arith in
-    trail_columns_differ p (l - k) (λ x. lists (x + k)) (λ x. R (x + k)) (λ x. a (x + k)) (λ x. e (x + k)) (λ x. c (x + k)) trail (omega arith)
-    (λ j h. let P : ℕ → Type 0 = λ y. ColListed (lists y) j in subst P (sym first) (back j (subst P last h)))
-    (λ j h. let P : ℕ → Type 0 = λ y. ColListed (lists y) j in subst P (sym last) (forth j (subst P first h)))
+  -- and its rows are feasible
+  pub opening_is_feasible : {R : ℕ → ℕ → ℤ} {a : ℕ → ℤ} → IsOpening p o → IsRowsOf p o R a → RowsFeasible p o R
+  opening_is_feasible {R} u w i j h bound =
+      let f = opening_is_full u in
+      let d = u.feasible.0 in let v = u.feasible.1 in let fs = u.feasible.2 in
+      let n = p.cols in let k = solution_killed fs.solution in let x = k.0 in
+      let dp : pos 0 <ℤ d = fs.solution.positive in
+      let b : IsBasic p.rows n (number p) (col_of o) d x = record {
+        killed = k.1;
+        side = k.2;
+        positive = dp;
+        outside = λ h kn out. k.3 h kn ∙ u.feasible.3 h kn (λ y. (let z = in_cols f h y in out z.0 z.1 z.2));
+      } in
+      let e : R i (col_of o i) *ℤ x (col_of o i) ≡ d *ℤ R i n = row_at_basic (table_of f w) b i (f.is_list.row_inside i j h) in
+      let jn : j < n = f.is_list.column_inside i j h in
+      let own : pos 0 <ℤ R i j = (w.listed i j h).2.own in
+      let P : ℕ → Type 0 = λ t. R i t *ℤ x t ≡ d *ℤ R i n in
+      let e2 : R i j *ℤ v j ≡ d *ℤ R i n = ap (λ t. R i j *ℤ t) (sym (k.3 j jn)) ∙ subst P (col_is f i h) e in
+      let y : pos 0 ≤ℤ (R i j *ℤ v j) = times_nonneg (R i j) (v j) (omega (arith, linear)) (fs.nonnegative j jn bound) in
+      cancel_nonneg d (R i n) dp (omega (arith, linear))
+
+  module _ {t : ℕ} {steps : States} where
+    -- a path from the end of the opening on
+    pub path_trail : IsOpening p o → IsPath p o t steps → (d : ℕ) → length o + d ≤ t
+        → (IsFull p (steps.lists (length o + d))) × (RowsFeasible p (steps.lists (length o + d)) (steps.rows (length o + d)))
+    path_trail u w zero h =
+        let k = length o + 0 in let e : k ≡ length o = omega arith in
+        let s : steps.lists k ≡ o = ap steps.lists e ∙ w.opens (length o) (omega arith) (omega arith) ∙ take-length o in
+        let Q : Listing → Type 0 = λ x. IsRowsOf p x (steps.rows k) (steps.aim k) in
+        let P : Listing → Type 0 = λ x. (IsFull p x) × (RowsFeasible p x (steps.rows k)) in
+        subst P (sym s) (opening_is_full u, opening_is_feasible u (subst Q s (w.rows k h)))
+    path_trail u w (suc d) h =
+        let k = length o + d in
+        let z = path_trail u w d (omega arith) in
+        let tn = w.pivots k (omega arith) (omega arith) in
+        let full = turn_is_full z.0 (w.rows k (omega arith)) tn in
+        let feas = turn_is_feasible z.0 (w.rows k (omega arith)) (w.rows (suc k) (omega arith)) tn z.1 in
+        let P : ℕ → Type 0 = λ x. (IsFull p (steps.lists x)) × (RowsFeasible p (steps.lists x) (steps.rows x)) in
+        let q : suc k ≡ length o + suc d = omega arith in subst P q (full, feas)
+
+    pub trail_at : IsOpening p o → IsPath p o t steps → (k : ℕ) → length o ≤ k → k ≤ t
+        → (IsFull p (steps.lists k)) × (RowsFeasible p (steps.lists k) (steps.rows k))
+    trail_at u w k ok kt =
+        let P : ℕ → Type 0 = λ x. (IsFull p (steps.lists x)) × (RowsFeasible p (steps.lists x) (steps.rows x)) in
+        let q : length o + (k - length o) ≡ k = omega arith in subst P q (path_trail u w (k - length o) (omega arith))
+
+    -- NO BASIS TWICE: two steps of a path never list the same columns
+    pub bases_differ : IsOpening p o → IsPath p o t steps → (k l : ℕ) → length o ≤ k → k < l → l ≤ t
+        → ((j : ℕ) → ColListed (steps.lists l) j → ColListed (steps.lists k) j) → ((j : ℕ) → ColListed (steps.lists k) j → ColListed (steps.lists l) j) → ⊥
+    bases_differ u w k l ok kl lt back forth =
+        let trail : IsTrail p (l - k) (later k steps) = record {
+          full = λ x h. (trail_at u w (x + k) (omega arith) (omega arith)).0;
+          rows = λ x h. w.rows (x + k) (omega arith);
+          feasible = λ x h. (trail_at u w (x + k) (omega arith) (omega arith)).1;
+          turn = λ x h. (let q : suc (x + k) ≡ suc x + k = omega arith in let s = later k steps in
+              let P : ℕ → Type 0 = λ y. IsPivot p (s.lists x) (s.rows x) (s.aim x) (steps.lists y) (s.entering x) (s.leaving x) in
+              subst P q (w.pivots (x + k) (omega arith) (omega arith)));
+        } in
+        let last : (l - k) + k ≡ l = omega arith in let first : 0 + k ≡ k = omega arith in
+        trail_columns_differ trail (omega arith)
+        (λ j h. let P : ℕ → Type 0 = λ y. ColListed (steps.lists y) j in subst P (sym first) (back j (subst P last h)))
+        (λ j h. let P : ℕ → Type 0 = λ y. ColListed (steps.lists y) j in subst P (sym last) (forth j (subst P first h)))

@@ -28,13 +28,13 @@ sum_monotone zero f g e = omega (arith, linear)
 sum_monotone (suc n) f g e = let a : sum_to n f ≤ℤ sum_to n g = sum_monotone n f g (λ i h. e i (omega arith)) in let b : f n ≤ℤ g n = e n (omega arith) in
     omega (arith, linear)
 
--- SECOND LAW: the multipliers of the aim's row, over s times the multiple, give the prices and the aim's value.
--- The price of column j is minus a j over the multiple; num over den is that fraction
-pub price_from_multipliers : (m n : ℕ) (A : ℕ → ℕ → ℤ) (RowIn ColIn : ℕ → Type 0) (aim : ℕ → ℤ) (s : ℤ) (y a : ℕ → ℤ) (num den : ℤ) (j : ℕ)
-    → IsAimRow m n A RowIn ColIn aim s y a → j < n
-    → num *ℤ a (suc n) ≡ neg_ℤ (a j) *ℤ den → num *ℤ (s *ℤ a (suc n)) ≡ den *ℤ (sum_to m (λ i. y i *ℤ A i j) -ℤ (s *ℤ a (suc n)) *ℤ aim j)
-price_from_multipliers m n A RowIn ColIn aim s y a num den j u jn e =
-    let f : s *ℤ (a (suc n) *ℤ aim j -ℤ a j) ≡ sum_to m (λ i. y i *ℤ A i j) = u.each j jn in
-    let l : num *ℤ (s *ℤ a (suc n)) ≡ s *ℤ (num *ℤ a (suc n)) = simp ring in
-    let r : den *ℤ (s *ℤ (a (suc n) *ℤ aim j -ℤ a j) -ℤ (s *ℤ a (suc n)) *ℤ aim j) ≡ s *ℤ (neg_ℤ (a j) *ℤ den) = simp ring (omega (arith, linear)) in
-    l ∙ ap (λ t. s *ℤ t) e ∙ sym r ∙ ap (λ t. den *ℤ (t -ℤ (s *ℤ a (suc n)) *ℤ aim j)) f
+module _ {m n : ℕ} {A : ℕ → ℕ → ℤ} {RowIn ColIn : ℕ → Type 0} {aim : ℕ → ℤ} {s : ℤ} {y a : ℕ → ℤ} where
+  -- SECOND LAW: the multipliers of the aim's row, over s times the multiple, give the prices and the aim's value.
+  -- The price of column j is minus a j over the multiple; num over den is that fraction
+  pub price_from_multipliers : (num den : ℤ) (j : ℕ) → IsAimRow m n A RowIn ColIn aim s y a → j < n → num *ℤ a (suc n) ≡ neg_ℤ (a j) *ℤ den
+      → num *ℤ (s *ℤ a (suc n)) ≡ den *ℤ (sum_to m (λ i. y i *ℤ A i j) -ℤ (s *ℤ a (suc n)) *ℤ aim j)
+  price_from_multipliers num den j u jn e =
+      let f : s *ℤ (a (suc n) *ℤ aim j -ℤ a j) ≡ sum_to m (λ i. y i *ℤ A i j) = u.each j jn in
+      let l : num *ℤ (s *ℤ a (suc n)) ≡ s *ℤ (num *ℤ a (suc n)) = simp ring in
+      let r : den *ℤ (s *ℤ (a (suc n) *ℤ aim j -ℤ a j) -ℤ (s *ℤ a (suc n)) *ℤ aim j) ≡ s *ℤ (neg_ℤ (a j) *ℤ den) = simp ring (omega (arith, linear)) in
+      l ∙ ap (λ t. s *ℤ t) e ∙ sym r ∙ ap (λ t. den *ℤ (t -ℤ (s *ℤ a (suc n)) *ℤ aim j)) f

@@ -1,6 +1,12 @@
--- The states of a path, made of its lists, rows, aims, and entering and leaving columns.
-use Rattle.std.proofs.Common.{ℕ, ℤ}
-use Rattle.gs_rows.specs.{Program.{Listing}, Path.{States}}
+-- The steps of a path from a later one on.
+use Rattle.std.proofs.Common.{ℕ, ◌+◌}
+use Rattle.gs_rows.specs.Path.{States}
 
-abbrev pub states : (ℕ → Listing) → (ℕ → ℕ → ℕ → ℤ) → (ℕ → ℕ → ℤ) → (ℕ → ℕ) → (ℕ → ℕ) → States
-states lists rows aim entering leaving = record { lists = lists; rows = rows; aim = aim; entering = entering; leaving = leaving }
+abbrev pub later : ℕ → States → States
+later k s = record {
+  lists = λ x. s.lists (x + k);
+  rows = λ x. s.rows (x + k);
+  aim = λ x. s.aim (x + k);
+  entering = λ x. s.entering (x + k);
+  leaving = λ x. s.leaving (x + k);
+}

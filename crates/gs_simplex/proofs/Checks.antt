@@ -4,7 +4,7 @@ use Rattle.std.proofs.{lemmas.Bool.{cases_eq}, lemmas.List.{length-take-le, get_
 use Rattle.gs_rows.specs.{declared.Program.{Program}, Sums.{sum_to}}
 use Rattle.gs_rows.specs.Program.{number, IsFree, Listing, IsListed, RowListed, ColListed, IsPairList, IsRowsOf, CanTake, IsTakenInTurn, IsOpening}
 use Rattle.gs_rows.proofs.{Ring.{ring, linear}, Steps.{take_rows}, Solutions.{basic_exists}, Laws.{end_feasible}}
-use Rattle.gs_rows.proofs.{Bases.{IsFull, from_cols, col_of, table_of, state_of}, Opening.{IsOpened}}
+use Rattle.gs_rows.proofs.{Bases.{IsFull, from_cols, table_of, state_of}, Opening.{IsOpened}}
 use Rattle.gs_rows.proofs.PairLists.{less_one, place_of, listed_at, whole_opened, opened_pair_list}
 use Rattle.gs_simplex.specs.{Table.{table_rows, IsTableOf, IsTableAfter}, Conditions.{IsNewPair, CanTakeAt, IsTaken, HasFeasibleSides}}
 use Rattle.gs_simplex.proofs.{Multiples.{down_nonneg}, Kept.{row_zero_kept}}
@@ -27,7 +27,7 @@ front_taken p o t h u k kl =
     (w.0, w.1, get_or-take t o k (0, 0) kt ∙ w.2, subst P (sym (take_take o k t (omega arith))) w.3)
 
 pub front_opened : (p : Program) (o : Listing) (t : ℕ) (xs : List ℤ) → t ≤ length o → IsTaken p o t xs → IsOpened p (take t o)
-front_opened p o t xs h u = whole_opened p (take t o) (front_taken p o t h u.taken)
+front_opened p o t xs h u = whole_opened (front_taken p o t h u.taken)
 
 -- what the checks of one pair show
 pub can_take_from : (p : Program) (o : Listing) (t r c : ℕ) (xs : List ℤ) → t < length o → slice_index_or o t (0, 0) ≡ (r + 1, c + 1) → r < p.rows
@@ -51,7 +51,7 @@ can_take_from p o t r c xs h at rm cm new rows ne =
           column = cm;
           row_free = row_free;
           column_free = column_free;
-          found = (w.0, w.1, held.0 r, w.2, λ z. ne (row_zero_kept p xs held.0 held.1 held.3 r c rm (omega arith) z));
+          found = (w.0, w.1, held.0 r, w.2, λ z. ne (row_zero_kept held.3 r c rm (omega arith) z));
         },
         ne,
       );
@@ -73,19 +73,19 @@ taken_more p o t r c xs new h at can u w =
         | inr ne ↦ u.taken k (omega arith)
       ];
       table = w.table;
-      rows = record { rows_of = (q.0, q.1, subst P (sym e) (take_rows p (take t o) r c v.0 q.0 v.1 q.1 il can v.2 q.2), q.3) };
+      rows = record { rows_of = (q.0, q.1, subst P (sym e) (take_rows il can v.2 q.2), q.3) };
     }
 
 -- ---- all together
 pub whole_pairs : (p : Program) (o : Listing) (xs : List ℤ) → IsTaken p o (length o) xs → IsPairList p o
-whole_pairs p o xs u = opened_pair_list p o (whole_opened p o u.taken)
+whole_pairs p o xs u = opened_pair_list (whole_opened u.taken)
 
 module _ (p : Program) (o : Listing) (xs : List ℤ) (u : IsTaken p o (length o) xs) (named : (i : ℕ) → i < p.rows
     → (k : ℕ) × (k < length o) × ((slice_index_or o k (0, 0)).0 ≡ i + 1))
     (free : (j : ℕ) → j < p.cols → IsFree p j → (k : ℕ) × (k < length o)
     × ((slice_index_or o k (0, 0)).1 ≡ j + 1)) (sides : HasFeasibleSides p o (table_rows p xs)) where
   is_opened : IsOpened p o
-  is_opened = whole_opened p o u.taken
+  is_opened = whole_opened u.taken
 
   row_named : (i : ℕ) → i < p.rows → RowListed o i
   row_named i h =
@@ -112,8 +112,8 @@ module _ (p : Program) (o : Listing) (xs : List ℤ) (u : IsTaken p o (length o)
   pub opening_from : length o ≡ p.rows → IsOpening p o
   opening_from long =
       let n = p.cols in let m = p.rows in let R = rows_o.rows_of.0 in let a = rows_o.rows_of.1 in let rows_of = rows_o.rows_of.2 in
-      let t = table_of p o full R a rows_of in
-      let b = basic_exists m n (number p) (col_of p o full) R t in
+      let t = table_of full rows_of in
+      let b = basic_exists t in
       let D = b.0 in let v = b.1 in let w = b.2 in
       record {
         long = long;
@@ -129,9 +129,8 @@ module _ (p : Program) (o : Listing) (xs : List ℤ) (u : IsTaken p o (length o)
               solves = λ i im. (let z : sum_to n (λ j. number p i j *ℤ v j) +ℤ number p i n *ℤ v n ≡ pos 0 = w.killed.row i im in
                   let s : number p i n *ℤ v n ≡ neg_ℤ (D *ℤ number p i n) = ap (λ x. number p i n *ℤ x) w.side ∙ simp ring in omega (arith, linear));
             };
-            nonnegative = λ j jn out. end_feasible m n (number p) (Rattle.gs_rows.specs.Program.aim_of p) (IsFree p) (col_of p o full) R a D v
-                (state_of p o full R a rows_of sides_o) w j jn out;
+            nonnegative = λ j jn out. end_feasible (state_of full rows_of sides_o) w j jn out;
           },
-          λ j jn out. w.outside j jn (λ i im e. out (from_cols p o full j (i, im, e))),
+          λ j jn out. w.outside j jn (λ i im e. out (from_cols full j (i, im, e))),
         );
       }

@@ -1,11 +1,11 @@
 -- Where a path ends its values are feasible and its prices have multipliers; where it is unbounded the aim has no bound.
-use Rattle.std.proofs.Common.{◌≡◌, ℕ, suc, ◌+◌, ◌-◌, ◌<◌, List, inl, inr, length, slice_index_or, ℤ, pos, neg_ℤ, ◌+ℤ◌, ◌-ℤ◌, ◌*ℤ◌, ◌≤ℤ◌, ◌<ℤ◌, sym, ap, subst, ◌∙◌, arith}
+use Rattle.std.proofs.Common.{◌≡◌, ℕ, suc, ◌+◌, ◌-◌, ◌<◌, List, inl, inr, slice_index_or, ℤ, pos, neg_ℤ, ◌+ℤ◌, ◌-ℤ◌, ◌*ℤ◌, ◌≤ℤ◌, ◌<ℤ◌, sym, ap, subst, ◌∙◌, arith}
 use Rattle.gs_rows.specs.{declared.Program.{Program}, Sums.{sum_to}}
-use Rattle.gs_rows.specs.Program.{number, aim_of, IsFree, Listing, IsListed, RowListed, ColListed, IsRowsOf, IsSolution, IsFeasible, IsOpening}
+use Rattle.gs_rows.specs.Program.{number, aim_of, IsFree, Listing, IsListed, ColListed, IsRowsOf, IsSolution, IsFeasible, IsOpening}
 use Rattle.gs_rows.specs.Path.{NoneEnters, ends, unbounded, PathStops}
 use Rattle.gs_rows.proofs.Ring.{ring, linear, times_times, zero_times, times_nonneg, times_pos, cancel, cancel_nonneg}
-use Rattle.gs_rows.proofs.{Solutions.{AllRows, IsKilled, IsBasic, find_col, row_at_basic, basic_exists, aim_at_basic}, Turns.{IsState}}
-use Rattle.gs_rows.proofs.{Bases.{IsFull, RowsFeasible, col_of, col_listed, in_cols, from_cols, state_of}, Opening.{path_trail}, Agree.{Agree, rows_agree}}
+use Rattle.gs_rows.proofs.{Solutions.{IsKilled, IsBasic, find_col, row_at_basic, basic_exists, aim_at_basic}, Turns.{IsState}}
+use Rattle.gs_rows.proofs.{Bases.{IsFull, RowsFeasible, col_of, col_listed, in_cols, from_cols, state_of}, Opening.{trail_at}, Agree.{Agree, rows_agree}}
 use Rattle.gs_rows.proofs.{Laws.{IsUnboundedAt, end_feasible, no_bound}, Pairing.{price_from_multipliers}}
 use Rattle.gs_frac.specs.declared.value.Fraction.{Fraction}
 use Rattle.gs_simplex.specs.{declared.answer.Best.{Best}, Answer.{IsBestAt, IsBest}, Laws.{AreOver}}
@@ -17,26 +17,24 @@ pub record IsLast (p : Program) (l : Listing) (R : ℕ → ℕ → ℤ) (a : ℕ
   pub feasible : RowsFeasible p l R
   pub none : NoneEnters p l a
 
-last_of : (p : Program) (o : Listing) (limit n : ℕ) (l : Listing) (R : ℕ → ℕ → ℤ) (a : ℕ → ℤ) → IsOpening p o → PathStops p o limit (ends n l)
-    → IsRowsOf p l R a → IsLast p l R a
-last_of p o limit n l R a ok u rows =
-    let t = u.stops.0 in let s = u.stops.1 in let w = u.stops.2 in
-    let e : t ≡ length o + n = w.2 in let el : l ≡ s.lists t = w.3 in
-    let P : ℕ → Type 0 = λ x. (IsFull p (s.lists x)) × (RowsFeasible p (s.lists x) (s.rows x)) in
-    let z : (IsFull p (s.lists t)) × (RowsFeasible p (s.lists t) (s.rows t)) =
-    subst P (sym e) (path_trail p o t s.lists s.rows s.aim s.entering s.leaving ok w.0.path n (omega arith)) in
-    let Q : Listing → Type 0 = λ x. (IsFull p x) × (RowsFeasible p x (s.rows t)) in
-    let y = subst Q (sym el) z in
-    let B : Listing → Type 0 = λ x. IsRowsOf p x (s.rows t) (s.aim t) in
-    let ag : Agree p R (s.rows t) a (s.aim t) = rows_agree p l R (s.rows t) a (s.aim t) y.0 rows (subst B (sym el) (w.0.path.rows t (omega arith))) in
-    let N : Listing → Type 0 = λ x. NoneEnters p x (s.aim t) in
-    let none : NoneEnters p l (s.aim t) = subst N (sym el) w.1 in
-    record {
-      full = y.0;
-      feasible = λ i j h bound. (let q : R i p.cols ≡ s.rows t i p.cols = ag.rows i p.cols (y.0.is_list.row_inside i j h) (omega arith) in
-          let k : pos 0 ≤ℤ s.rows t i p.cols = y.1 i j h bound in omega (arith, linear));
-      none = λ j jn out. (let q : a j ≡ s.aim t j = ag.aim j (omega arith) in let k : s.aim t j ≤ℤ pos 0 = none j jn out in omega (arith, linear));
-    }
+module _ {p : Program} {l : Listing} {R : ℕ → ℕ → ℤ} {a : ℕ → ℤ} {o : Listing} {limit : ℕ} where
+  last_of : (n : ℕ) → IsOpening p o → PathStops p o limit (ends n l) → IsRowsOf p l R a → IsLast p l R a
+  last_of n ok u rows =
+      let t = u.stops.0 in let s = u.stops.1 in let w = u.stops.2 in
+      let el : l ≡ s.lists t = w.3 in
+      let z = trail_at ok w.0.path t w.0.whole (omega arith) in
+      let Q : Listing → Type 0 = λ x. (IsFull p x) × (RowsFeasible p x (s.rows t)) in
+      let y = subst Q (sym el) z in
+      let B : Listing → Type 0 = λ x. IsRowsOf p x (s.rows t) (s.aim t) in
+      let ag : Agree p R (s.rows t) a (s.aim t) = rows_agree y.0 rows (subst B (sym el) (w.0.path.rows t (omega arith))) in
+      let N : Listing → Type 0 = λ x. NoneEnters p x (s.aim t) in
+      let none : NoneEnters p l (s.aim t) = subst N (sym el) w.1 in
+      record {
+        full = y.0;
+        feasible = λ i j h bound. (let q : R i p.cols ≡ s.rows t i p.cols = ag.rows i p.cols (y.0.is_list.row_inside i j h) (omega arith) in
+            let k : pos 0 ≤ℤ s.rows t i p.cols = y.1 i j h bound in omega (arith, linear));
+        none = λ j jn out. (let q : a j ≡ s.aim t j = ag.aim j (omega arith) in let k : s.aim t j ≤ℤ pos 0 = none j jn out in omega (arith, linear));
+      }
 
 -- ---- the values over one denominator
 over_from : (r s num den d v : ℤ) → pos 0 <ℤ r → num *ℤ r ≡ s *ℤ den → r *ℤ v ≡ d *ℤ s → num *ℤ d ≡ v *ℤ den
@@ -57,22 +55,21 @@ pub record AreValues (p : Program) (a : ℕ → ℤ) (value : List Fraction) (d 
   pub feasible : IsFeasible p d v
   pub aim : a (suc p.cols) *ℤ sum_to p.cols (λ j. aim_of p j *ℤ v j) ≡ d *ℤ a p.cols
 
-module _ (p : Program) (l : Listing) (R : ℕ → ℕ → ℤ) (a : ℕ → ℤ) (value price : List Fraction) (w : IsLast p l R a) (b : IsBestAt p l R a value price) (d : ℤ)
-    (v : ℕ → ℤ)
-    (st : IsState p.rows p.cols (number p) (aim_of p) (IsFree p) (col_of p l w.full) R a)
-    (basic : IsBasic p.rows p.cols (number p) (col_of p l w.full) d v) where
+module _ {p : Program} {l : Listing} {R : ℕ → ℕ → ℤ} {a : ℕ → ℤ} {value price : List Fraction} {d : ℤ} {v : ℕ → ℤ} (w : IsLast p l R a)
+    (b : IsBestAt p l R a value price) (st : IsState p.rows p.cols (number p) (aim_of p) (IsFree p) (col_of l) R a)
+    (basic : IsBasic p.rows p.cols (number p) (col_of l) d v) where
   values_over : AreOver p.cols value d v
-  values_over j jn x = elim (find_col p.rows (col_of p l w.full) j) [
-    | inr none ↦ (let out : ColListed l j → ⊥ = λ h. (let z = in_cols p l w.full j h in none z.0 z.1 z.2) in
+  values_over j jn x = elim (find_col p.rows (col_of l) j) [
+    | inr none ↦ (let out : ColListed l j → ⊥ = λ h. (let z = in_cols w.full j h in none z.0 z.1 z.2) in
         let v0 : v j ≡ pos 0 = basic.outside j jn none in
         ap (λ t. t *ℤ d) (b.unlisted j jn out x) ∙ zero_times d ∙ sym (ap (λ t. t *ℤ (slice_index_or value j x).den) v0
         ∙ zero_times (slice_index_or value j x).den))
     | inl c ↦ (let i = c.0 in
         let L : ℕ → Type 0 = λ k. IsListed l i k in
-        let h : IsListed l i j = subst L c.2 (col_listed p l w.full i c.1) in
+        let h : IsListed l i j = subst L c.2 (col_listed w.full i c.1) in
         let S : ℕ → Type 0 = λ k. R i k *ℤ v k ≡ d *ℤ R i p.cols in
         over_from (R i j) (R i p.cols) (slice_index_or value j x).num (slice_index_or value j x).den d (v j) (b.rows_of.listed i j h).2.own (b.listed i j h x)
-        (subst S c.2 (row_at_basic p.rows p.cols (number p) (col_of p l w.full) R d v st.table basic i c.1)))
+        (subst S c.2 (row_at_basic st.table basic i c.1)))
   ]
 
   are_values : AreValues p a value d v
@@ -80,17 +77,17 @@ module _ (p : Program) (l : Listing) (R : ℕ → ℕ → ℤ) (a : ℕ → ℤ)
     over = values_over;
     feasible = record {
       solution = basic_solution p d v basic.positive basic.side basic.killed;
-      nonnegative = λ j jn bound. end_feasible p.rows p.cols (number p) (aim_of p) (IsFree p) (col_of p l w.full) R a d v st basic j jn bound;
+      nonnegative = λ j jn bound. end_feasible st basic j jn bound;
     };
-    aim = aim_at_basic p.rows p.cols (number p) (AllRows p.rows) (col_of p l w.full) (aim_of p) st.aim_row.0 st.aim_row.1 a v d st.aim_row.2 basic;
+    aim = aim_at_basic st.aim_row.2 basic;
   }
 
-values_exist : (p : Program) (l : Listing) (R : ℕ → ℕ → ℤ) (a : ℕ → ℤ) (value price : List Fraction) → IsLast p l R a → IsBestAt p l R a value price
+values_exist : {p : Program} {l : Listing} {R : ℕ → ℕ → ℤ} {a : ℕ → ℤ} (value price : List Fraction) → IsLast p l R a → IsBestAt p l R a value price
     → (d : ℤ) × (v : ℕ → ℤ) × AreValues p a value d v
-values_exist p l R a value price w b =
-    let st = state_of p l w.full R a b.rows_of w.feasible in
-    let z = basic_exists p.rows p.cols (number p) (col_of p l w.full) R st.table in
-    (z.0, z.1, are_values p l R a value price w b z.0 z.1 st z.2)
+values_exist value price w b =
+    let st = state_of w.full b.rows_of w.feasible in
+    let z = basic_exists st.table in
+    (z.0, z.1, are_values w b st z.2)
 
 -- ---- the prices
 price_nonnegative : (num den m f : ℤ) → pos 0 <ℤ m → f ≤ℤ pos 0 → num *ℤ m ≡ neg_ℤ f *ℤ den → pos 0 <ℤ den → pos 0 ≤ℤ num
@@ -99,18 +96,18 @@ price_nonnegative num den m f mp fn e dp =
     let c : m *ℤ num ≡ num *ℤ m = *ℤ_comm m num in
     cancel_nonneg m num mp (omega (arith, linear))
 
-falls : (p : Program) (l : Listing) (R : ℕ → ℕ → ℤ) (a : ℕ → ℤ) → IsLast p l R a → IsRowsOf p l R a → (j : ℕ) → j < p.cols → a j ≤ℤ pos 0
-falls p l R a w u j jn = elim (find_col p.rows (col_of p l w.full) j) [
-  | inl c ↦ (let z : a j ≡ pos 0 = u.aim_row.2.zeros j (from_cols p l w.full j c) in omega (arith, linear))
-  | inr none ↦ w.none j jn (λ h. let z = in_cols p l w.full j h in none z.0 z.1 z.2)
-]
+module _ {p : Program} {l : Listing} {R : ℕ → ℕ → ℤ} {a : ℕ → ℤ} where
+  falls : IsLast p l R a → IsRowsOf p l R a → (j : ℕ) → j < p.cols → a j ≤ℤ pos 0
+  falls w u j jn = elim (find_col p.rows (col_of l) j) [
+    | inl c ↦ (let z : a j ≡ pos 0 = u.aim_row.2.zeros j (from_cols w.full j c) in omega (arith, linear))
+    | inr none ↦ w.none j jn (λ h. let z = in_cols w.full j h in none z.0 z.1 z.2)
+  ]
 
-price_at : (p : Program) (l : Listing) (R : ℕ → ℕ → ℤ) (a : ℕ → ℤ) (value price : List Fraction) → IsBestAt p l R a value price → (j : ℕ) → j < p.cols
-    → (x : Fraction)
-    → (slice_index_or price j x).num *ℤ a (suc p.cols) ≡ neg_ℤ (a j) *ℤ (slice_index_or price j x).den
-price_at p l R a value price b j jn x =
-    let q : p.cols + 1 ≡ suc p.cols = omega arith in
-    ap (λ k. (slice_index_or price j x).num *ℤ a k) (sym q) ∙ b.prices j jn x
+  price_at : (value price : List Fraction) → IsBestAt p l R a value price → (j : ℕ) → j < p.cols → (x : Fraction)
+      → (slice_index_or price j x).num *ℤ a (suc p.cols) ≡ neg_ℤ (a j) *ℤ (slice_index_or price j x).den
+  price_at value price b j jn x =
+      let q : p.cols + 1 ≡ suc p.cols = omega arith in
+      ap (λ k. (slice_index_or price j x).num *ℤ a k) (sym q) ∙ b.prices j jn x
 
 -- ---- the laws
 pub end_is_feasible : (p : Program) (o : Listing) (limit : ℕ) (b : Best) → IsOpening p o → IsBest p o limit b
@@ -118,12 +115,12 @@ pub end_is_feasible : (p : Program) (o : Listing) (limit : ℕ) (b : Best) → I
     × ((j : ℕ) → j < p.cols → (x : Fraction) → pos 0 <ℤ (slice_index_or b.price.items j x).den → pos 0 ≤ℤ (slice_index_or b.price.items j x).num)
 end_is_feasible p o limit b ok u =
     let R = u.last.0 in let a = u.last.1 in let at = u.last.2 in let l = b.basis.items in
-    let w = last_of p o limit b.pivots l R a ok u.stops at.rows_of in
-    let z = values_exist p l R a b.value.items b.price.items w at in (
+    let w = last_of b.pivots ok u.stops at.rows_of in
+    let z = values_exist b.value.items b.price.items w at in (
       (z.0, z.1, z.2.feasible, z.2.over),
       λ j jn x dp. price_nonnegative (slice_index_or b.price.items j x).num (slice_index_or b.price.items j x).den (a (suc p.cols))
-          (a j) at.rows_of.aim_row.2.multiple (falls p l R a w at.rows_of j jn)
-          (price_at p l R a b.value.items b.price.items at j jn x) dp,
+          (a j) at.rows_of.aim_row.2.multiple (falls w at.rows_of j jn)
+          (price_at b.value.items b.price.items at j jn x) dp,
     )
 
 aim_over : (s m d x f y : ℤ) → m *ℤ x ≡ d *ℤ f → s *ℤ f ≡ y → (s *ℤ m) *ℤ x ≡ d *ℤ y
@@ -139,16 +136,15 @@ pub prices_have_multipliers_lem : (p : Program) (o : Listing) (limit : ℕ) (b :
     × (s *ℤ sum_to p.cols (λ j. aim_of p j *ℤ v j) ≡ d *ℤ sum_to p.rows (λ i. y i *ℤ number p i p.cols)))
 prices_have_multipliers_lem p o limit b ok u =
     let R = u.last.0 in let a = u.last.1 in let at = u.last.2 in let l = b.basis.items in
-    let w = last_of p o limit b.pivots l R a ok u.stops at.rows_of in
-    let z = values_exist p l R a b.value.items b.price.items w at in
+    let w = last_of b.pivots ok u.stops at.rows_of in
+    let z = values_exist b.value.items b.price.items w at in
     let ar = at.rows_of.aim_row in
     let s = ar.0 in let y = ar.1 in let m = a (suc p.cols) in (
       s *ℤ m,
       y,
       times_pos s m ar.2.positive ar.2.multiple,
-      λ j jn x. price_from_multipliers p.rows p.cols (number p) (RowListed l) (ColListed l) (aim_of p) s y a (slice_index_or b.price.items j x).num
-          (slice_index_or b.price.items j x).den j ar.2 jn
-          (price_at p l R a b.value.items b.price.items at j jn x),
+      λ j jn x. price_from_multipliers (slice_index_or b.price.items j x).num (slice_index_or b.price.items j x).den j ar.2 jn
+          (price_at b.value.items b.price.items at j jn x),
       (
         z.0,
         z.1,
@@ -164,17 +160,14 @@ aim_has_no_bound_lem p o limit column ok u n =
     let t = u.stops.0 in let s = u.stops.1 in let w = u.stops.2 in
     let path = w.0.path in let l = s.lists t in let R = s.rows t in let a = s.aim t in
     let e = w.1.0 in let en = w.1.2 in let leaves = w.1.3 in
-    let P : ℕ → Type 0 = λ x. (IsFull p (s.lists x)) × (RowsFeasible p (s.lists x) (s.rows x)) in
-    let q : length o + (t - length o) ≡ t = omega (arith, w.0.whole) in
-    let z : (IsFull p l) × (RowsFeasible p l R) = subst P q (path_trail p o t s.lists s.rows s.aim s.entering s.leaving ok path (t - length o) (omega arith))
-    in
+    let z = trail_at ok path t w.0.whole (omega arith) in
     let f = z.0 in
-    let st = state_of p l f R a (path.rows t (omega arith)) z.1 in
-    let un : IsUnboundedAt p.rows p.cols (IsFree p) (col_of p l f) R a e = record {
+    let st = state_of f (path.rows t (omega arith)) z.1 in
+    let un : IsUnboundedAt p.rows p.cols (IsFree p) (col_of l) R a e = record {
       column = en.column;
-      unlisted = λ i im h. en.unlisted (from_cols p l f e (i, im, h));
+      unlisted = λ i im h. en.unlisted (from_cols f e (i, im, h));
       rises = en.rises;
-      none = λ i im bound. leaves i (col_of p l f i) (col_listed p l f i im) bound;
+      none = λ i im bound. leaves i (col_of l i) (col_listed f i im) bound;
     } in
-    let x = no_bound p.rows p.cols (number p) (aim_of p) (IsFree p) (col_of p l f) R a e st un n in
+    let x = no_bound st un n in
     (x.0, x.1, record { solution = basic_solution p x.0 x.1 x.2.positive x.2.side x.2.killed; nonnegative = x.2.nonnegative }, x.3)

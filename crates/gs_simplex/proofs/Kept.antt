@@ -21,7 +21,7 @@ kept_self p l xs u = record {
   );
 }
 
-module _ (p : Program) (xs : List ℤ) (R : ℕ → ℕ → ℤ) (a : ℕ → ℤ) (kept : IsKept p R a xs) where
+module _ {p : Program} {xs : List ℤ} {R : ℕ → ℕ → ℤ} {a : ℕ → ℤ} (kept : IsKept p R a xs) where
   pub narrow_kept : IsTable p xs → AllNarrow p R a
   narrow_kept u = (
     λ i j im jn.
@@ -55,8 +55,8 @@ module _ (p : Program) (xs : List ℤ) (R : ℕ → ℕ → ℤ) (a : ℕ → �
       up_pos m.0 (table_aim p xs (p.cols + 1)) (a (p.cols + 1)) m.1 (m.2 (p.cols + 1) (omega arith)) (subst P e h)
 
   -- ---- Bland's choice
-  pub enters_kept : (l : Listing) (e : ℕ) → Enters p l (table_aim p xs) e → Enters p l a e
-  enters_kept l e u = let m = kept.aim_kept.by in let c : e < p.cols = u.column in record {
+  pub enters_kept : {l : Listing} {e : ℕ} → Enters p l (table_aim p xs) e → Enters p l a e
+  enters_kept {e = e} u = let m = kept.aim_kept.by in let c : e < p.cols = u.column in record {
     column = u.column;
     unlisted = u.unlisted;
     rises = down_pos m.0 (table_aim p xs e) (a e) m.1 (m.2 e (omega arith)) u.rises;
@@ -66,9 +66,9 @@ module _ (p : Program) (xs : List ℤ) (R : ℕ → ℕ → ℤ) (a : ℕ → �
   pub none_enters_kept : (l : Listing) → NoneEnters p l (table_aim p xs) → NoneEnters p l a
   none_enters_kept l u j jn out = let m = kept.aim_kept.by in down_nonpos m.0 (table_aim p xs j) (a j) m.1 (m.2 j (omega arith)) (u j jn out)
 
-  pub leaves_kept : (l : Listing) (e r c : ℕ) → IsPairList p l → e < p.cols → Leaves p l (table_rows p xs) e r c → Leaves p l R e r c
-  leaves_kept l e r c pairs en u =
-      let il = pair_list_is_list p l pairs in
+  pub leaves_kept : {l : Listing} {e r c : ℕ} → IsPairList p l → e < p.cols → Leaves p l (table_rows p xs) e r c → Leaves p l R e r c
+  leaves_kept {e = e} {r} {c} pairs en u =
+      let il = pair_list_is_list pairs in
       let rm : r < p.rows = il.row_inside r c u.listed in
       let k = (kept.rows_kept r rm).by in
       record {
@@ -94,8 +94,8 @@ module _ (p : Program) (xs : List ℤ) (R : ℕ → ℕ → ℤ) (a : ℕ → �
             ∙ ap (λ t. t *ℤ (k.0 *ℤ R r e)) (sym (m.2 p.cols (omega arith))) ∙ ap (λ t. table_rows p xs i p.cols *ℤ t) (sym (k.2 e (omega arith))));
       }
 
-  pub none_leaves_kept : (l : Listing) (e : ℕ) → IsPairList p l → e < p.cols → NoneLeaves p l (table_rows p xs) e → NoneLeaves p l R e
-  none_leaves_kept l e pairs en u i j h free =
-      let im : i < p.rows = (pair_list_is_list p l pairs).row_inside i j h in
+  pub none_leaves_kept : {l : Listing} {e : ℕ} → IsPairList p l → e < p.cols → NoneLeaves p l (table_rows p xs) e → NoneLeaves p l R e
+  none_leaves_kept {e = e} pairs en u i j h free =
+      let im : i < p.rows = (pair_list_is_list pairs).row_inside i j h in
       let m = (kept.rows_kept i im).by in
       down_nonpos m.0 (table_rows p xs i e) (R i e) m.1 (m.2 e (omega arith)) (u i j h free)

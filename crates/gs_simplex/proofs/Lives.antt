@@ -198,28 +198,28 @@ module _ (p : Program) (l : Listing) (r found : ℕ) (places owns : List ℕ) (i
   -- the row of a row that the column is not listed with has 0 there
   zero_at : (i h j : ℕ) → i < p.rows → IsListed l h j → h ≢ i → cell items (p.cols + 2) i j ≡ pos 0
   zero_at i h j im at_h ne =
-      let jm : j < p.cols = (pair_list_is_list p l pairs).column_inside h j at_h in
-      row_zero_kept p items R a same i j im (omega arith) (elim (row_decided p l pairs i) [
-        | inl w ↦ (rows.listed i w.0 w.1).2.zeros j (h, at_h) (λ e. ne ((pair_list_is_list p l pairs).one_row h i j at_h (let P : ℕ → Type 0 =
+      let jm : j < p.cols = (pair_list_is_list pairs).column_inside h j at_h in
+      row_zero_kept same i j im (omega arith) (elim (row_decided pairs i) [
+        | inl w ↦ (rows.listed i w.0 w.1).2.zeros j (h, at_h) (λ e. ne ((pair_list_is_list pairs).one_row h i j at_h (let P : ℕ → Type 0 =
             λ t. IsListed l i t in subst P (sym e) w.1)))
         | inr none ↦ (rows.unlisted i im none).2.zeros j (h, at_h)
       ])
 
   zero_aim : (h j : ℕ) → IsListed l h j → cell items (p.cols + 2) p.rows j ≡ pos 0
   zero_aim h j at_h =
-      let jm : j < p.cols = (pair_list_is_list p l pairs).column_inside h j at_h in
+      let jm : j < p.cols = (pair_list_is_list pairs).column_inside h j at_h in
       sym (flipped_other p.cols (cell items (p.cols + 2) p.rows) j (λ e. omega arith))
-      ∙ aim_zero_kept p items R a same j (omega arith) (rows.aim_row.2.zeros j (h, at_h))
+      ∙ aim_zero_kept same j (omega arith) (rows.aim_row.2.zeros j (h, at_h))
 
   own_at : (i : ℕ) → i < p.rows + 1 → slice_index owns i < p.cols + 2
-  own_at i h = elim (row_decided p l pairs i) [
-    | inl w ↦ (let e : slice_index owns i ≡ w.0 = f.own i w.0 w.1 in let m : w.0 < p.cols = (pair_list_is_list p l pairs).column_inside i w.0 w.1 in
+  own_at i h = elim (row_decided pairs i) [
+    | inl w ↦ (let e : slice_index owns i ≡ w.0 = f.own i w.0 w.1 in let m : w.0 < p.cols = (pair_list_is_list pairs).column_inside i w.0 w.1 in
         omega arith)
     | inr none ↦ (let e : slice_index owns i ≡ p.cols + 1 = f.spare i (omega arith) none in omega arith)
   ]
 
   own_apart : (i k : ℕ) → i < p.rows + 1 → i ≢ r → 0 < k → k < found → slice_index places k ≢ slice_index owns i
-  own_apart i k h ne k0 kf e = elim (row_decided p l pairs i) [
+  own_apart i k h ne k0 kf e = elim (row_decided pairs i) [
     | inl w ↦ (let s : w.0 ≡ slice_index places k = sym (f.own i w.0 w.1) ∙ sym e in let P : ℕ → Type 0 = λ t. IsListed l i t in
         ne (f.live i k k0 kf (subst P s w.1)))
     | inr none ↦ (let s : slice_index owns i ≡ p.cols + 1 = f.spare i (omega arith) none in let b : slice_index places k ≤ p.cols = f.below k k0 kf in
@@ -230,7 +230,7 @@ module _ (p : Program) (l : Listing) (r found : ℕ) (places owns : List ℕ) (i
   row_zero i j im jm apart out = elim (cases_eq j (p.cols + 1)) [
     | inl e ↦ elim (cases_lt i p.rows) [
       | inl il ↦ (let P : ℕ → Type 0 = λ t. cell items (p.cols + 2) i t ≡ pos 0 in subst P (sym e) (table.zero i il))
-      | inr ig ↦ absurd (apart (f.spare i (omega arith) (λ w. let q : i < p.rows = (pair_list_is_list p l pairs).row_inside i w.0 w.1 in omega arith)
+      | inr ig ↦ absurd (apart (f.spare i (omega arith) (λ w. let q : i < p.rows = (pair_list_is_list pairs).row_inside i w.0 w.1 in omega arith)
           ∙ sym e))
     ]
     | inr n ↦
@@ -274,12 +274,12 @@ module _ (p : Program) (l : Listing) (r found : ℕ) (rows places : List ℕ) (p
   pub live_row : (i k : ℕ) → 0 < k → k < found → IsListed l i (slice_index places k) → i ≡ r
   live_row i k k0 kf h =
       let e = listed i (slice_index places k) h in
-      elim (u.live k k0 kf ((pair_list_is_list p l pairs).column_inside i (slice_index places k) h)) [ inl z ↦ absurd (omega arith) | inr s ↦ omega arith ]
+      elim (u.live k k0 kf ((pair_list_is_list pairs).column_inside i (slice_index places k) h)) [ inl z ↦ absurd (omega arith) | inr s ↦ omega arith ]
 
   pub all_live : (j : ℕ) → j ≤ p.cols → IsOutside places found j → (i : ℕ) × (IsListed l i j) × (i ≢ r)
   all_live j h out = elim (cases_eq j p.cols) [
     | inl e ↦ (let P : ℕ → Type 0 = λ t. IsOutside places found t in absurd (u.side (subst P e out)))
-    | inr n ↦ elim (column_decided p l pairs j) [
+    | inr n ↦ elim (column_decided pairs j) [
       | inl w ↦ (w.0, w.1, λ s. u.all j (omega arith) out (inr (listed w.0 j w.1 ∙ ap (λ t. t + 1) s)))
       | inr none ↦ absurd (u.all j (omega arith) out (inl (unlisted j (omega arith) none)))
     ]

@@ -12,7 +12,7 @@ pub multiple_of_same : (n : ℕ) (g h : ℤ) → pos 0 <ℤ g → pos 0 <ℤ h �
     → IsMultiple (n + 1) N Q
 multiple_of_same n g h gp hp N Q e prim =
     let w = primitive_exists n N in
-    let same : (j : ℕ) → j ≤ n → w.1 j ≡ Q j = primitive_same n (g *ℤ w.0) h (times_pos g w.0 gp w.2) hp w.1 Q
+    let same : (j : ℕ) → j ≤ n → w.1 j ≡ Q j = primitive_same (g *ℤ w.0) h (times_pos g w.0 gp w.2) hp
     (λ j jn. times_times g w.0 (w.1 j) ∙ ap (λ t. g *ℤ t) (sym (w.3 j jn)) ∙ e j jn) w.4 prim in
     record { by = (w.0, w.2, λ j h. w.3 j (omega arith) ∙ ap (λ t. w.0 *ℤ t) (same j (omega arith))) }
 

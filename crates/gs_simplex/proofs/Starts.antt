@@ -53,15 +53,13 @@ module _ (p : Program) (raw new : List ℤ) (shaped : IsShaped p) (u : IsRaw p r
   start_table = record { long = long ∙ u.long; zero = end_zero; narrow = narrow }
 
   pub start_rows : IsRowsOf p [] (table_rows p new) (table_aim p new)
-  start_rows = empty_rows_from p (table_rows p new) (table_aim p new)
-      (λ i h. let g = (divided i h).multiple.by in (
-        g.0,
-        g.1,
-        λ j jn. sym (u.rows i j h jn) ∙ g.2 j (omega arith),
-        primitive_shorter p.cols (cell new (p.cols + 2) i) (end_zero i h) (let s : p.cols + 2 - 1 ≡ p.cols + 1 = omega arith in let P : ℕ
-            → Type 0 = λ k. IsPrimitive k (cell new (p.cols + 2) i) in subst P s (divided i h).primitive),
-      ))
-      (λ j h. flipped_other p.cols (cell new (p.cols + 2) p.rows) j (λ e. omega arith) ∙ last j (omega arith) ∙ u.aim j h)
+  start_rows = empty_rows_from (λ i h. let g = (divided i h).multiple.by in (
+    g.0,
+    g.1,
+    λ j jn. sym (u.rows i j h jn) ∙ g.2 j (omega arith),
+    primitive_shorter p.cols (cell new (p.cols + 2) i) (end_zero i h) (let s : p.cols + 2 - 1 ≡ p.cols + 1 = omega arith in let P : ℕ
+        → Type 0 = λ k. IsPrimitive k (cell new (p.cols + 2) i) in subst P s (divided i h).primitive),
+  )) (λ j h. flipped_other p.cols (cell new (p.cols + 2) p.rows) j (λ e. omega arith) ∙ last j (omega arith) ∙ u.aim j h)
       (flipped_at p.cols (cell new (p.cols + 2) p.rows) ∙ ap neg_ℤ (last p.cols (omega arith) ∙ u.last))
       (flipped_other p.cols (cell new (p.cols + 2) p.rows) (suc p.cols) (λ e. omega arith)
       ∙ ap (cell new (p.cols + 2) p.rows) (let q : suc p.cols ≡ p.cols + 1 = omega arith in q) ∙ last (p.cols + 1) (omega arith) ∙ u.multiple)

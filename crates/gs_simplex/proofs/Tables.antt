@@ -142,10 +142,9 @@ module _ (p : Program) (old mid : List ℤ) (lead : ℕ → ℤ) (r c : ℕ) (ro
     lead_is : (k : ℕ) → k ≤ p.cols → Q r k ≡ lead k
     lead_is k kn =
         let m = (kept.rows_kept r rows).by in let d = by in
-        sym (primitive_same p.cols d.0 m.0 d.1 m.1 lead (Q r)
+        sym (primitive_same d.0 m.0 d.1 m.1
         (same_turn m.0 d.0 m.1 d.1 p.cols c (omega arith) (R r) (Q r) (table_rows p old r) lead (λ j jn. m.2 j (omega arith)) el.own own el.self
-        (elim d.2 [ inl s ↦ inl (λ j jn. s j (omega arith)) | inr s ↦ inr (λ j jn. s j (omega arith)) ]))
-        lead_primitive (el.primitive r rows) k kn)
+        (elim d.2 [ inl s ↦ inl (λ j jn. s j (omega arith)) | inr s ↦ inr (λ j jn. s j (omega arith)) ])) lead_primitive (el.primitive r rows) k kn)
 
     -- what a row that is mixed is times, and what the row that follows is
     row_along : (h : ℕ) (new : ℕ → ℤ) (hm : h < p.rows) (ne : h ≢ r) (u : IsMixed lead c (p.cols + 2) (cell old (p.cols + 2) h) new) → (k : ℕ) → k ≤ p.cols
@@ -166,7 +165,7 @@ module _ (p : Program) (old mid : List ℤ) (lead : ℕ → ℤ) (r c : ℕ) (ro
     row_is : (h : ℕ) (new : ℕ → ℤ) → h < p.rows → h ≢ r → IsReduced lead c (p.cols + 2) (cell old (p.cols + 2) h) new → (k : ℕ) → k ≤ p.cols → Q h k ≡ new k
     row_is h new hm ne u k kn =
         let v = u.multiple in
-        sym (primitive_same p.cols v.by.0 ((kept.rows_kept h hm).by.0 *ℤ (el.other h hm ne).0) v.by.1 (row_factor h hm ne) new (Q h)
+        sym (primitive_same v.by.0 ((kept.rows_kept h hm).by.0 *ℤ (el.other h hm ne).0) v.by.1 (row_factor h hm ne)
         (row_along h new hm ne v) (reduced_row_primitive h new hm u) (el.primitive h hm) k kn)
 
     -- the aim's row with its last number negated, as the table has it
@@ -219,7 +218,7 @@ module _ (p : Program) (old mid : List ℤ) (lead : ℕ → ℤ) (r c : ℕ) (ro
     aim_is : (new : ℕ → ℤ) → IsReduced lead c (p.cols + 2) (cell old (p.cols + 2) p.rows) new → (k : ℕ) → k ≤ p.cols + 1 → flipped p.cols b k ≡ new k
     aim_is new u k kn =
         let v = u.multiple in
-        sym (primitive_same (p.cols + 1) v.by.0 (kept.aim_kept.by.0 *ℤ el.aim_row.0) v.by.1 aim_factor new (flipped p.cols b) (aim_along new v)
+        sym (primitive_same v.by.0 (kept.aim_kept.by.0 *ℤ el.aim_row.0) v.by.1 aim_factor (aim_along new v)
         (reduced_primitive (cell old (p.cols + 2) p.rows) new u)
         (primitive_flipped p.cols (p.cols + 1) b (flipped p.cols b) (λ k. flipped_abs p.cols b k) el.primitive_aim) k kn)
 
@@ -239,7 +238,7 @@ module _ (p : Program) (old mid : List ℤ) (lead : ℕ → ℤ) (r c : ℕ) (ro
   -- ---- what follows exists
   next_exists : (R : ℕ → ℕ → ℤ) (a : ℕ → ℤ) → IsPrimitive p.cols (R r) → IsKept p R a old → (Q : ℕ → ℕ → ℤ) × (b : ℕ → ℤ) × IsEliminated p R a r c Q b
   next_exists R a prim kept = let m = (kept.rows_kept r rows).by in
-      elimination_exists p R a r c (λ z. nonzero (up_zero m.0 (table_rows p old r c) (R r c) (m.2 c (omega arith)) z)) prim
+      elimination_exists (λ z. nonzero (up_zero m.0 (table_rows p old r c) (R r c) (m.2 c (omega arith)) z)) prim
 
   pub table_after : (new : List ℤ) → length new ≡ length old → IsCleared mid new (p.rows + 1) (p.cols + 2) r c lead → IsTableAfter p old new r c
   table_after new long cleared = record {

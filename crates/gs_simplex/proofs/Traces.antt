@@ -80,7 +80,7 @@ pub basis_whole : (p : Program) (l : Listing) (count : ℕ) (cs : List ℕ) → 
 basis_whole p l count cs pairs h u = record {
   rises = u.rises;
   listed = λ k kl. (let z = u.listed k kl in (z.0, z.1, z.3));
-  all = λ j c. (let jn : j < p.cols = (pair_list_is_list p l pairs).column_inside c.0 j c.1 in u.all j (omega arith) c);
+  all = λ j c. (let jn : j < p.cols = (pair_list_is_list pairs).column_inside c.0 j c.1 in u.all j (omega arith) c);
 }
 
 -- equal bases list the same columns
@@ -105,21 +105,18 @@ path_front p o t k s u h = record {
 module _ (p : Program) (o : Listing) (n : ℕ) (s : States) (ok : IsOpening p o) (path : IsPath p o (length o + n) s) where
   -- another path has the same list after k pivots
   list_same : (k t : ℕ) (r : States) → IsPath p o t r → k ≤ n → length o + k ≤ t → s.lists (length o + k) ≡ r.lists (length o + k)
-  list_same k t r w h g = lists_same p o (length o + n) t s.lists r.lists s.rows r.rows s.aim r.aim s.entering r.entering s.leaving r.leaving ok path w k
-      (omega arith) g
+  list_same k t r w h g = lists_same ok path w k (omega arith) g
 
   agrees : (k t : ℕ) (r : States) → IsPath p o t r → k ≤ n → length o + k ≤ t
       → Agree p (s.rows (length o + k)) (r.rows (length o + k)) (s.aim (length o + k)) (r.aim (length o + k))
-  agrees k t r w h g = paths_agree p o (length o + n) t s.lists r.lists s.rows r.rows s.aim r.aim s.entering r.entering s.leaving r.leaving ok path w k
-      (omega arith) g
+  agrees k t r w h g = paths_agree ok path w k (omega arith) g
 
   pub turn_is : (k : ℕ) → k < n → (turn : Turn) → IsTurnAt p o (length o + k) turn → IsTurnOf s (length o + k) turn
   turn_is k h turn w =
       let t = length o + k in let r = w.0 in
       let pv = w.1.pivots t (omega arith) (omega arith) in
-      let full = (path_trail p o (t + 1) r.lists r.rows r.aim r.entering r.leaving ok w.1 k (omega arith)).0 in
-      let z = turn_same_as p o t (r.lists t) (r.rows t) (r.aim t) (r.entering t) pv.place.1 (r.leaving t) s (omega arith)
-      (path_front p o (length o + n) (t + 1) s path (omega arith))
+      let full = (path_trail ok w.1 k (omega arith)).0 in
+      let z = turn_same_as t (omega arith) (path_front p o (length o + n) (t + 1) s path (omega arith))
       (list_same k (t + 1) r w.1 (omega arith) (omega arith)) (agrees k (t + 1) r w.1 (omega arith) (omega arith)) full.is_list pv.enters pv.place.4 in
       (w.2 ∙ ap (λ x. x + 1) (sym z.0), w.3 ∙ ap (λ x. x + 1) (sym z.1))
 
@@ -138,8 +135,7 @@ module _ (p : Program) (o : Listing) (n : ℕ) (s : States) (ok : IsOpening p o)
 
   pub bases_apart : (k h : ℕ) → k < h → h ≤ n → (a b : List ℕ) → IsBasis (s.lists (length o + k)) a → IsBasis (s.lists (length o + h)) b → a ≡ b → ⊥
   bases_apart k h kh hn a b u w e =
-      bases_differ p o (length o + n) s.lists s.rows s.aim s.entering s.leaving ok path (length o + k) (length o + h) (omega arith) (omega arith)
-      (omega arith)
+      bases_differ ok path (length o + k) (length o + h) (omega arith) (omega arith) (omega arith)
       (same_columns (s.lists (length o + h)) (s.lists (length o + k)) b a w u (sym e))
       (same_columns (s.lists (length o + k)) (s.lists (length o + h)) a b u w e)
 
@@ -149,7 +145,7 @@ pub trace_of : (p : Program) (o : Listing) (limit n : ℕ) (t : PathTrace) (l0 l
     → IsSoFar p o (length o + n) l xs → IsTable p xs → n ≤ limit → NoneEnters p l (table_aim p xs) → IsAimValue p (table_aim p xs) t.aim
     → IsNoted p o n t.turns.items t.bases.items → IsTrace p o limit t
 trace_of p o limit n t l0 l xs0 xs small ok u0 start u table within none aim noted =
-    let stop : PathStops p o limit (ends n l) = ends_stops p o limit n l xs u table within none in
+    let stop : PathStops p o limit (ends n l) = ends_stops n u table within none in
     let s = stop.stops.1 in
     let W : ℕ → Type 0 = λ x. Stops p o limit x s (ends n l) in
     let w : Stops p o limit (length o + n) s (ends n l) = subst W stop.stops.2.2 stop.stops.2 in

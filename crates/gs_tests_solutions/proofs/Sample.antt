@@ -117,7 +117,7 @@ take_first p s = record {
     only_at 0,
     number p 0,
     record {
-      combination = program_row p.rows p.cols (number p) 0 (omega (arith, s.rows));
+      combination = program_row 0 (omega (arith, s.rows));
       own = (let e : only_at 0 0 ≡ pos 1 = only_at_same 0 in omega (arith, linear));
       others = λ i im out ne. only_at_other 0 i ne;
       zeros = λ j h. absurd (omega (arith, h.1.1));

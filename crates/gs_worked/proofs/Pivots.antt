@@ -448,14 +448,13 @@ module _ (p : Program) (t : IsTied p) where
   pivot_is n s h l =
       let list : s.lists 3 ≡ each_own = h.opens 3 (omega arith) (omega arith) in
       let rows = subst (λ (x : Listing). IsRowsOf p x (s.rows 3) (s.aim 3)) list (h.rows 3 (omega arith)) in
-      let full : IsFull p each_own = opening_is_full p each_own opening in
-      let agree = rows_agree p each_own (s.rows 3) (at first_rows) (s.aim 3) (aims first_aims) full rows (first_are each_own own_named) in
+      let full : IsFull p each_own = opening_is_full opening in
+      let agree = rows_agree full rows (first_are each_own own_named) in
       let turn = subst (λ (x : Listing). IsPivot p x (s.rows 3) (s.aim 3) (s.lists 4) (s.entering 3) (s.leaving 3)) list
       (h.pivots 3 (omega arith) (omega arith)) in
-      let in' = enters_same p each_own (s.rows 3) (at first_rows) (s.aim 3) (aims first_aims) (s.entering 3) 3 agree turn.enters enters in
+      let in' = enters_same agree turn.enters enters in
       let out = subst (λ (e : ℕ). Leaves p each_own (s.rows 3) e turn.place.1 (s.leaving 3)) in' turn.place.4 in
-      let same = leaves_same p each_own (s.rows 3) (at first_rows) (s.aim 3) (aims first_aims) 3 turn.place.1 (s.leaving 3) 0 0 full.is_list
-      (omega (arith, t.cols)) agree out leaves in
+      let same = leaves_same full.is_list (omega (arith, t.cols)) agree out leaves in
       (in', same.1)
 
 pub tied_path : (p : Program) → IsTied p → IsOpening p each_own × PathStops p each_own 9 (ends 1 ((3, 3) ∷ (2, 2) ∷ (1, 4) ∷ []))

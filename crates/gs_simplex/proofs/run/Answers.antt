@@ -12,11 +12,11 @@ taken n xs ys e = take_at xs ys n e
 end_rows : (p : Program) (o : Listing) (limit n : ℕ) (l l' : Listing) (t : Table) (xs : List ℤ) → IsEnd p o limit n l t → l' ≡ l → xs ≡ t.numbers.items → IsTableOf p l' xs
 end_rows p o limit n l l' t xs u el ex =
     let P : Listing → Type 0 = λ x. IsTableOf p x xs in let Q : List ℤ → Type 0 = λ x. IsTableOf p l x in
-    subst P (sym el) (subst Q (sym ex) (rows_of_so_far p o (length o + n) l t.numbers.items u.state.so_far))
+    subst P (sym el) (subst Q (sym ex) (rows_of_so_far u.state.so_far))
 
 best_of : (p : Program) (o : Listing) (limit n : ℕ) (l l' : Listing) (t : Table) (b : Best) → IsSmallTable p → IsEnd p o limit n l t → l' ≡ l → IsBestTable p l' n b → IsBest p o limit b
 best_of p o limit n l l' t b small u el w =
-    let stop : PathStops p o limit (ends n l) = ends_stops p o limit n l t.numbers.items u.state.so_far u.state.table u.within u.none in
+    let stop : PathStops p o limit (ends n l) = ends_stops n u.state.so_far u.state.table u.within u.none in
     let P : ℕ → Type 0 = λ k. PathStops p o limit (ends k b.basis.items) in let Q : Listing → Type 0 = λ x. PathStops p o limit (ends n x) in
     let B : Listing → Type 0 = λ x. IsBestAt p x w.best.0 w.best.1 b.value.items b.price.items in
     record {

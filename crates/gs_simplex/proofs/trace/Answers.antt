@@ -12,7 +12,7 @@ err_answer p o limit (Err x) s e h = let P : Stop → Type 0 = λ y. IsStop p o 
 
 multiple_of : (p : Program) (o : Listing) (t : ℕ) (l : Listing) (xs : List ℤ) → IsSoFar p o t l xs → pos 0 <ℤ table_aim p xs (p.cols + 1)
 multiple_of p o t l xs u =
-    multiple_kept p xs (u.states.0.rows t) (u.states.0.aim t) u.states.3 (rows_at p o t l xs u).aim_row.2.multiple
+    multiple_kept u.states.3 (rows_at u).aim_row.2.multiple
 
 same_so_far : (p : Program) (o : Listing) (t : ℕ) (l : Listing) (xs ys : List ℤ) → ys ≡ xs → IsSoFar p o t l xs → IsSoFar p o t l ys
 same_so_far p o t l xs ys e u = let P : List ℤ → Type 0 = λ x. IsSoFar p o t l x in subst P (sym e) u

@@ -25,11 +25,11 @@ module _ (p : Program) (l : Listing) (xs : List ℤ) (rows rows' : List ℕ) (pa
 
   can_value : (j : ℕ) → j < p.cols → CanValue p (table_rows p xs) (slice_index rows j) j
   can_value j h = record {
-    inside = λ i e. elim (column_decided p l pairs j) [
+    inside = λ i e. elim (column_decided pairs j) [
       | inl c ↦ (let s : c.0 ≡ i = (let q : c.0 + 1 ≡ i + 1 = sym (index_at.listed c.0 j c.1) ∙ e in omega arith) in
           let P : ℕ → Type 0 = λ k. (k < p.rows) × (pos 0 <ℤ table_rows p xs k j) in
-          let m = (pair_list_is_list p l pairs).row_inside c.0 j c.1 in
-          subst P s (m, row_pos_kept p xs R a kept c.0 j m (omega arith) (u.listed c.0 j c.1).2.own))
+          let m = (pair_list_is_list pairs).row_inside c.0 j c.1 in
+          subst P s (m, row_pos_kept kept c.0 j m (omega arith) (u.listed c.0 j c.1).2.own))
       | inr none ↦ absurd (let q : slice_index rows j ≡ 0 = index_at.unlisted j none in omega arith)
     ];
   }
@@ -42,8 +42,8 @@ module _ (p : Program) (l : Listing) (xs : List ℤ) (rows rows' : List ℕ) (pa
   best_at value price v w = record {
     rows_of = u;
     listed = λ i j h d. (let f = slice_index_or value j d in
-        let jm : j < p.cols = (pair_list_is_list p l pairs).column_inside i j h in
-        let m = (kept.rows_kept i ((pair_list_is_list p l pairs).row_inside i j h)).by in
+        let jm : j < p.cols = (pair_list_is_list pairs).column_inside i j h in
+        let m = (kept.rows_kept i ((pair_list_is_list pairs).row_inside i j h)).by in
         down_fraction m.0 f.num f.den (table_rows p xs i j) (table_rows p xs i p.cols) (R i j) (R i p.cols) m.1 (m.2 j (omega arith)) (m.2 p.cols (omega arith))
         ((v j jm d).listed i (index_at.listed i j h)));
     unlisted = λ j h out d. (v j h d).unlisted (index_at.unlisted j out);
@@ -64,7 +64,7 @@ values-requires-clause-rows c =
 pub prices-requires-clause-multiple : goal.prices-requires-clause-multiple
 prices-requires-clause-multiple c =
     let p = c.args.p.now in let xs = c.args.numbers.now in
-    let w = c.requires.rows.rows_of in multiple_kept p xs w.0 w.1 w.3 w.2.aim_row.2.multiple
+    let w = c.requires.rows.rows_of in multiple_kept w.3 w.2.aim_row.2.multiple
 
 pub returns : goal.returns
 returns c =

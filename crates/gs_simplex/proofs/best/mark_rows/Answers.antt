@@ -27,4 +27,4 @@ pub returns-clause-listed : goal.returns-clause-listed
 returns-clause-listed c = λ i j h. c.loop-place.invariant.listed h.0 i j (omega (arith, h.1)) (place_of c.args.basis.now i j h)
 
 pub returns-clause-unlisted : goal.returns-clause-unlisted
-returns-clause-unlisted c = λ j out. c.loop-place.invariant.unlisted j (λ k h. no_column c.args.p.now c.args.basis.now j k c.requires.pairs out (omega arith))
+returns-clause-unlisted c = λ j out. c.loop-place.invariant.unlisted j (λ k h. no_column j k c.requires.pairs out (omega arith))

@@ -27,4 +27,4 @@ pub returns-clause-listed : goal.returns-clause-listed
 returns-clause-listed c = λ i j h. c.loop-place.invariant.listed h.0 i j (omega (arith, h.1)) (place_of c.args.basis.now i j h)
 
 pub returns-clause-unlisted : goal.returns-clause-unlisted
-returns-clause-unlisted c = λ i out. c.loop-place.invariant.unlisted i (λ k h. no_row c.args.p.now c.args.basis.now i k c.requires.pairs out (omega arith))
+returns-clause-unlisted c = λ i out. c.loop-place.invariant.unlisted i (λ k h. no_row i k c.requires.pairs out (omega arith))

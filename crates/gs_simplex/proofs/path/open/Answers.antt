@@ -9,22 +9,22 @@ loop-step-init c =
     record { room = s.room; table = s.table; tops = s.tops; pairs = empty_pairs p; so_far = so_far_start p c.args.opening.now c.args.table.now.numbers.items s.rows }
 
 pub pair_at-row-requires-clause-pairs : goal.pair_at-row-requires-clause-pairs
-pair_at-row-requires-clause-pairs c = opening_pairs c.args.p.now c.args.opening.now c.requires.opens
+pair_at-row-requires-clause-pairs c = opening_pairs c.requires.opens
 
 pub list-requires-clause-pairs : goal.list-requires-clause-pairs
 list-requires-clause-pairs c =
     let v = c.loop-step.invariant in let t = c.loop-step.step in
-    open_pairs c.args.p.now c.args.opening.now t c.pair_at-row.result.0 c.pair_at-row.result.1 c.loop-step.table.numbers.items c.requires.opens c.loop-step-test.true c.pair_at-row.ensures.pair v.table v.so_far t (omega (arith, c.loop-step-test.true))
+    open_pairs c.pair_at-row.result.0 c.pair_at-row.result.1 c.requires.opens c.loop-step-test.true c.pair_at-row.ensures.pair v.table v.so_far t (omega (arith, c.loop-step-test.true))
 
 pub list-requires-clause-rows : goal.list-requires-clause-rows
 list-requires-clause-rows c =
     let p = c.args.p.now in let o = c.args.opening.now in let t = c.loop-step.step in let xs = c.loop-step.table.numbers.items in
-    rows_of_so_far p o t (take t o) xs c.loop-step.invariant.so_far
+    rows_of_so_far c.loop-step.invariant.so_far
 
 pub list-requires-clause-nonzero : goal.list-requires-clause-nonzero
 list-requires-clause-nonzero c =
     let v = c.loop-step.invariant in
-    open_nonzero c.args.p.now c.args.opening.now c.loop-step.step c.pair_at-row.result.0 c.pair_at-row.result.1 c.loop-step.table.numbers.items c.requires.opens c.loop-step-test.true c.pair_at-row.ensures.pair v.table v.so_far
+    open_nonzero c.pair_at-row.result.0 c.pair_at-row.result.1 c.requires.opens c.loop-step-test.true c.pair_at-row.ensures.pair v.table v.so_far
 
 pub returns-in-Some : goal.returns-in-Some
 returns-in-Some c = λ limit.
@@ -32,7 +32,7 @@ returns-in-Some c = λ limit.
     let P : Stop → Type 0 = λ x. IsStop c.args.p.now c.args.opening.now limit x in
     subst P (sym c.wide_stop.ensures) (
       c.requires.small,
-      open_wide c.args.p.now c.args.opening.now c.loop-step.step c.pair_at-row.result.0 c.pair_at-row.result.1 c.loop-step.table.numbers.items c.requires.opens c.loop-step-test.true c.pair_at-row.ensures.pair v.table v.so_far w.row w.column w.number
+      open_wide c.pair_at-row.result.0 c.pair_at-row.result.1 c.requires.opens c.loop-step-test.true c.pair_at-row.ensures.pair v.table v.so_far w.row w.column w.number
           c.in-Some.ensures.listed limit,
     )
 
@@ -45,6 +45,6 @@ loop-step-preserved c =
       room = c.list.ensures.room;
       table = a.table;
       tops = if_none c.list.result (HasTops p new c.list.new.self.tops.items) c.in_default.is c.list.ensures.tops;
-      pairs = open_pairs p o t r k xs c.requires.opens c.loop-step-test.true c.pair_at-row.ensures.pair v.table v.so_far (t + 1) (omega (arith, c.loop-step-test.true));
-      so_far = open_next p o t r k xs c.requires.opens c.loop-step-test.true c.pair_at-row.ensures.pair v.table v.so_far new a;
+      pairs = open_pairs r k c.requires.opens c.loop-step-test.true c.pair_at-row.ensures.pair v.table v.so_far (t + 1) (omega (arith, c.loop-step-test.true));
+      so_far = open_next r k c.requires.opens c.loop-step-test.true c.pair_at-row.ensures.pair v.table v.so_far new a;
     }

@@ -9,14 +9,14 @@ pub choose-requires-clause-rows : goal.choose-requires-clause-rows
 choose-requires-clause-rows c =
     let p = c.args.p.now in let o = c.args.opening.now in let l = c.args.basis.now in
     let P : List ℤ → Type 0 = λ x. IsTableOf p l x in
-    subst P (sym c.deref.ensures.value) (rows_of_so_far p o (length o + c.args.made) l c.args.table.now.numbers.items c.requires.state.so_far)
+    subst P (sym c.deref.ensures.value) (rows_of_so_far c.requires.state.so_far)
 
 pub returns-in-Unbounded : goal.returns-in-Unbounded
 returns-in-Unbounded c =
     let p = c.args.p.now in let o = c.args.opening.now in let l = c.args.basis.now in let e = c.in-Unbounded.column in let v = c.requires.state in
     let P : List ℤ → Type 0 = λ x. (Enters p l (table_aim p x) e) × NoneLeaves p l (table_rows p x) e in
     let w = subst P c.deref.ensures.value c.in-Unbounded.ensures in
-    (c.requires.small, unbounded_stops p o c.args.limit c.args.made l c.args.table.now.numbers.items e v.pairs v.so_far v.table c.requires.within w.0 w.1)
+    (c.requires.small, unbounded_stops c.args.made v.pairs v.so_far v.table c.requires.within w.0 w.1)
 
 pub returns-then-made-limit : goal.returns-then-made-limit
 returns-then-made-limit c =
@@ -24,12 +24,12 @@ returns-then-made-limit c =
     let P : List ℤ → Type 0 = λ x. (Enters p l (table_aim p x) e) × IsLeaving p l (table_rows p x) e (Some c.in-Leaves.place) in
     let w = subst P c.deref.ensures.value c.in-Leaves.ensures in
     let T : ℕ → Type 0 = λ k. IsSoFar p o (length o + k) l xs in
-    (c.requires.small, pivots_stops p o c.args.limit l xs e w.1.0 w.1.1 v.pairs (subst T c.if-made-limit.true v.so_far) v.table w.0 w.1.4)
+    (c.requires.small, pivots_stops v.pairs (subst T c.if-made-limit.true v.so_far) v.table w.0 w.1.4)
 
 pub pivot-requires-clause-rows : goal.pivot-requires-clause-rows
 pivot-requires-clause-rows c =
     let p = c.args.p.now in let o = c.args.opening.now in let l = c.args.basis.now in let xs = c.args.table.now.numbers.items in
-    rows_of_so_far p o (length o + c.args.made) l xs c.requires.state.so_far
+    rows_of_so_far c.requires.state.so_far
 
 pub returns-in-Some : goal.returns-in-Some
 returns-in-Some c =
@@ -38,7 +38,7 @@ returns-in-Some c =
     let P : List ℤ → Type 0 = λ x. (Enters p l (table_aim p x) e) × IsLeaving p l (table_rows p x) e (Some c.in-Leaves.place) in
     let f = subst P c.deref.ensures.value c.in-Leaves.ensures in
     let a : PathStops p o c.args.limit (wide (t + 1) (w.row + 1) (w.column + 1) (stated p w.row w.column w.number)) =
-    pivot_wide p o t l xs c.in-Leaves.place e (omega arith) v.pairs v.table v.so_far f.0 f.1 w.row w.column w.number c.in-Some.ensures.pivoted c.args.limit (omega (arith, c.requires.within, c.if-made-limit.false)) in
+    pivot_wide c.in-Leaves.place (omega arith) v.pairs v.table v.so_far f.0 f.1 w.row w.column w.number c.in-Some.ensures.pivoted c.args.limit (omega (arith, c.requires.within, c.if-made-limit.false)) in
     let s : t + 1 ≡ p.rows + c.args.made + 1 = omega (arith, c.requires.opens.long) in
     let Q : ℕ → Type 0 = λ k. PathStops p o c.args.limit (wide k (w.row + 1) (w.column + 1) (stated p w.row w.column w.number)) in
     let R : Stop → Type 0 = λ x. IsStop p o c.args.limit x in
@@ -51,11 +51,11 @@ returns-in_default c =
     let P : List ℤ → Type 0 = λ x. (Enters p l (table_aim p x) e) × IsLeaving p l (table_rows p x) e (Some q) in
     let f = subst P c.deref.ensures.value c.in-Leaves.ensures in
     let w : IsPivoted p l next xs new q e = none_of c.pivot.result (IsPivoted p l next xs new q e) (λ x. IsWidePivot p l xs q e x.row x.column x.number) c.in_default.is c.pivot.ensures.pivoted in
-    let n = pivot_next p o t l xs q e (omega arith) v.pairs v.table v.so_far f.0 f.1 next new w in
+    let n = pivot_next q (omega arith) v.pairs v.table v.so_far f.0 f.1 next new w in
     let s : t + 1 ≡ length o + (c.args.made + 1) = omega arith in
     let T : ℕ → Type 0 = λ k. IsSoFar p o k next new in
     record {
       state = record { room = c.pivot.ensures.room; table = n.0; tops = if_none c.pivot.result (HasTops p new c.pivot.new.table.tops.items) c.in_default.is c.pivot.ensures.tops; pairs = n.1; so_far = subst T s n.2 };
       within = omega (arith, c.requires.within, c.if-made-limit.false);
-      pivot = turn_at p o c.args.made l xs q e (c.pair_at-leaving.result.0) (c.pair_at-leaving.result.1) next new c.requires.opens v.pairs v.so_far f.0 f.1 c.pair_at-leaving.ensures.pair n.2;
+      pivot = turn_at c.args.made q (c.pair_at-leaving.result.0) (c.pair_at-leaving.result.1) c.requires.opens v.pairs v.so_far f.0 f.1 c.pair_at-leaving.ensures.pair n.2;
     }

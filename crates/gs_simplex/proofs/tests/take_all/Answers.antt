@@ -16,7 +16,7 @@ step_taken p o t xs ys new h e can u w =
 pub list-requires-clause-pairs : goal.list-requires-clause-pairs
 list-requires-clause-pairs c =
     let p = c.args.p.now in let o = c.args.opening.now in let t = c.loop-step.step in
-    opened_pair_list p (take t o) (front_opened p o t c.loop-step.table.numbers.items (omega (arith, c.loop-step-test.true)) c.loop-step.invariant.taken)
+    opened_pair_list (front_opened p o t c.loop-step.table.numbers.items (omega (arith, c.loop-step-test.true)) c.loop-step.invariant.taken)
 
 pub list-requires-clause-rows : goal.list-requires-clause-rows
 list-requires-clause-rows c = c.loop-step.invariant.taken.rows

@@ -13,7 +13,7 @@ pub loop-j-preserved : goal.loop-j-preserved
 loop-j-preserved c =
     let l = c.args.basis.now in let j = c.loop-j.j in
     let P : List ℕ → Type 0 = λ x. IsBasisBelow l (j + 1) x in
-    subst P (sym c.in_ok-push.ensures.items) (basis_push l j c.loop-j.columns.items c.loop-j.invariant (elim (column_decided c.args.p.now l c.requires.pairs j) [
+    subst P (sym c.in_ok-push.ensures.items) (basis_push l j c.loop-j.columns.items c.loop-j.invariant (elim (column_decided c.requires.pairs j) [
       | inl h ↦ h
       | inr none ↦ absurd (c.if-rows-j-eq0.false (c.requires.index.unlisted j none))
     ]))
