@@ -1,6 +1,6 @@
 //! Answering a request.
 
-ghost use Rattle.std.specs.Prelude.{◌≡◌, IfOk};
+ghost use Rattle.std.specs.Prelude.{◌≡◌};
 ghost use Rattle.gs_answer.specs.Asking.{Asks, reads};
 ghost use Rattle.gs_answer.specs.Making.{Makes};
 ghost use Rattle.gs_reply.specs.Replies.{Answers};
@@ -11,10 +11,10 @@ use gs_compare::{duel_answer, judge_answer};
 use gs_confirm::{evaluate_answer, query_answer, upgrade_answer};
 use gs_group::{check_answer, shrink_answer};
 use gs_made::{Kind, made_game};
-use gs_reply::Answer;
+use gs_reply::Stop;
 use gs_settle::{path_answer, play_answer, solve_answer};
 use gs_words::Request;
-use std::alloc::{AllocError, Global};
+use std::alloc::Global;
 
 /// Returns whether a request reads an input.
 pub fn reads_input(request: Request) -> bool
@@ -34,22 +34,22 @@ fn made(
     suits: u8,
     cap: u8,
     summary: bool,
-) -> Result<Answer, AllocError>
+) -> Result<Vec<u8>, Stop>
     requires { IsInRange (Make kind ranks suits cap summary) }
-    ensures { IfOk result (Answers (Makes kind ranks suits cap summary)) }
+    ensures { Answers (Makes kind ranks suits cap summary) result }
 {
     let file = made_game(alloc, kind, ranks, suits, cap)?;
     if summary {
         shrink_answer(alloc, file.as_bytes(), true)
     } else {
-        Ok(Answer::Prints(file.into_bytes()))
+        Ok(file.into_bytes())
     }
 }
 
-/// Returns the answer to a request for the bytes of its input: a text to print, or the refusal.
-pub fn answer(alloc: Global, request: Request, bytes: &[u8]) -> Result<Answer, AllocError>
+/// Returns the answer to a request for the bytes of its input: the text to print, or why it stops.
+pub fn answer(alloc: Global, request: Request, bytes: &[u8]) -> Result<Vec<u8>, Stop>
     requires { IsInRange (task_of request) }
-    ensures { IfOk result (Answers (Asks (task_of request.entry) bytes.now)) }
+    ensures { Answers (Asks (task_of request.entry) bytes.now) result }
 {
     match request {
         Request::Shrink { summary } => shrink_answer(alloc, bytes, summary),

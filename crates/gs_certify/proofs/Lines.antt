@@ -10,8 +10,9 @@ use Rattle.gs_file.specs.declared.version.Version.TheVariants.{Two}
 use Rattle.gs_json.specs.FirstLine.{first_line}
 use Rattle.gs_json.proofs.Feeds.{line_parted}
 use Rattle.gs_model.specs.{Certificate.{IsCertificate}, Classes.{ClassLists}, Frame.{Frame}, Plans.{Plan}}
-use Rattle.gs_reply.specs.Refusals.{Limit, Sequences, Cells, Table_numbers, Raw_cells, Bad_game, Unlike_pair, Overflows, Many_pivots, Too_large, Bad_strategy, Wrong_number, Bad_query, Other_game, Bad_certificate}
-use Rattle.gs_reply.specs.{Replies.{OfRead, Reply, Prints, Refuses}, Troubles.{Passes}, declared.strategies.Which.TheVariants.{Only}}
+use Rattle.gs_reply.specs.Refusals.{Bad_game, Unlike_pair, Overflows, Many_pivots, Too_large, Bad_strategy, Wrong_number, Bad_query, Other_game, Bad_certificate}
+use Rattle.gs_reply.specs.{declared.refusals.Limit.{Limit}, declared.refusals.Limit.TheVariants.{Sequences, Cells, TableNumbers, RawCells}}
+use Rattle.gs_reply.specs.{Replies.{OfRead, Reply, Prints, Refuses}, Troubles.{Passes}, declared.refusals.Which.TheVariants.{Only}}
 use Rattle.gs_seq.specs.Stops.{IsSmall}
 use Rattle.gs_strategy.specs.{Checks.{ReadResult}, Confirmed.{IsConfirmed, strategy_frame, raw_plan}, Laws.{IsStrategy}, Texts.{strategy_data, strategy_text}}
 use Rattle.gs_strategy.specs.Values.{Strategy}
@@ -63,8 +64,8 @@ not_large : (s : Strategy) (limit : Limit) → IsSmall (strategy_frame s) s.clas
 not_large s (Sequences player count) small (inl over) = omega (arith, small.sequences.one, over.1, over.2)
 not_large s (Sequences player count) small (inr over) = omega (arith, small.sequences.two, over.1.1, over.1.2)
 not_large s (Cells count) small h = omega (arith, small.cells, h.1, h.2)
-not_large s (Table_numbers count) small h = h
-not_large s (Raw_cells count) small h = h
+not_large s (TableNumbers count) small h = h
+not_large s (RawCells count) small h = h
 
 module _ (s : Strategy) (c d : Certificate) (confirmed : IsConfirmed s) (sound : IsSound (strategy_frame s) s.classes (raw_plan s s.one) (raw_plan s s.two) c)
     (same : certificate_view c ≡ certificate_view d) where

@@ -1,5 +1,5 @@
 -- What holds of a game in sequence form holds of the strategy that it was made of; and what is told is an answer.
-use Rattle.std.proofs.{Common.{◌≡◌, ◌≢◌, ℤ, Result, Ok, Err, inr, refl, sym, subst}, lemmas.Result.{IfOk-at_ok}}
+use Rattle.std.proofs.{Common.{◌≡◌, ◌≢◌, ℤ, Result, Ok, Err, refl, sym, subst}, lemmas.Result.{IfOk-at_ok}}
 use Rattle.std.specs.Prelude.{IfOk, MatchResult}
 use Rattle.gs_certificate.specs.{Checks.{IsFault, IsSound}, Faults.{FailsSo}, Promises.{BoundsAll}, Reading.{CertificateResult}}
 use Rattle.gs_certificate.specs.{declared.certificate.Certificate.{Certificate}, declared.fault.CertFault.{CertFault}}
@@ -8,11 +8,11 @@ use Rattle.gs_certificate.specs.declared.text_fault.CertTextFault.TheVariants as
 use Rattle.gs_confirm.specs.{Held.{HoldsStrategy}, Troubles.{SaysTooLarge}}
 use Rattle.gs_lossless.specs.declared.checking.Lossless.{Lossless}
 use Rattle.gs_model.specs.{Classes.{ClassLists}, Frame.{Frame}}
-use Rattle.gs_reply.proofs.Refused.{answers_more}
-use Rattle.gs_reply.specs.{Refusals.{Too_large, Unlike_pair}, Replies.{Answers, Reply}, Troubles.{SaysUnlike}, declared.answers.Answer.{Answer}}
+use Rattle.gs_reply.proofs.Refused.{stops_more}
+use Rattle.gs_reply.specs.{Replies.{Reply, StopsFor}, Troubles.{SaysUnlike}, declared.refusals.Stop.{Stop}}
 use Rattle.gs_seq.specs.{Games.{frame_in}, Plans.{lifted}}
 use Rattle.gs_strategy.specs.{Values.{Strategy}, declared.stored.Stored.{Stored}}
-use Rattle.gs_certify.specs.{Tasks.{task_says}, Verifying.{SaysChecked}, declared.task.Task.{Task}, declared.task.Task.TheVariants.{Certify, Verify}}
+use Rattle.gs_certify.specs.Verifying.{SaysChecked}
 
 pub moved : (P : Frame → ClassLists → Type 0) (l : Lossless) (s : Stored) → HoldsStrategy l s → P (frame_in l.signals.now.game.now) l.classes.now.lists
     → P (frame_in s.game) s.classes.lists
@@ -44,20 +44,12 @@ module _ (l : Lossless) (s : Stored) (k : Certificate) (held : HoldsStrategy l s
   bounds_moved r paid is h = moved (BoundsIn s k) l s held (IfOk-at_ok (λ (paid : ℤ). BoundsIn s k (frame_in l.signals.now.game.now) l.classes.now.lists) is
       h)
 
--- an unlike pair, and a game that is too large, are told by both commands
-unlike_by : (task : Task) (s : Strategy) (reply : Reply) → SaysUnlike s.game s.classes reply → task_says task s reply
-unlike_by Certify s reply h = inr (Unlike_pair h.0 h.1 h.2, h.3, h.4)
-unlike_by (Verify c) s reply h = subst (λ (r : Reply). SaysChecked s c.now r) (sym h.4) h.3
+-- an unlike pair, and a game that is too large, are refused by `verify`
+pub unlike_said : (s : Strategy) (c : Certificate) (e : Stop) → StopsFor (SaysUnlike s.game s.classes) e → StopsFor (SaysChecked s c) e
+unlike_said s c = stops_more (SaysUnlike s.game s.classes) (SaysChecked s c) (λ r h. subst (λ (x : Reply). SaysChecked s c x) (sym h.4) h.3)
 
-pub unlike_said : (task : Task) (s : Strategy) (a : Answer) → Answers (SaysUnlike s.game s.classes) a → Answers (task_says task s) a
-unlike_said task s a h = answers_more (SaysUnlike s.game s.classes) (task_says task s) (unlike_by task s) a h
-
-large_by : (task : Task) (s : Strategy) (reply : Reply) → SaysTooLarge s reply → task_says task s reply
-large_by Certify s reply h = inr (Too_large h.0, h.1, h.2)
-large_by (Verify c) s reply h = subst (λ (r : Reply). SaysChecked s c.now r) (sym h.2) h.1
-
-pub large_said : (task : Task) (s : Strategy) (a : Answer) → Answers (SaysTooLarge s) a → Answers (task_says task s) a
-large_said task s a h = answers_more (SaysTooLarge s) (task_says task s) (large_by task s) a h
+pub large_said : (s : Strategy) (c : Certificate) (e : Stop) → StopsFor (SaysTooLarge s) e → StopsFor (SaysChecked s c) e
+large_said s c = stops_more (SaysTooLarge s) (SaysChecked s c) (λ r h. subst (λ (x : Reply). SaysChecked s c x) (sym h.2) h.1)
 
 -- the fault of a certificate's text, where memory did not run out
 pub fault_is : (told : CertTextFault) (says : CertificateResult → Type 0) → told ≢ fault.Memory → FailsSo told says → says (Err told)

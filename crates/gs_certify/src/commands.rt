@@ -1,48 +1,43 @@
 //! The two commands.
 
-ghost use Rattle.std.specs.Prelude.{IfOk};
+ghost use Rattle.gs_confirm.specs.Commands.{OfConfirmed};
 ghost use Rattle.gs_reply.specs.Replies.{Answers};
 ghost use Rattle.gs_strategy.specs.Views.{stored_view};
-ghost use Rattle.gs_certify.specs.{Certificates.{Certifies}, Verifying.{SaysVerified, Verifies}};
+ghost use Rattle.gs_certify.specs.{Certificates.{Certifies, SaysCertified}, Verifying.{Verifies}};
 
-use crate::saying::of_strategy;
-use crate::task::Task;
-use crate::verifying::no_text;
-use gs_certificate::{CertTextFault, read_certificate};
+use crate::certifying::certified_text;
+use crate::verifying::verified;
+use gs_confirm::{confirmed_form, lossless_of};
 use gs_json::first_line;
-use gs_reply::{Answer, Which, stored_or_refusal};
+use gs_reply::{Stop, Which, stored_strategy};
 use gs_strategy::Stored;
-use std::alloc::{AllocError, Global};
+use gs_tree::Signals;
+use std::alloc::Global;
 
-/// Returns the strategy's text in version 2 and its certificate, if the strategy is confirmed; or the refusal.
-pub fn certify_answer(alloc: Global, bytes: &[u8]) -> Result<Answer, AllocError>
-    ensures { IfOk result (Answers (Certifies bytes.now)) }
+// Returns a strategy's text in version 2 and its certificate, if the strategy is confirmed; or the refusal.
+fn certified(alloc: Global, stored: &Stored) -> Result<Vec<u8>, Stop>
+    ensures { Answers (OfConfirmed SaysCertified (stored_view stored.now)) result }
 {
-    match stored_or_refusal(alloc, Which::Only, bytes)? {
-        Ok(stored) => of_strategy(alloc, &Task::Certify, &stored),
-        Err(refusal) => Ok(refusal),
-    }
+    let signals = Signals::of(alloc, &stored.game)?;
+    let lossless = lossless_of(alloc, stored, &signals)?;
+    let form = confirmed_form(alloc, stored, &lossless)?;
+    Ok(certified_text(alloc, stored, &form)?)
 }
 
-// Returns the answer of `verify` for a strategy and the bytes of its certificate.
-fn with_second(alloc: Global, stored: &Stored, bytes: &[u8]) -> Result<Answer, AllocError>
-    ensures { IfOk result (Answers (SaysVerified bytes.now (stored_view stored.now))) }
+/// Returns the strategy's text in version 2 and its certificate, if the strategy is confirmed; or the refusal.
+pub fn certify_answer(alloc: Global, bytes: &[u8]) -> Result<Vec<u8>, Stop>
+    ensures { Answers (Certifies bytes.now) result }
 {
-    match read_certificate(alloc, bytes) {
-        Ok(c) => of_strategy(alloc, &Task::Verify(&c), stored),
-        Err(CertTextFault::Memory) => Err(AllocError),
-        Err(fault) => no_text(alloc, &fault),
-    }
+    let stored = stored_strategy(alloc, Which::Only, bytes)?;
+    certified(alloc, &stored)
 }
 
 /// Returns the value of a strategy's plans and the bounds of its certificate, if the certificate is valid; or the refusal of the strategy or of the
 /// certificate. The strategy file ends with the first line feed, and the certificate follows.
-pub fn verify_answer(alloc: Global, bytes: &[u8]) -> Result<Answer, AllocError>
-    ensures { IfOk result (Answers (Verifies bytes.now)) }
+pub fn verify_answer(alloc: Global, bytes: &[u8]) -> Result<Vec<u8>, Stop>
+    ensures { Answers (Verifies bytes.now) result }
 {
     let (first, second) = first_line(bytes);
-    match stored_or_refusal(alloc, Which::Only, first)? {
-        Ok(stored) => with_second(alloc, &stored, second),
-        Err(refusal) => Ok(refusal),
-    }
+    let stored = stored_strategy(alloc, Which::Only, first)?;
+    verified(alloc, &stored, second)
 }

@@ -5,8 +5,6 @@
 mod certifying;
 mod commands;
 mod laws;
-mod saying;
-mod task;
 mod value;
 mod verifying;
 

@@ -3,8 +3,8 @@ use Rattle.std.specs.Prelude.{◌≡◌, ◌≢◌, ◌⊎◌, ◌++◌, ◌<◌
 use Rattle.gs_file.specs.Reading.{file_rules}
 use Rattle.gs_json.specs.FirstLine.{first_line}
 use Rattle.gs_raw.specs.Cells.{raw_cell_count}
-use Rattle.gs_reply.specs.{Refusals.{Other_game, Raw_cells, Too_large}, Replies.{OfFile, Reply, Prints, Refuses}}
-use Rattle.gs_reply.specs.{declared.strategies.Which.TheVariants.{Only, First, Second}, VerdictText.{verdict_text}}
+use Rattle.gs_reply.specs.{Refusals.{Other_game, Too_large}, Replies.{OfFile, Reply, Prints, Refuses}, VerdictText.{verdict_text}}
+use Rattle.gs_reply.specs.{declared.refusals.Limit.TheVariants.{RawCells}, declared.refusals.Which.TheVariants.{Only, First, Second}}
 use Rattle.gs_strategy.specs.{Confirmed.{strategy_frame}, Values.{Numbers, FractionParts, Strategy}}
 use Rattle.gs_compare.specs.Judging.{AreHandValues, AreJudged, hands_text}
 
@@ -12,7 +12,7 @@ use Rattle.gs_compare.specs.Judging.{AreHandValues, AreJudged, hands_text}
 abbrev pub OnRawCards : (Numbers → Reply → Type 0) → Strategy → Strategy → Reply → Type 0
 OnRawCards says one two reply =
     ((raw_cell_count (strategy_frame one) ≤ 16777216) × ((n : Numbers) × AreJudged one two n × says n reply))
-    ⊎ ((16777216 < raw_cell_count (strategy_frame one)) × (reply ≡ Refuses (Too_large (Raw_cells (raw_cell_count (strategy_frame one))))))
+    ⊎ ((16777216 < raw_cell_count (strategy_frame one)) × (reply ≡ Refuses (Too_large (RawCells (raw_cell_count (strategy_frame one))))))
 
 -- the reply prints the value and the gaps of a strategy's plans, a line each
 abbrev pub SaysJudged : Strategy → Reply → Type 0

@@ -2,10 +2,10 @@
 use Rattle.std.specs.Prelude.{◌≡◌, ◌⊎◌, ℕ, List}
 use Rattle.gs_file.specs.declared.version.Version.TheVariants.{Two}
 use Rattle.gs_lift.specs.declared.fault.QueryFault.{QueryFault}
-use Rattle.gs_reply.specs.{Refusals.{Refusal, Bad_query}, Replies.{OfFile, Reply, Prints, Refuses}, declared.strategies.Which.TheVariants.{Only}}
+use Rattle.gs_reply.specs.{Refusals.{Bad_query}, Replies.{OfFile, Reply, Prints, Refuses}, declared.refusals.Which.TheVariants.{Only}}
 use Rattle.gs_reply.specs.VerdictText.{verdict_text}
 use Rattle.gs_strategy.specs.{Confirmed.{IsConfirmed}, Texts.{strategy_text}, Values.{Strategy}}
-use Rattle.gs_confirm.specs.{Queries.{IsBadQuery, IsQueried}, Troubles.{IsTrouble}}
+use Rattle.gs_confirm.specs.{Queries.{IsBadQuery, IsQueried}, Troubles.{IsUnconfirmed}}
 
 -- the reply to the bytes of the only strategy file of a command
 abbrev pub OfStrategy : (Strategy → Reply → Type 0) → List ℕ → Reply → Type 0
@@ -13,7 +13,7 @@ OfStrategy = OfFile Only
 
 -- `says` holds of a confirmed strategy and the reply; a strategy that is not confirmed is refused for its first trouble
 abbrev pub OfConfirmed : (Strategy → Reply → Type 0) → Strategy → Reply → Type 0
-OfConfirmed says s reply = (IsConfirmed s × says s reply) ⊎ ((why : Refusal) × IsTrouble s why × (reply ≡ Refuses why))
+OfConfirmed says s reply = (IsConfirmed s × says s reply) ⊎ IsUnconfirmed s reply
 
 -- the reply prints the three lines of the strategy's numbers
 abbrev pub SaysNumbers : Strategy → Reply → Type 0

@@ -1,5 +1,4 @@
 pub mod Troubles
 pub mod Queries
 pub mod Commands
-pub mod Asking
 pub mod Held

@@ -1,7 +1,8 @@
 -- Why a strategy is not confirmed. The checks are made in this order: a trouble applies if no earlier one does.
 use Rattle.std.specs.Prelude.{◌≡◌, ◌≢◌, ◌⊎◌, ℕ, List, codes}
 use Rattle.gs_model.specs.Lossless.{IsLossless}
-use Rattle.gs_reply.specs.{Replies.{Reply, Refuses}, Refusals.{Limit, Refusal, Unlike_pair, Too_large, Wrong_number}, Troubles.{IsUnlikePair, Passes}}
+use Rattle.gs_reply.specs.{Replies.{Reply, Refuses}, Refusals.{Refusal, Unlike_pair, Too_large, Wrong_number}, Troubles.{IsUnlikePair, Passes}}
+use Rattle.gs_reply.specs.declared.refusals.Limit.{Limit}
 use Rattle.gs_seq.specs.Stops.{IsSmall}
 use Rattle.gs_strategy.specs.{Confirmed.{AreNumbersOf, strategy_frame}, Values.{Numbers, FractionParts, Strategy}}
 
@@ -32,6 +33,10 @@ IsTrouble s (Unlike_pair round one two) = IsUnlikePair s.game s.classes round on
 IsTrouble s (Too_large limit) = IsTooLarge s limit
 IsTrouble s (Wrong_number name stated found) = IsWrongNumber s name stated found
 IsTrouble s other = ⊥
+
+-- the reply refuses the strategy with its trouble
+abbrev pub IsUnconfirmed : Strategy → Reply → Type 0
+IsUnconfirmed s reply = (why : Refusal) × IsTrouble s why × (reply ≡ Refuses why)
 
 -- ---- the refusal for one of them
 

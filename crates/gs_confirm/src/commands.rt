@@ -1,29 +1,22 @@
 //! The commands that read a strategy file.
 
-ghost use Rattle.std.specs.Prelude.{◌<◌, ◌≤◌, IfOk};
-ghost use Rattle.gs_confirm.specs.{Asking.{says_of}, Commands.{Evaluates, OfConfirmed, OfStrategy, Queries, Upgrades}};
+ghost use Rattle.std.specs.Prelude.{◌<◌, ◌≤◌};
+ghost use Rattle.gs_confirm.specs.Commands.{Evaluates, Queries, Upgrades};
 ghost use Rattle.gs_reply.specs.Replies.{Answers};
 
-use crate::asking::{Ask, Query};
-use crate::confirming::of_strategy;
-use gs_reply::{Answer, Which, stored_or_refusal};
-use std::alloc::{AllocError, Global};
-
-// Returns the answer of a command to the bytes of a strategy file.
-fn answered(alloc: Global, ask: &Ask<'_>, bytes: &[u8]) -> Result<Answer, AllocError>
-    ensures { IfOk result (Answers (OfStrategy (OfConfirmed (says_of ask.now)) bytes.now)) }
-{
-    match stored_or_refusal(alloc, Which::Only, bytes)? {
-        Ok(stored) => of_strategy(alloc, ask, &stored),
-        Err(refusal) => Ok(refusal),
-    }
-}
+use crate::checks::confirm;
+use crate::queries::{Query, queried};
+use gs_file::Version;
+use gs_reply::{Stop, Which, stored_strategy, verdict_text};
+use std::alloc::Global;
 
 /// Returns the value and the gaps that the strategy file states, if the strategy is confirmed; or the refusal.
-pub fn evaluate_answer(alloc: Global, bytes: &[u8]) -> Result<Answer, AllocError>
-    ensures { IfOk result (Answers (Evaluates bytes.now)) }
+pub fn evaluate_answer(alloc: Global, bytes: &[u8]) -> Result<Vec<u8>, Stop>
+    ensures { Answers (Evaluates bytes.now) result }
 {
-    answered(alloc, &Ask::Evaluate, bytes)
+    let stored = stored_strategy(alloc, Which::Only, bytes)?;
+    confirm(alloc, &stored)?;
+    Ok(verdict_text(alloc, &stored.verdict)?)
 }
 
 /// Returns the mixture of a player at the point and the raw signal that the two texts name, and the player's gap; or the refusal of the file or of the
@@ -34,22 +27,25 @@ pub fn query_answer(
     line: &str,
     signal: &str,
     bytes: &[u8],
-) -> Result<Answer, AllocError>
+) -> Result<Vec<u8>, Stop>
     requires some { 0 < player }
     requires two { player ≤ 2 }
-    ensures { IfOk result (Answers (Queries player line.now signal.now bytes.now)) }
+    ensures { Answers (Queries player line.now signal.now bytes.now) result }
 {
     let query = Query {
         player,
         line,
         signal,
     };
-    answered(alloc, &Ask::Query(query), bytes)
+    let stored = stored_strategy(alloc, Which::Only, bytes)?;
+    queried(alloc, &query, &stored)
 }
 
 /// Returns the text in version 2 of the strategy, if it is confirmed; or the refusal.
-pub fn upgrade_answer(alloc: Global, bytes: &[u8]) -> Result<Answer, AllocError>
-    ensures { IfOk result (Answers (Upgrades bytes.now)) }
+pub fn upgrade_answer(alloc: Global, bytes: &[u8]) -> Result<Vec<u8>, Stop>
+    ensures { Answers (Upgrades bytes.now) result }
 {
-    answered(alloc, &Ask::Upgrade, bytes)
+    let stored = stored_strategy(alloc, Which::Only, bytes)?;
+    confirm(alloc, &stored)?;
+    Ok(stored.text(alloc, Version::Two)?)
 }

@@ -5,14 +5,7 @@ ghost use Rattle.gs_confirm.specs.Troubles.{IsFirstWrong};
 ghost use Rattle.gs_strategy.specs.Views.{numbers_of, parts_of};
 
 use gs_frac::{Fraction, Verdict};
-
-/// A number with its name, as it is stated and as it was computed.
-#[derive(Clone, Copy)]
-pub(crate) struct Wrong {
-    pub name: &'static str,
-    pub stated: Fraction,
-    pub found: Fraction,
-}
+use gs_reply::WrongNumber;
 
 // Returns whether two fractions have the same numerator and the same denominator.
 fn are_same(one: &Fraction, two: &Fraction) -> bool
@@ -22,12 +15,12 @@ fn are_same(one: &Fraction, two: &Fraction) -> bool
 }
 
 // Returns a number with its name.
-fn named(name: &'static str, stated: &Fraction, found: &Fraction) -> Wrong
+fn named(name: &'static str, stated: &Fraction, found: &Fraction) -> WrongNumber
     ensures name { result.name.now ≡ name.entry.now }
     ensures stated { parts_of result.stated ≡ parts_of stated.now }
     ensures found { parts_of result.found ≡ parts_of found.now }
 {
-    Wrong {
+    WrongNumber {
         name,
         stated: *stated,
         found: *found,
@@ -35,7 +28,7 @@ fn named(name: &'static str, stated: &Fraction, found: &Fraction) -> Wrong
 }
 
 /// Returns the first of the three stated numbers that differs from the computed one.
-pub(crate) fn first_wrong(stated: &Verdict, found: &Verdict) -> Option<Wrong>
+pub(crate) fn first_wrong(stated: &Verdict, found: &Verdict) -> Option<WrongNumber>
     ensures { MatchOption result (numbers_of stated.now ≡ numbers_of found.now)
         (λ w. IsFirstWrong (numbers_of stated.now) (numbers_of found.now) w.name.now (parts_of w.stated) (parts_of w.found)) }
 {

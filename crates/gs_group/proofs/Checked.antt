@@ -55,7 +55,6 @@ unlike_so Coarsest v lists are r said = absurd (said.3.not_lossless (always_loss
 unlike_so Single v lists are r said = absurd (said.3.not_lossless (always_lossless Single (file_rules v) lists (inr refl) are))
 
 -- so `check` refuses them
-pub check_refuses : (grouping : Grouping) (summary : Bool) (v : FileGame) (lists : ClassLists) → IsGrouping grouping (file_rules v) lists → (r : Reply)
-    → SaysUnlike v lists r → ChecksGame grouping summary v r
-check_refuses grouping summary v lists are (Prints text) said = absurd (let e = said.4 in cc)
-check_refuses grouping summary v lists are (Refuses why) said = unlike_so grouping v lists are (Refuses why) said
+pub check_refuses : (grouping : Grouping) (summary : Bool) (v : FileGame) (r : Reply) → SaysNotLossless grouping v r → ChecksGame grouping summary v r
+check_refuses grouping summary v (Prints text) (single, classes, are, (round, one, two, pair, told)) = cc
+check_refuses grouping summary v (Refuses why) said = said

@@ -1,6 +1,5 @@
 //! The command `check`.
 
-ghost use Rattle.std.specs.Prelude.{IfOk};
 ghost use Rattle.gs_file.specs.Views.{valid_view};
 ghost use Rattle.gs_group.specs.Checking.{Checks, ChecksGame};
 ghost use Rattle.gs_reply.specs.Replies.{Answers};
@@ -8,10 +7,10 @@ ghost use Rattle.gs_reply.specs.Replies.{Answers};
 use crate::grouping::{classes_of, lossless_of};
 use crate::telling::told;
 use gs_game::ValidGame;
-use gs_reply::{Answer, game_or_refusal, not_lossless};
+use gs_reply::{Stop, stated_game};
 use gs_tree::Signals;
 use gs_words::Grouping;
-use std::alloc::{AllocError, Global};
+use std::alloc::Global;
 
 // Returns the answer of `check` for a game.
 fn checked(
@@ -19,15 +18,13 @@ fn checked(
     game: &ValidGame,
     grouping: Grouping,
     summary: bool,
-) -> Result<Answer, AllocError>
-    ensures { IfOk result (Answers (ChecksGame grouping summary (valid_view game.now))) }
+) -> Result<Vec<u8>, Stop>
+    ensures { Answers (ChecksGame grouping summary (valid_view game.now)) result }
 {
     let signals = Signals::of(alloc, game)?;
     let classes = classes_of(alloc, &signals, grouping)?;
-    match lossless_of(alloc, &signals, &classes, grouping) {
-        Ok(_) => Ok(Answer::Prints(told(alloc, &signals, &classes, summary)?)),
-        Err(stop) => not_lossless(alloc, &signals, stop),
-    }
+    let _lossless = lossless_of(alloc, &signals, &classes, grouping)?;
+    Ok(told(alloc, &signals, &classes, summary)?)
 }
 
 /// Returns the answer of `check` to the bytes of a game file: the text or the summary of the classes of this grouping, if they are lossless; or the
@@ -37,11 +34,9 @@ pub fn check_answer(
     bytes: &[u8],
     grouping: Grouping,
     summary: bool,
-) -> Result<Answer, AllocError>
-    ensures { IfOk result (Answers (Checks grouping summary bytes.now)) }
+) -> Result<Vec<u8>, Stop>
+    ensures { Answers (Checks grouping summary bytes.now) result }
 {
-    match game_or_refusal(alloc, bytes)? {
-        Ok(game) => checked(alloc, &game, grouping, summary),
-        Err(refusal) => Ok(refusal),
-    }
+    let game = stated_game(alloc, bytes)?;
+    checked(alloc, &game, grouping, summary)
 }

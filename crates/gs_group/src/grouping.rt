@@ -1,15 +1,16 @@
 //! The classes of a grouping.
 
 ghost use Rattle.std.specs.Prelude.{◌≡◌, IfErr, IfOk};
-ghost use Rattle.gs_filter.specs.Filter.{single_classes};
-ghost use Rattle.gs_group.specs.Checking.{IsGrouping};
-ghost use Rattle.gs_lossless.specs.Stops.{IsUnlike, IsUnlikeIn};
+ghost use Rattle.gs_file.specs.Views.{valid_view};
+ghost use Rattle.gs_group.specs.Checking.{IsGrouping, SaysNotLossless};
 ghost use Rattle.gs_model.specs.{Frame.{frame_of}, Lossless.{IsLossless}};
+ghost use Rattle.gs_reply.specs.Replies.{StopsFor};
 ghost use Rattle.gs_tree.specs.Trees.{rules_of};
 ghost use Rattle.gs_words.specs.declared.request.Grouping.TheVariants.{Coarsest};
 
 use gs_filter::Classes;
-use gs_lossless::{CheckStop, Lossless, check};
+use gs_lossless::Lossless;
+use gs_reply::{Stop, lossless_classes};
 use gs_split::split;
 use gs_tree::Signals;
 use gs_words::Grouping;
@@ -40,24 +41,22 @@ pub fn classes_of(
     }
 }
 
-/// Returns the classes of a grouping as lossless ones, or their first unlike pair. Only signal classes are compared: the others are known to be lossless.
+/// Returns the classes of a grouping as lossless ones, or the refusal with their first unlike pair. Only signal classes are compared: the others are known to be lossless.
 pub fn lossless_of<'a>(
     alloc: Global,
     signals: &'a Signals<'a>,
     classes: &'a Classes,
     grouping: Grouping,
-) -> Result<Lossless<'a>, CheckStop>
+) -> Result<Lossless<'a>, Stop>
     requires parents { classes.now.parents ≡ (frame_of (rules_of signals.now)).parents }
     requires grouping { IsGrouping grouping (rules_of signals.now) classes.now.lists }
     ensures held_signals { IfOk result (λ l. l.signals.now ≡ signals.entry.now) }
     ensures held_classes { IfOk result (λ l. l.classes.now ≡ classes.entry.now) }
     ensures lossless { IfOk result (λ _. IsLossless (frame_of (rules_of signals.entry.now)) classes.entry.now.lists) }
-    ensures unlike { IfErr result (IsUnlikeIn (frame_of (rules_of signals.entry.now)) classes.entry.now.lists) }
-    ensures refuted { IfErr result (λ e. IsUnlike e → IsLossless (frame_of (rules_of signals.entry.now)) classes.entry.now.lists → ⊥) }
-    ensures single { IfErr result (λ e. IsUnlike e → classes.entry.now.lists ≡ single_classes classes.entry.now.parents → ⊥) }
+    ensures unlike { IfErr result (StopsFor (SaysNotLossless grouping (valid_view signals.entry.now.game.now))) }
 {
     match grouping {
-        Grouping::Isomorphism => check(alloc, signals, classes),
+        Grouping::Isomorphism => lossless_classes(alloc, signals, classes),
         Grouping::Coarsest | Grouping::Single => Ok(Lossless::known(signals, classes)),
     }
 }

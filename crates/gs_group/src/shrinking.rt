@@ -7,7 +7,7 @@ ghost use Rattle.gs_reply.specs.Replies.{Answers};
 
 use crate::telling::told;
 use gs_game::ValidGame;
-use gs_reply::{Answer, game_or_refusal};
+use gs_reply::{Stop, stated_game};
 use gs_tree::Signals;
 use std::alloc::{AllocError, Global};
 
@@ -21,11 +21,9 @@ fn shrunk(alloc: Global, game: &ValidGame, summary: bool) -> Result<Vec<u8>, All
 }
 
 /// Returns the answer of `shrink` to the bytes of a game file: the text or the summary of its signal classes, or the refusal.
-pub fn shrink_answer(alloc: Global, bytes: &[u8], summary: bool) -> Result<Answer, AllocError>
-    ensures { IfOk result (Answers (Shrinks summary bytes.now)) }
+pub fn shrink_answer(alloc: Global, bytes: &[u8], summary: bool) -> Result<Vec<u8>, Stop>
+    ensures { Answers (Shrinks summary bytes.now) result }
 {
-    match game_or_refusal(alloc, bytes)? {
-        Ok(game) => Ok(Answer::Prints(shrunk(alloc, &game, summary)?)),
-        Err(refusal) => Ok(refusal),
-    }
+    let game = stated_game(alloc, bytes)?;
+    Ok(shrunk(alloc, &game, summary)?)
 }

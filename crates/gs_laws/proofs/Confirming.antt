@@ -3,8 +3,9 @@ use Rattle.std.proofs.Common.{◌≡◌, ℕ, ◌*◌, ◌<◌, List, Ok, ap, su
 use Rattle.gs_confirm.specs.{Commands.{Evaluates, OfConfirmed, SaysNumbers}, Troubles.{IsFirstWrong, IsTrouble}}
 use Rattle.gs_file.specs.{Reading.{FileGame, read_at}, declared.version.Version.{Version}, declared.version.Version.TheVariants.{Two}}
 use Rattle.gs_model.specs.{Classes.{ClassLists}, Frame.{total_weight}}
-use Rattle.gs_reply.specs.Refusals.{Limit, Refusal, Sequences, Cells, Table_numbers, Raw_cells, Bad_game, Unlike_pair, Overflows, Many_pivots, Too_large, Bad_strategy, Wrong_number, Bad_query, Other_game, Bad_certificate}
-use Rattle.gs_reply.specs.{Replies.{OfRead, Reply, Prints}, Troubles.{Passes}, declared.strategies.Which.TheVariants.{Only}, VerdictText.{verdict_text}}
+use Rattle.gs_reply.specs.Refusals.{Refusal, Bad_game, Unlike_pair, Overflows, Many_pivots, Too_large, Bad_strategy, Wrong_number, Bad_query, Other_game, Bad_certificate}
+use Rattle.gs_reply.specs.{declared.refusals.Limit.{Limit}, declared.refusals.Limit.TheVariants.{Sequences, Cells, TableNumbers, RawCells}}
+use Rattle.gs_reply.specs.{Replies.{OfRead, Reply, Prints}, Troubles.{Passes}, declared.refusals.Which.TheVariants.{Only}, VerdictText.{verdict_text}}
 use Rattle.gs_seq.specs.{Stops.{IsSmall}, declared.plan.Plan.{Plan}}
 use Rattle.gs_settle.specs.Texts.{IsSettledText}
 use Rattle.gs_strategy.proofs.Only.{only}
@@ -31,8 +32,8 @@ pub small_passes : (g : FileGame) (lists : ClassLists) (limit : Limit) → IsSma
 small_passes g lists (Sequences player count) small (inl h) = let k = small.sequences.one in let e = h.1 in let o = h.2 in omega arith
 small_passes g lists (Sequences player count) small (inr h) = let k = small.sequences.two in let e = h.1.1 in let o = h.1.2 in omega arith
 small_passes g lists (Cells count) small h = let k = small.cells in let e = h.1 in let o = h.2 in omega arith
-small_passes g lists (Table_numbers count) small h = h
-small_passes g lists (Raw_cells count) small h = h
+small_passes g lists (TableNumbers count) small h = h
+small_passes g lists (RawCells count) small h = h
 
 none_wrong : (n m : Numbers) (name : List ℕ) (one other : FractionParts) → n ≡ m → IsFirstWrong n m name one other → ⊥
 none_wrong n m name one other e (inl h) = h.3 (ap (λ (k : Numbers). k.value) e)

@@ -21,8 +21,9 @@ use Rattle.gs_json.specs.FirstLine.{first_line}
 use Rattle.gs_model.proofs.{Basics.{product_positive}, BestOnce.{best_values_are_one}, Walked.{walked_one, walked_two}}
 use Rattle.gs_model.specs.{BestAnswers.{Values}, Certificate.{IsCertificate}, Classes.{ClassLists, IsClass, IsClasses}}
 use Rattle.gs_model.specs.{Frame.{Frame, point_count, round_of, total_weight}, FrameFacts.{IsWalked}, Plans.{Plan}, Positions.{at_point}}
-use Rattle.gs_reply.specs.Refusals.{Limit, Bad_game, Unlike_pair, Overflows, Many_pivots, Too_large, Bad_strategy, Wrong_number, Bad_query, Other_game, Bad_certificate}
-use Rattle.gs_reply.specs.{Replies.{Reply, Prints, Refuses}, Troubles.{IsUnlikePair}, declared.strategies.Which.TheVariants.{Only}}
+use Rattle.gs_reply.specs.Refusals.{Bad_game, Unlike_pair, Overflows, Many_pivots, Too_large, Bad_strategy, Wrong_number, Bad_query, Other_game, Bad_certificate}
+use Rattle.gs_reply.specs.declared.refusals.Limit.{Limit}
+use Rattle.gs_reply.specs.{Replies.{Reply, Prints, Refuses}, Troubles.{IsUnlikePair}, declared.refusals.Which.TheVariants.{Only}}
 use Rattle.gs_seq.proofs.SlotLaws.{sum_range_more}
 use Rattle.gs_strategy.specs.{Confirmed.{strategy_frame, raw_plan}, Laws.{IsStrategy}, Texts.{strategy_text}, Values.{FractionParts, Strategy}}
 use Rattle.gs_laws.proofs.{Confirming.{small_passes, strategy_scale}, OneGame.{unlike_pair_one}}

@@ -4,7 +4,7 @@ use Rattle.gs_compare.specs.{Commands.{Duels, SaysDuel, SaysHands}, Judging.{Are
 use Rattle.gs_file.specs.{Reading.{file_rules}, declared.version.Version.{Version}}
 use Rattle.gs_json.specs.FirstLine.{first_line}
 use Rattle.gs_model.specs.{Frame.{signal_count, total_weight}, Payoff.{hand_weight}, Plans.{lift}}
-use Rattle.gs_reply.specs.{Replies.{OfFile, Reply, Prints}, declared.strategies.Which.TheVariants.{First, Second}, VerdictText.{verdict_text}}
+use Rattle.gs_reply.specs.{Replies.{OfFile, Reply, Prints}, declared.refusals.Which.TheVariants.{First, Second}, VerdictText.{verdict_text}}
 use Rattle.gs_strategy.specs.{Confirmed.{strategy_frame, raw_plan}, Laws.{IsStrategy}, Values.{FractionParts, Numbers, Strategy}}
 use Rattle.gs_strategy.proofs.Verdicts.{verdicts_one, hand_one, scale_some}
 use Rattle.gs_raw.proofs.Dealing.{hand_some}

@@ -24,7 +24,8 @@ use Rattle.gs_strategy.proofs.OneReading.{one_least}
 use Rattle.gs_file.proofs.Dealt.{told_playable}
 use Rattle.gs_laws.proofs.OneSettled.{SaysOne, settles_one, text_of_one}
 use Rattle.gs_file.specs.{Reading.{FileGame, file_rules}, declared.version.Version.TheVariants.{Two}}
-use Rattle.gs_reply.specs.Refusals.{Refusal, Overflows, At_step, At_total, Many_pivots, Too_large, Sequences, Cells, Table_numbers, Raw_cells, Bad_game, Unlike_pair, Bad_strategy, Wrong_number, Bad_query, Other_game, Bad_certificate}
+use Rattle.gs_reply.specs.Refusals.{Refusal, Overflows, Many_pivots, Too_large, Bad_game, Unlike_pair, Bad_strategy, Wrong_number, Bad_query, Other_game, Bad_certificate}
+use Rattle.gs_reply.specs.{declared.refusals.Limit.TheVariants.{Sequences, Cells, TableNumbers, RawCells}, declared.refusals.Overflow.TheVariants.{AtStep, AtTotal}}
 use Rattle.gs_reply.specs.Replies.{Reply, Prints, Refuses}
 use Rattle.gs_settle.specs.{Solving.{SaysStopped, SaysUnsolved, Solves}, Settling.{Settles}}
 use Rattle.gs_words.specs.declared.request.Grouping.{Grouping}
@@ -248,14 +249,14 @@ plan_or_over xs from count m x any some few h g =
 -- ---- why there is no solution
 
 abbrev Tells : PathStop → Refusal → Type 0
-Tells (wide step row col number) why = why ≡ Overflows (At_step step row col number)
+Tells (wide step row col number) why = why ≡ Overflows (AtStep step row col number)
 Tells pivots why = why ≡ Many_pivots
 Tells (ends n l) why = ⊥
 Tells (unbounded col) why = ⊥
 
 -- the table is too large
 abbrev AsTable : FileGame → ClassLists → Refusal → Type 0
-AsTable g lists why = (count : ℕ) × (why ≡ Too_large (Table_numbers count)) × (count ≡ table_numbers (file_frame g) lists) × (1048576 < count)
+AsTable g lists why = (count : ℕ) × (why ≡ Too_large (TableNumbers count)) × (count ≡ table_numbers (file_frame g) lists) × (1048576 < count)
 
 -- the path stops before its end
 abbrev AsPath : FileGame → ClassLists → Refusal → Type 0
@@ -265,17 +266,17 @@ AsPath g lists why =
 -- a total is too large
 abbrev AsTotal : FileGame → ClassLists → Refusal → Type 0
 AsTotal g lists why =
-    (player : ℕ) × (m : ℕ) × (why ≡ Overflows (At_total player m)) × (p : Program) × (o : Listing) × (b : Best) × IsGamePath (file_frame g) lists p o
+    (player : ℕ) × (m : ℕ) × (why ≡ Overflows (AtTotal player m)) × (p : Program) × (o : Listing) × (b : Best) × IsGamePath (file_frame g) lists p o
     × IsBest p o most_pivots b × IsTotalOver (file_frame g) lists b player m
 
 stopped_kind : (g : FileGame) (lists : ClassLists) (why : Refusal) → SaysStopped g lists why → AsTable g lists why ⊎ AsPath g lists why
-stopped_kind g lists (Too_large (Table_numbers count)) h = inl (count, refl, h.0, h.1)
-stopped_kind g lists (Overflows (At_step step row col number)) h = inr (wide step row col number, refl, h.0, h.1, h.2, h.3, h.4)
+stopped_kind g lists (Too_large (TableNumbers count)) h = inl (count, refl, h.0, h.1)
+stopped_kind g lists (Overflows (AtStep step row col number)) h = inr (wide step row col number, refl, h.0, h.1, h.2, h.3, h.4)
 stopped_kind g lists Many_pivots h = inr (pivots, refl, h.0, h.1, h.2, h.3, h.4)
 stopped_kind g lists (Too_large (Sequences player count)) h = absurd h
 stopped_kind g lists (Too_large (Cells count)) h = absurd h
-stopped_kind g lists (Too_large (Raw_cells count)) h = absurd h
-stopped_kind g lists (Overflows (At_total player m)) h = absurd h
+stopped_kind g lists (Too_large (RawCells count)) h = absurd h
+stopped_kind g lists (Overflows (AtTotal player m)) h = absurd h
 stopped_kind g lists (Bad_game why) h = absurd h
 stopped_kind g lists (Unlike_pair round one two) h = absurd h
 stopped_kind g lists (Bad_strategy which why) h = absurd h
@@ -286,7 +287,7 @@ stopped_kind g lists (Bad_certificate why) h = absurd h
 
 unsolved_kind : (g : FileGame) (lists : ClassLists) (why : Refusal) → SaysUnsolved g lists why
     → AsTable g lists why ⊎ (AsPath g lists why ⊎ AsTotal g lists why)
-unsolved_kind g lists (Overflows (At_total player m)) h = inr (inr (player, m, refl, h.0, h.1, h.2, h.3, h.4, h.5))
+unsolved_kind g lists (Overflows (AtTotal player m)) h = inr (inr (player, m, refl, h.0, h.1, h.2, h.3, h.4, h.5))
 unsolved_kind g lists why h = elim (stopped_kind g lists why h) [ inl a ↦ inl a | inr b ↦ inr (inl b) ]
 
 small_or_table : (f : Frame) (lists : ClassLists) (p : Program) (o : Listing) (count : ℕ) → IsGamePath f lists p o → IsSmallTable p → count ≡ table_numbers f lists
@@ -347,7 +348,7 @@ module _ (g : FileGame) (lists : ClassLists) (r : InRange (file_frame g)) (w1 : 
   stopped_one v w h i = by (stopped_kind g lists v h) (stopped_kind g lists w i)
     where
       by : AsTable g lists v ⊎ AsPath g lists v → AsTable g lists w ⊎ AsPath g lists w → v ≡ w
-      by (inl (a, e, is, over)) (inl (b, d, it, past)) = e ∙ ap (λ (n : ℕ). Too_large (Table_numbers n)) (is ∙ sym it) ∙ sym d
+      by (inl (a, e, is, over)) (inl (b, d, it, past)) = e ∙ ap (λ (n : ℕ). Too_large (TableNumbers n)) (is ∙ sym it) ∙ sym d
       by (inl a) (inr b) = absurd (table_or_path v w a b)
       by (inr a) (inl b) = absurd (table_or_path w v b a)
       by (inr a) (inr b) = paths_one v w a b
@@ -365,13 +366,13 @@ module _ (g : FileGame) (lists : ClassLists) (r : InRange (file_frame g)) (w1 : 
     where
       by : (q : Program) (b c : Best) → q.cols ≡ ((form_sizes (file_frame g) lists).ones + (form_sizes (file_frame g) lists).two_rows)
           + (form_sizes (file_frame g) lists).twos → SameEnds q b c → Fraction → IsTotalOver (file_frame g) lists b player m
-          → IsTotalOver (file_frame g) lists c other n → v ≡ Overflows (At_total player m) → w ≡ Overflows (At_total other n) → v ≡ w
+          → IsTotalOver (file_frame g) lists c other n → v ≡ Overflows (AtTotal player m) → w ≡ Overflows (AtTotal other n) → v ≡ w
       by q b c cols same any (inl h) (inl i) e d =
           let sizes = form_sizes (file_frame g) lists in
           let x = first_over_one c.value.items 0 sizes.ones m n any
           (over_same q.cols b.value.items c.value.items 0 sizes.ones m same.values (omega arith) h.1) i.1 in
           let y = h.0 ∙ sym i.0 in
-          e ∙ ap (λ (z : ℕ). Overflows (At_total z m)) y ∙ ap (λ (z : ℕ). Overflows (At_total other z)) x ∙ sym d
+          e ∙ ap (λ (z : ℕ). Overflows (AtTotal z m)) y ∙ ap (λ (z : ℕ). Overflows (AtTotal other z)) x ∙ sym d
       by q b c cols same any (inl h) (inr i) e d =
           let sizes = form_sizes (file_frame g) lists in
           absurd (within_or_over c.value.items 0 sizes.ones m any i.1
@@ -385,13 +386,13 @@ module _ (g : FileGame) (lists : ClassLists) (r : InRange (file_frame g)) (w1 : 
           let x = first_over_one c.price.items (first_slack sizes) sizes.twos m n any
           (over_same q.cols b.price.items c.price.items (first_slack sizes) sizes.twos m same.prices (omega arith) h.2) i.2 in
           let y = h.0 ∙ sym i.0 in
-          e ∙ ap (λ (z : ℕ). Overflows (At_total z m)) y ∙ ap (λ (z : ℕ). Overflows (At_total other z)) x ∙ sym d
+          e ∙ ap (λ (z : ℕ). Overflows (AtTotal z m)) y ∙ ap (λ (z : ℕ). Overflows (AtTotal other z)) x ∙ sym d
 
   pub unsolved_one : (v w : Refusal) → SaysUnsolved g lists v → SaysUnsolved g lists w → v ≡ w
   unsolved_one v w h i = by (unsolved_kind g lists v h) (unsolved_kind g lists w i)
     where
       by : AsTable g lists v ⊎ (AsPath g lists v ⊎ AsTotal g lists v) → AsTable g lists w ⊎ (AsPath g lists w ⊎ AsTotal g lists w) → v ≡ w
-      by (inl (a, e, is, over)) (inl (b, d, it, past)) = e ∙ ap (λ (n : ℕ). Too_large (Table_numbers n)) (is ∙ sym it) ∙ sym d
+      by (inl (a, e, is, over)) (inl (b, d, it, past)) = e ∙ ap (λ (n : ℕ). Too_large (TableNumbers n)) (is ∙ sym it) ∙ sym d
       by (inl a) (inr (inl b)) = absurd (table_or_path v w a b)
       by (inl a) (inr (inr (player, m, e, p, o, b, path, best, over))) = absurd (table_or_best v p o b a path best)
       by (inr (inl a)) (inl b) = absurd (table_or_path w v b a)

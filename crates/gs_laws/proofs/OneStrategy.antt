@@ -16,9 +16,10 @@ use Rattle.gs_lift.specs.declared.fault.QueryFault.TheVariants as query
 use Rattle.gs_model.proofs.{Ranges.{signal_count_is}, Walked.{last_round_of, walked_one}}
 use Rattle.gs_model.specs.{Classes.{ClassLists}, Frame.{Frame, choices_at, player_at, point, point_count, round_of, total_weight, trees_of}}
 use Rattle.gs_model.specs.{Game.{Round, round_count}, Plans.{IsShare, Plan as RawPlan}, Positions.{at_point}}
-use Rattle.gs_reply.specs.Refusals.{Limit, Refusal, Sequences, Cells, Table_numbers, Raw_cells, Bad_game, Unlike_pair, Overflows, Many_pivots, Too_large, Bad_strategy, Wrong_number, Bad_query, Other_game, Bad_certificate}
-use Rattle.gs_reply.specs.{Replies.{OfFile, OfRead, Reply, Prints, Refuses}, Troubles.{IsUnlikePair, Passes}, declared.strategies.Which.{Which}}
-use Rattle.gs_reply.specs.{declared.strategies.Which.TheVariants.{Only}, VerdictText.{mix_text, verdict_text}}
+use Rattle.gs_reply.specs.Refusals.{Refusal, Bad_game, Unlike_pair, Overflows, Many_pivots, Too_large, Bad_strategy, Wrong_number, Bad_query, Other_game, Bad_certificate}
+use Rattle.gs_reply.specs.{declared.refusals.Limit.{Limit}, declared.refusals.Limit.TheVariants.{Sequences, Cells, TableNumbers, RawCells}}
+use Rattle.gs_reply.specs.{Replies.{OfFile, OfRead, Reply, Prints, Refuses}, Troubles.{IsUnlikePair, Passes}, declared.refusals.Which.{Which}}
+use Rattle.gs_reply.specs.{declared.refusals.Which.TheVariants.{Only}, VerdictText.{mix_text, verdict_text}}
 use Rattle.gs_seq.specs.Stops.{IsSmall}
 use Rattle.gs_strategy.specs.{Checks.{ReadResult, Reads}, Confirmed.{strategy_frame, raw_plan}, Laws.{IsStrategy}}
 use Rattle.gs_strategy.specs.Values.{FractionParts, Numbers, Strategy, file_frame}
@@ -54,10 +55,10 @@ passes_one g lists (Sequences p c) (Cells d) (inr h) k = let l = k.0.two in let 
 passes_one g lists (Cells c) (Sequences q d) h (inl k) = let l = h.0.one in let a = k.1 in let b = k.2 in absurd (omega arith)
 passes_one g lists (Cells c) (Sequences q d) h (inr k) = let l = h.0.two in let a = k.1.1 in let b = k.1.2 in absurd (omega arith)
 passes_one g lists (Cells c) (Cells d) h k = let e = h.1 ∙ sym k.1 in cc
-passes_one g lists a (Table_numbers n) h k = absurd k
-passes_one g lists a (Raw_cells n) h k = absurd k
-passes_one g lists (Table_numbers n) b h k = absurd h
-passes_one g lists (Raw_cells n) b h k = absurd h
+passes_one g lists a (TableNumbers n) h k = absurd k
+passes_one g lists a (RawCells n) h k = absurd k
+passes_one g lists (TableNumbers n) b h k = absurd h
+passes_one g lists (RawCells n) b h k = absurd h
 
 pub limit_one : (g : FileGame) (lists : ClassLists) (a b : Limit) → Passes g lists a → Passes g lists b → a ≡ b
 limit_one g lists a b h k = passes_one g lists a b h k

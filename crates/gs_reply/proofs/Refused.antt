@@ -1,12 +1,18 @@
--- A fault of the program is the one that reading meets first; answers that tell a refusal, and answers of which more is said.
-use Rattle.std.proofs.Common.{◌≡◌, ◌≢◌, Result, Ok, Err, refl, sym, subst}
+-- A fault of the program is the one that reading meets first; and more is said of what a command returns.
+use Rattle.std.proofs.{Common.{◌≡◌, ◌≢◌, ℕ, Result, Ok, Err, Vec, IfErr, IsErrAnd, refl, sym, subst}, lemmas.Result.{err_from_is_err_and}}
+use Rattle.std.specs.declared.alloc.Global.{Global}
 use Rattle.gs_file.specs.{Answers.{Fails}, Faults.{Fault}, Reading.{FileGame}, declared.fault.FileFault.{FileFault}, Answers.{FailsByRules}}
 use Rattle.gs_file.specs.declared.fault.FileFault.TheVariants as fault
 use Rattle.gs_game.specs.declared.faults.GameFault.{GameFault}
 use Rattle.gs_game.specs.declared.faults.GameFault.TheVariants as rules
-use Rattle.gs_reply.specs.{Refusals.{Refusal, Bad_game}, Replies.{Answers, IsBadGame, OfReading, Reply, Prints, Refuses, Tells}}
-use Rattle.gs_reply.specs.declared.answers.Answer.{Answer}
-use Rattle.gs_reply.specs.declared.answers.Answer.TheVariants as answer
+use Rattle.gs_model.specs.Classes.{ClassLists}
+use Rattle.gs_reply.specs.{Refusals.{Bad_game, Too_large}, Replies.{Answers, IsBadGame, OfReading, Reply, Prints, Refuses, StopsFor, Tells, of_seq_stop}}
+use Rattle.gs_reply.specs.{Troubles.{SaysLarge}}
+use Rattle.gs_reply.specs.declared.refusals.Refusal.TheVariants as told
+use Rattle.gs_reply.specs.{declared.refusals.Stop.{Stop}, declared.refusals.Limit.TheVariants.{Sequences, Cells}}
+use Rattle.gs_reply.specs.declared.refusals.Stop.TheVariants as stop
+use Rattle.gs_seq.specs.{Stops.{IsUsualStop}, declared.stop.SeqStop.{SeqStop}, declared.stop.SeqStop.TheVariants.{TooManySequences, TooManyCells, Memory}}
+use Rattle.gs_strategy.specs.Values.{file_frame}
 
 by_rules : (f : GameFault) (g : FileGame) → FailsByRules f (Ok g) → ⊥
 by_rules (rules.Rounds count) g h = cc
@@ -36,27 +42,41 @@ no_fault (fault.TreeText round why) g told h = cc
 no_fault (fault.Game why) g told h = by_rules why g h
 no_fault fault.Memory g told h = told refl
 
--- what follows of each reply follows of each answer
-pub answers_more : (P Q : Reply → Type 0) → ((r : Reply) → P r → Q r) → (a : Answer) → Answers P a → Answers Q a
-answers_more P Q more (answer.Prints text) h = more (Prints text.items) h
-answers_more P Q more (answer.Refuses kind line) h = (h.0, more (Refuses h.0) h.1, h.2)
+-- what follows of each reply follows of each stop, and of what a command returns
+pub stops_more : (P Q : Reply → Type 0) → ((r : Reply) → P r → Q r) → (e : Stop) → StopsFor P e → StopsFor Q e
+stops_more P Q more stop.Memory h = tt
+stops_more P Q more (stop.Refused told) h = (h.0, more (Refuses h.0) h.1, h.2)
 
--- an answer that tells a refusal answers so, where the refusal is said
-pub tells_answer : (says : Reply → Type 0) (a : Answer) (why : Refusal) → says (Refuses why) → Tells a why → Answers says a
-tells_answer says (answer.Prints text) why s t = absurd t
-tells_answer says (answer.Refuses kind line) why s t = (why, s, t)
+pub answers_more : (P Q : Reply → Type 0) → ((r : Reply) → P r → Q r) → (a : Result (Vec ℕ Global) Stop) → Answers P a → Answers Q a
+answers_more P Q more (Ok text) h = more (Prints text.items) h
+answers_more P Q more (Err e) h = stops_more P Q more e h
 
--- a fault of the file is told by its refusal
-pub game_refused : (read : Result FileGame Fault) (f : FileFault) (a : Answer) → f ≢ fault.Memory → Fails f read
-    → ((why : Fault) → Fails {Y = FileGame} f (Err why) → Tells a (Bad_game why)) → Answers (IsBadGame read) a
-game_refused (Ok g) f a told h line = absurd (no_fault f g told h)
-game_refused (Err why) f a told h line = tells_answer (IsBadGame (Err why)) a (Bad_game why) (why, refl, refl) (line why h)
+-- a fault of the file is its refusal
+pub game_refused : (read : Result FileGame Fault) (f : FileFault) → f ≢ fault.Memory → Fails f read → Tells (IsBadGame read) (told.BadGame f)
+game_refused (Ok g) f told h = absurd (no_fault f g told h)
+game_refused (Err why) f told h = (Bad_game why, (why, refl, refl), (told, why, h, refl))
 
 -- what is said of a game is said of the file that states it
-pub stated : (says : FileGame → Reply → Type 0) (read : Result FileGame Fault) (g : FileGame) (a : Answer) → read ≡ Ok g → Answers (says g) a
-    → Answers (OfReading says read) a
+pub stated : (says : FileGame → Reply → Type 0) (read : Result FileGame Fault) (g : FileGame) (a : Result (Vec ℕ Global) Stop) → read ≡ Ok g
+    → Answers (says g) a → Answers (OfReading says read) a
 stated says read g a is = subst (λ x. Answers (OfReading says x) a) (sym is)
 
 -- what is said of a file that states no game is its refusal
-pub not_stated : (says : FileGame → Reply → Type 0) (read : Result FileGame Fault) (a : Answer) → Answers (IsBadGame read) a → Answers (OfReading says read) a
-not_stated says read a = answers_more (IsBadGame read) (OfReading says read) (λ r bad. subst (λ x. OfReading says x r) (sym bad.1) bad.2) a
+pub not_stated : (says : FileGame → Reply → Type 0) (read : Result FileGame Fault) (e : Stop) → StopsFor (IsBadGame read) e → StopsFor (OfReading says read) e
+not_stated says read = stops_more (IsBadGame read) (OfReading says read) (λ r bad. subst (λ x. OfReading says x r) (sym bad.1) bad.2)
+
+-- a game without a sequence form is too large
+pub too_large : (g : FileGame) (lists : ClassLists) (why : SeqStop) → IsUsualStop (file_frame g) lists why → StopsFor (SaysLarge g lists) (of_seq_stop why)
+too_large g lists (TooManySequences player count) h = (Too_large (Sequences player count), (Sequences player count, h, refl), refl)
+too_large g lists (TooManyCells count) h = (Too_large (Cells count), (Cells count, h, refl), refl)
+too_large g lists Memory h = tt
+
+-- ---- the exit of a `?`
+
+-- what a command returns there
+pub exits : (P : Reply → Type 0) (r : Result (Vec ℕ Global) Stop) (e : Stop) → IsErrAnd r (λ x. x ≡ e) → StopsFor P e → Answers P r
+exits P r e h said = let p = err_from_is_err_and r h in rw (p.1, p.2) said
+
+-- what any other function returns there
+pub fails : {T : Type 0} (P : Reply → Type 0) (r : Result T Stop) (e : Stop) → IsErrAnd r (λ x. x ≡ e) → StopsFor P e → IfErr r (StopsFor P)
+fails P r e h said = let p = err_from_is_err_and r h in rw (p.1, p.2) said

@@ -1,9 +1,16 @@
 -- What is printed for an input, or why it is refused.
-use Rattle.std.specs.Prelude.{◌≡◌, ℕ, List, Result, Ok, Err}
+use Rattle.std.specs.{Prelude.{◌≡◌, ◌≢◌, ℕ, List, Result, Ok, Err, Vec, string_bytes}, declared.alloc.Global.{Global}}
 use Rattle.gs_file.specs.{Faults.{Fault}, Reading.{FileGame}}
-use Rattle.gs_strategy.specs.{Checks.{ReadResult, Reads}, Faults.{Fault as StrategyFault}, Values.{Strategy}}
-use Rattle.gs_reply.specs.{Refusals.{Refusal, Bad_game, Bad_strategy, cause_of, line_of}, declared.answers.Answer.{Answer}, declared.strategies.Which.{Which}}
-use Rattle.gs_reply.specs.declared.answers.Answer.TheVariants as answer
+use Rattle.gs_file.specs.declared.fault.FileFault.TheVariants as file
+use Rattle.gs_seq.specs.{declared.stop.SeqStop.{SeqStop}, declared.stop.SeqStop.TheVariants.{TooManySequences, TooManyCells, Memory}}
+use Rattle.gs_strategy.specs.{Checks.{ReadResult, Reads}, Faults.{Fault as StrategyFault, IsFault as IsStoreFault}, Values.{Strategy}, Views.{parts_of}}
+use Rattle.gs_text.specs.FaultText.{IsFault}
+use Rattle.gs_reply.specs.Refusals.{Refusal, Bad_game, Unlike_pair, Overflows, Many_pivots, Too_large, Bad_strategy, Wrong_number, Bad_query, Other_game, Bad_certificate}
+use Rattle.gs_reply.specs.declared.refusals.Refusal.{Refusal as Told}
+use Rattle.gs_reply.specs.declared.refusals.Refusal.TheVariants as told
+use Rattle.gs_reply.specs.{declared.refusals.Stop.{Stop}, declared.refusals.Which.{Which}}
+use Rattle.gs_reply.specs.declared.refusals.Stop.TheVariants as stop
+use Rattle.gs_reply.specs.declared.refusals.Limit.TheVariants.{Sequences, Cells}
 
 -- a text to print, or a refusal
 pub data Reply : Type 0 where
@@ -34,12 +41,37 @@ pub record OfFile (which : Which) (says : Strategy → Reply → Type 0) (bytes 
 abbrev pub IsBadStrategy : Which → List ℕ → Reply → Type 0
 IsBadStrategy which bytes reply = (why : StrategyFault) × Reads bytes (Err why) × (reply ≡ Refuses (Bad_strategy which why))
 
--- the answer of the program is this refusal, by its kind and its line
-abbrev pub Tells : Answer → Refusal → Type 0
-Tells (answer.Prints text) why = ⊥
-Tells (answer.Refuses kind line) why = (kind ≡ cause_of why) × (line.items ≡ line_of why)
+-- ---- what the program returns
 
--- the answer of the program is a reply of which `says` holds
-abbrev pub Answers : (Reply → Type 0) → Answer → Type 0
-Answers says (answer.Prints text) = says (Prints text.items)
-Answers says (answer.Refuses kind line) = (why : Refusal) × says (Refuses why) × Tells (answer.Refuses kind line) why
+-- the program's refusal is this one
+abbrev pub IsRefusal : Told → Refusal → Type 0
+IsRefusal (told.BadGame fault) why = (fault ≢ file.Memory) × (rule : Fault) × IsFault fault rule × (why ≡ Bad_game rule)
+IsRefusal (told.Unlike round first second) why = why ≡ Unlike_pair round (string_bytes first) (string_bytes second)
+IsRefusal (told.Overflows at) why = why ≡ Overflows at
+IsRefusal told.ManyPivots why = why ≡ Many_pivots
+IsRefusal (told.TooLarge limit) why = why ≡ Too_large limit
+IsRefusal (told.BadStrategy which fault) why = (rule : StrategyFault) × IsStoreFault fault rule × (why ≡ Bad_strategy which rule)
+IsRefusal (told.WrongNumber wrong) why = why ≡ Wrong_number wrong.name.now (parts_of wrong.stated) (parts_of wrong.found)
+IsRefusal (told.BadQuery fault) why = why ≡ Bad_query fault
+IsRefusal told.OtherGame why = why ≡ Other_game
+IsRefusal (told.BadCertificate text) why = why ≡ Bad_certificate text.items
+
+-- the program's refusal is one of which `says` holds
+abbrev pub Tells : (Reply → Type 0) → Told → Type 0
+Tells says told = (why : Refusal) × says (Refuses why) × IsRefusal told why
+
+-- memory ran out, which may happen at any time; or the program refuses the input, and `says` holds of the refusal
+abbrev pub StopsFor : (Reply → Type 0) → Stop → Type 0
+StopsFor says stop.Memory = Unit {0}
+StopsFor says (stop.Refused told) = Tells says told
+
+-- `says` holds of the text or the refusal that a command returns, unless memory ran out
+abbrev pub Answers : (Reply → Type 0) → Result (Vec ℕ Global) Stop → Type 0
+Answers says (Ok text) = says (Prints text.items)
+Answers says (Err stop) = StopsFor says stop
+
+-- why a command stops where there is no game in sequence form
+abbrev pub of_seq_stop : SeqStop → Stop
+of_seq_stop (TooManySequences player count) = stop.Refused (told.TooLarge (Sequences player count))
+of_seq_stop (TooManyCells count) = stop.Refused (told.TooLarge (Cells count))
+of_seq_stop Memory = stop.Memory

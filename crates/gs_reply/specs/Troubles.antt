@@ -5,7 +5,8 @@ use Rattle.gs_model.specs.{Classes.{ClassLists}, Lossless.{IsFirstUnlike, IsLoss
 use Rattle.gs_seq.specs.{Stops.{IsUsualStop}, declared.stop.SeqStop.TheVariants.{TooManySequences, TooManyCells}}
 use Rattle.gs_strategy.specs.Values.{file_frame}
 use Rattle.gs_tree.specs.Texts.{signal_text}
-use Rattle.gs_reply.specs.{Refusals.{Limit, Sequences, Cells, Table_numbers, Raw_cells, Unlike_pair, Too_large}, Replies.{Reply, Refuses}}
+use Rattle.gs_reply.specs.{Refusals.{Unlike_pair, Too_large}, Replies.{Reply, Refuses}, declared.refusals.Limit.{Limit}}
+use Rattle.gs_reply.specs.declared.refusals.Limit.TheVariants.{Sequences, Cells, TableNumbers, RawCells}
 
 -- the classes are not lossless, and this is their first unlike pair, by its round and the texts of the two signals
 pub record IsUnlikePair (g : FileGame) (lists : ClassLists) (round : ℕ) (one two : List ℕ) : Type 0 where
@@ -20,8 +21,8 @@ pub record IsUnlikePair (g : FileGame) (lists : ClassLists) (round : ℕ) (one t
 abbrev pub Passes : FileGame → ClassLists → Limit → Type 0
 Passes g lists (Sequences player count) = IsUsualStop (file_frame g) lists (TooManySequences player count)
 Passes g lists (Cells count) = IsUsualStop (file_frame g) lists (TooManyCells count)
-Passes g lists (Table_numbers count) = ⊥
-Passes g lists (Raw_cells count) = ⊥
+Passes g lists (TableNumbers count) = ⊥
+Passes g lists (RawCells count) = ⊥
 
 -- ---- the refusal for one of them
 

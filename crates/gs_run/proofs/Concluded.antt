@@ -15,8 +15,8 @@ use Rattle.gs_json.proofs.Feeds.{line_parted}
 use Rattle.gs_json.specs.FirstLine.{first_line}
 use Rattle.gs_laws.proofs.Confirming.{no_trouble}
 use Rattle.gs_made.specs.{Made.{made_game}, declared.kind.Kind.{Kind}}
-use Rattle.gs_reply.specs.{Refusals.{Refusal, Unlike_pair, cause_of}, Replies.{OfFile, OfRead, OfReading, Reply, Prints, Refuses}}
-use Rattle.gs_reply.specs.{declared.strategies.Which.{Which}, declared.strategies.Which.TheVariants.{Only, First, Second}}
+use Rattle.gs_reply.specs.{Refusals.{Refusal, Unlike_pair}, Replies.{OfFile, OfRead, OfReading, Reply, Prints, Refuses}}
+use Rattle.gs_reply.specs.{declared.refusals.Which.{Which}, declared.refusals.Which.TheVariants.{Only, First, Second}}
 use Rattle.gs_settle.specs.{Paths.{ShowsPath}, Playing.{Plays}, Settling.{OfGrouping}, Solving.{Solves}}
 use Rattle.gs_strategy.proofs.{Only.{only}, Shape.{has_line}}
 use Rattle.gs_strategy.specs.{Checks.{ReadResult}, Confirmed.{IsConfirmed}, Laws.{IsStrategy}, Texts.{strategy_data, strategy_text}, Values.{Strategy}}
@@ -47,11 +47,11 @@ of_game says bytes s h g states =
 shrunk : (summary : Bool) (g : FileGame) (s : Status) → EndsSo (ShrinksGame summary g) s → EndsWell s
 shrunk summary g s h = never_refused (ShrinksGame summary g) s (λ why said. said) h
 
-unlike : (grouping : Grouping) (g : FileGame) (why : Refusal) (s : Status) → SaysNotLossless grouping g (Refuses why) → status_of (cause_of why) ≡ s
+unlike : (grouping : Grouping) (g : FileGame) (why : Refusal) (s : Status) → SaysNotLossless grouping g (Refuses why) → status_of why ≡ s
     → EndsChecked grouping g s
 unlike grouping g why s (single, classes, are, (round, one, two, pair, told)) e =
     let is : why ≡ Unlike_pair round one two = cc in
-    inr (inr (sym e ∙ ap (λ (r : Refusal). status_of (cause_of r)) is, single, record { classes = classes; are = are; not_lossless = pair.not_lossless }))
+    inr (inr (sym e ∙ ap (λ (r : Refusal). status_of r) is, single, record { classes = classes; are = are; not_lossless = pair.not_lossless }))
 
 checked : (grouping : Grouping) (summary : Bool) (g : FileGame) (s : Status) → EndsSo (ChecksGame grouping summary g) s → EndsChecked grouping g s
 checked grouping summary g s (inl h) = inl h.0

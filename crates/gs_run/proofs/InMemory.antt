@@ -2,7 +2,7 @@
 use Rattle.std.proofs.Common.{◌≡◌, ◌≢◌, inl, inr, ℕ, ◌<◌, ◌≤◌, [], List, Bool, length, Some, None, true, refl, sym, ap, ◌∙◌, subst, arith}
 use Rattle.gs_answer.specs.Asking.{Asks, reads}
 use Rattle.gs_laws.proofs.Answering.{answers_one}
-use Rattle.gs_reply.specs.Refusals.{Refusal, Bad_game, Unlike_pair, Overflows, Many_pivots, Too_large, Bad_strategy, Wrong_number, Bad_query, Other_game, Bad_certificate, cause_of, line_of}
+use Rattle.gs_reply.specs.Refusals.{Refusal, Bad_game, Unlike_pair, Overflows, Many_pivots, Too_large, Bad_strategy, Wrong_number, Bad_query, Other_game, Bad_certificate, line_of}
 use Rattle.gs_reply.specs.Replies.{Reply, Prints, Refuses}
 use Rattle.gs_words.specs.{Requests.{request_of}, Tasks.{Task, Solve}}
 use Rattle.gs_run.proofs.{Answered.{one_task}, Concluded.{concludes}, Meant.{means_of, solution_of}, Theorem.{asked_for}}
@@ -27,7 +27,7 @@ record IsRefusal (s : Status) : Type 0 where
   not_usage : s ≢ status.Usage
   not_memory : s ≢ status.Memory
 
-is_refusal : (why : Refusal) → IsRefusal (status_of (cause_of why))
+is_refusal : (why : Refusal) → IsRefusal (status_of why)
 is_refusal (Bad_game why) = record { not_ok = λ e. cc; not_usage = λ e. cc; not_memory = λ e. cc }
 is_refusal (Unlike_pair round one two) = record { not_ok = λ e. cc; not_usage = λ e. cc; not_memory = λ e. cc }
 is_refusal (Overflows at) = record { not_ok = λ e. cc; not_usage = λ e. cc; not_memory = λ e. cc }
@@ -90,7 +90,7 @@ printed words input task text is few says = record {
 }
 
 refused : (words : List (List ℕ)) (input : List ℕ) (task : Task) (why : Refusal) → request_of words ≡ Some task → FitsLimit (reads task) input
-    → Asks task input (Refuses why) → DoesInMemory words input (status_of (cause_of why)) [] (line_of why)
+    → Asks task input (Refuses why) → DoesInMemory words input (status_of why) [] (line_of why)
 refused words input task why is few says =
     let apart = is_refusal why in
     record {
@@ -100,13 +100,13 @@ refused words input task why is few says =
       path = λ grouping a e. absurd (apart.not_ok e);
       quiet = λ e. refl;
       ends = λ other a fits. (
-        concludes other input (status_of (cause_of why))
+        concludes other input (status_of why)
             (inr (inr (why, says_of words task other input (Refuses why) is (asked_for words other a) says, refl))),
         apart.not_memory,
       );
       too_long = λ other asked r long. absurd (fits_not words task other input is asked r few long);
       decided = λ other reply asked fits said.
-          subst (λ (r : Reply). GivesReply r (status_of (cause_of why)) [] (line_of why))
+          subst (λ (r : Reply). GivesReply r (status_of why) [] (line_of why))
           (answers_one other input (Refuses why) reply (says_of words task other input (Refuses why) is asked says) said) (refl, refl, refl);
     }
 
@@ -122,7 +122,7 @@ replied : (words : List (List ℕ)) (input : List ℕ) (s : Status) (printed_tex
 replied words input s out told task (Prints text) is few says gives =
     given_as words input s status.Ok out text told [] gives.0 gives.1 gives.2 (printed words input task text is few says)
 replied words input s out told task (Refuses why) is few says gives =
-    given_as words input s (status_of (cause_of why)) out [] told (line_of why) gives.0 gives.1 gives.2 (refused words input task why is few says)
+    given_as words input s (status_of why) out [] told (line_of why) gives.0 gives.1 gives.2 (refused words input task why is few says)
 
 pub does_in_memory : (words : List (List ℕ)) (input : List ℕ) (s : Status) (printed told : List ℕ) → GivesOutcome words input s printed told
     → DoesInMemory words input s printed told

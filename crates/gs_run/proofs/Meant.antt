@@ -16,7 +16,7 @@ use Rattle.gs_settle.proofs.Printed.{printed_raw, printed_strategy}
 use Rattle.gs_strategy.proofs.Strategies.{reads_strategy, strategies_raw}
 use Rattle.gs_made.specs.{Made.{made_game}, declared.kind.Kind.{Kind}}
 use Rattle.gs_model.specs.{Classes.{ClassLists}, Plans.{lift}, Play.{IsFictitiousPlay}, Verdict.{IsVerdict}}
-use Rattle.gs_reply.specs.{Replies.{OfFile, OfRead, OfReading, Reply, Prints}, declared.strategies.Which.TheVariants.{Only, First, Second}}
+use Rattle.gs_reply.specs.{Replies.{OfFile, OfRead, OfReading, Reply, Prints}, declared.refusals.Which.TheVariants.{Only, First, Second}}
 use Rattle.gs_reply.specs.VerdictText.{verdict_text}
 use Rattle.gs_seq.specs.{Slots.{plan_of}, declared.plan.Plan.{Plan}}
 use Rattle.gs_settle.specs.{Paths.{IsPathShown, ShowsPath}, Playing.{IsPlayed, Plays}, Settling.{OfGrouping}, Solving.{IsSolved, Solves}, Texts.{IsSettledText}}

@@ -2,7 +2,7 @@
 use Rattle.std.specs.{Prelude.{◌≡◌, ◌⊎◌, ℕ, ◌<◌, ◌≤◌, List, Bool, length, Some, None, true, false}, Io.KnownBytes.{Appends}}
 use Rattle.gs_answer.specs.Asking.{Asks, reads}
 use Rattle.gs_io.specs.Causes.{Rose}
-use Rattle.gs_reply.specs.{Refusals.{cause_of, line_of}, Replies.{Reply, Prints, Refuses}}
+use Rattle.gs_reply.specs.{Refusals.{line_of}, Replies.{Reply, Prints, Refuses}}
 use Rattle.gs_words.specs.{Requests.{request_of}, Tasks.{Task}}
 use Rattle.gs_run.specs.{Running.{Ends, NothingFailed, Quiet, Silent, TellsLine, most_bytes}, Statuses.{status_of}, declared.status.Status.{Status}}
 use Rattle.gs_run.specs.declared.status.Status.TheVariants as status
@@ -16,7 +16,7 @@ Holds false old bytes = Unit {0}
 -- line to stderr.
 abbrev pub DoesReply : Reply → Ends → Ends → Status → Type 0
 DoesReply (Prints text) old new s = (s ≡ status.Ok) × Appends old.given new.given text × Silent old new
-DoesReply (Refuses why) old new s = (s ≡ status_of (cause_of why)) × Quiet old new × TellsLine old new (line_of why)
+DoesReply (Refuses why) old new s = (s ≡ status_of why) × Quiet old new × TellsLine old new (line_of why)
 
 -- Words that are no request end the run with status `Usage`. An input that is too long ends it with `TooLong`, if no read fails. If the task's definition
 -- gives a reply for the bytes and nothing fails, the run gives that reply. Each of these runs may end out of memory instead.

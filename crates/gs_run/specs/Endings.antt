@@ -8,7 +8,7 @@ use Rattle.gs_confirm.specs.Commands.{OfConfirmed, SaysNumbers, SaysQueried, Say
 use Rattle.gs_file.specs.{Reading.{FileGame, file_rules}, States.{FileStates}, declared.version.Version.{Version}}
 use Rattle.gs_made.specs.Made.{made_game}
 use Rattle.gs_model.specs.{Classes.{ClassLists}, Frame.{frame_of}, Lossless.{IsLossless}, SignalClasses.{IsSignalClasses}}
-use Rattle.gs_reply.specs.{Refusals.{Refusal, cause_of}, Replies.{Reply, Prints, Refuses}}
+use Rattle.gs_reply.specs.{Refusals.{Refusal}, Replies.{Reply, Prints, Refuses}}
 use Rattle.gs_settle.specs.{Paths.{ShowsPath}, Playing.{Plays}, Settling.{OfGrouping}, Solving.{Solves}}
 use Rattle.gs_strategy.specs.{Confirmed.{IsConfirmed}, Laws.{IsStrategy}, Texts.{strategy_text}, Values.{Strategy}}
 use Rattle.gs_words.specs.Tasks.{Task, Shrink, Check, Make, Evaluate, Query, Upgrade, Judge, Duel, Certify, Verify, Solve, Play, Path}
@@ -20,7 +20,7 @@ use Rattle.gs_run.specs.declared.status.Status.TheVariants as status
 abbrev pub EndsSo : (Reply → Type 0) → Status → Type 0
 EndsSo says s =
     ((s ≡ status.Ok) × ((text : List ℕ) × says (Prints text))) ⊎ ((s ≡ status.Memory)
-    ⊎ ((why : Refusal) × says (Refuses why) × (status_of (cause_of why) ≡ s)))
+    ⊎ ((why : Refusal) × says (Refuses why) × (status_of why ≡ s)))
 
 -- the run ends well or out of memory
 abbrev pub EndsWell : Status → Type 0

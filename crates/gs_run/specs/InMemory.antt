@@ -1,7 +1,7 @@
 -- What the program does with words and bytes in memory. This is what `Does` says of a run, without a source and sinks.
 use Rattle.std.specs.Prelude.{◌≡◌, ◌≢◌, ◌⊎◌, ℕ, ◌<◌, ◌≤◌, List, [], Bool, length, Some, None, true, false}
 use Rattle.gs_answer.specs.Asking.{Asks, reads}
-use Rattle.gs_reply.specs.{Refusals.{cause_of, line_of}, Replies.{Reply, Prints, Refuses}}
+use Rattle.gs_reply.specs.{Refusals.{line_of}, Replies.{Reply, Prints, Refuses}}
 use Rattle.gs_words.specs.{Requests.{request_of}, Tasks.{Task, Solve}, declared.request.Grouping.{Grouping}}
 use Rattle.gs_run.specs.{Endings.{Concludes}, Meanings.{AskFor, Means, ShowsSolution}, Running.{Asked, long_line, most_bytes, usage_line}, Statuses.{status_of}}
 use Rattle.gs_run.specs.declared.status.Status.{Status}
@@ -15,7 +15,7 @@ FitsLimit false input = Unit {0}
 -- the reply was given: at status 0 its text and no line, or at the status of the refusal its line and no text
 abbrev pub GivesReply : Reply → Status → List ℕ → List ℕ → Type 0
 GivesReply (Prints text) s printed told = (s ≡ status.Ok) × (printed ≡ text) × (told ≡ [])
-GivesReply (Refuses why) s printed told = (s ≡ status_of (cause_of why)) × (printed ≡ []) × (told ≡ line_of why)
+GivesReply (Refuses why) s printed told = (s ≡ status_of why) × (printed ≡ []) × (told ≡ line_of why)
 
 -- the outcome is a reply that the task's definition gives for the input
 abbrev pub GivesAnswer : Task → List ℕ → Status → List ℕ → List ℕ → Type 0

@@ -3,7 +3,7 @@ use Rattle.std.specs.Prelude.{◌≡◌, ◌⊎◌, ℕ, ◌+◌, ◌<◌, ◌�
 use Rattle.std.specs.{declared.option.Option.{Option}, declared.alloc.Global.{Global}, Prelude.{Vec}, Io.KnownBytes.{Consumes, Appends, IsAtEnd}}
 use Rattle.gs_answer.specs.Asking.{Asks, reads}
 use Rattle.gs_io.specs.{Causes.{Rose}, Moves.{ReadsAll, TookPrefix}, declared.ReadStop.{ReadStop}}
-use Rattle.gs_reply.specs.{Refusals.{Refusal, cause_of, line_of}, Replies.{Reply, Prints, Refuses}}
+use Rattle.gs_reply.specs.{Refusals.{Refusal, line_of}, Replies.{Reply, Prints, Refuses}}
 use Rattle.gs_words.specs.{Requests.{request_of}, Tasks.{Task}}
 use Rattle.gs_run.specs.{Told.{TellsTo}, Statuses.{status_of}, declared.status.Status.{Status}}
 use Rattle.gs_run.specs.declared.status.Status.TheVariants as status
@@ -78,7 +78,7 @@ pub record IsAnswered (task : Task) (old new : Ends) (reply : Reply) : Type 0 wh
 pub record IsRefused (task : Task) (old new : Ends) (s : Status) : Type 0 where
   pub why : Refusal
   pub answered : IsAnswered task old new (Refuses why)
-  pub status : status_of (cause_of why) ≡ s
+  pub status : status_of why ≡ s
   pub quiet : Quiet old new
   pub told : TellsLine old new (line_of why)
 

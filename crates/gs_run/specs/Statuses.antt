@@ -1,7 +1,6 @@
 -- The number of each status, and the status of each refusal.
 use Rattle.std.specs.Prelude.{ℕ}
-use Rattle.gs_reply.specs.declared.answers.Cause.{Cause}
-use Rattle.gs_reply.specs.declared.answers.Cause.TheVariants as cause
+use Rattle.gs_reply.specs.Refusals.{Refusal, Bad_game, Unlike_pair, Overflows, Many_pivots, Too_large, Bad_strategy, Wrong_number, Bad_query, Other_game, Bad_certificate}
 use Rattle.gs_run.specs.declared.status.Status.{Status}
 use Rattle.gs_run.specs.declared.status.Status.TheVariants as status
 
@@ -24,15 +23,15 @@ code_of status.BadQuery = 14
 code_of status.OtherGame = 16
 code_of status.BadCertificate = 17
 
--- the status of a run that refuses its input, by the cause of the refusal
-abbrev pub status_of : Cause → Status
-status_of cause.BadGame = status.BadGame
-status_of cause.Unlike = status.Unlike
-status_of cause.Overflow = status.Overflow
-status_of cause.PivotLimit = status.PivotLimit
-status_of cause.TooLarge = status.TooLarge
-status_of cause.BadStrategy = status.BadStrategy
-status_of cause.WrongNumbers = status.WrongNumbers
-status_of cause.BadQuery = status.BadQuery
-status_of cause.OtherGame = status.OtherGame
-status_of cause.BadCertificate = status.BadCertificate
+-- the status of a run that refuses its input
+abbrev pub status_of : Refusal → Status
+status_of (Bad_game why) = status.BadGame
+status_of (Unlike_pair round first second) = status.Unlike
+status_of (Overflows at) = status.Overflow
+status_of Many_pivots = status.PivotLimit
+status_of (Too_large limit) = status.TooLarge
+status_of (Bad_strategy which why) = status.BadStrategy
+status_of (Wrong_number name stated found) = status.WrongNumbers
+status_of (Bad_query why) = status.BadQuery
+status_of Other_game = status.OtherGame
+status_of (Bad_certificate why) = status.BadCertificate

@@ -8,7 +8,7 @@ ghost use Rattle.gs_run.specs.InMemory.{DoesInMemory, GivesAnswer, GivesOutcome}
 use crate::runs::{LONG_LINE, MOST_BYTES, USAGE_LINE};
 use crate::status::Status;
 use gs_answer::{answer, reads_input};
-use gs_reply::Answer;
+use gs_reply::{Stop, refusal_line};
 use gs_words::{Request, WordsStop, read_words};
 use std::alloc::{AllocError, Global};
 
@@ -40,17 +40,18 @@ fn answered(alloc: Global, request: Request, input: &[u8]) -> Result<Outcome, Al
     requires { IsInRange (task_of request) }
     ensures { IfOk result (λ o. GivesAnswer (task_of request.entry) input.now o.status o.printed.items o.told.items) }
 {
-    match answer(alloc, request, input)? {
-        Answer::Prints(printed) => Ok(Outcome {
+    match answer(alloc, request, input) {
+        Ok(printed) => Ok(Outcome {
             status: Status::Ok,
             printed,
             told: Vec::new(alloc),
         }),
-        Answer::Refuses { cause, line } => Ok(Outcome {
-            status: Status::of(cause),
+        Err(Stop::Refused(refusal)) => Ok(Outcome {
+            status: Status::of(&refusal),
             printed: Vec::new(alloc),
-            told: line,
+            told: refusal_line(alloc, &refusal)?,
         }),
+        Err(Stop::Memory) => Err(AllocError),
     }
 }
 

@@ -11,7 +11,7 @@ ghost use Rattle.gs_run.specs.declared.status.Status.TheVariants as status;
 use crate::status::Status;
 use gs_answer::{answer, reads_input};
 use gs_io::{ReadStop, Sink, Source, read_all, write_all};
-use gs_reply::Answer;
+use gs_reply::{Stop, refusal_line};
 use gs_words::{Request, WordsStop, read_words};
 use std::alloc::Global;
 
@@ -93,15 +93,18 @@ fn run_words<S: Source, O: Sink, E: Sink>(
         Err(ReadStop::Memory) => return out_of_memory(err),
     };
     match answer(alloc, request, &bytes) {
-        Ok(Answer::Prints(text)) => match write_all(out, &text) {
+        Ok(text) => match write_all(out, &text) {
             Ok(()) => Status::Ok,
             Err(_) => refuse(err, Status::WriteFault, "write fault\n"),
         },
-        Ok(Answer::Refuses { cause, line }) => {
-            tell(err, &line);
-            Status::of(cause)
-        }
-        Err(_) => out_of_memory(err),
+        Err(Stop::Refused(refusal)) => match refusal_line(alloc, &refusal) {
+            Ok(line) => {
+                tell(err, &line);
+                Status::of(&refusal)
+            }
+            Err(_) => out_of_memory(err),
+        },
+        Err(Stop::Memory) => out_of_memory(err),
     }
 }
 

@@ -1,6 +1,6 @@
 //! The status of a run.
 
-use gs_reply::Cause;
+use gs_reply::Refusal;
 
 /// The status with which a run of the program ends.
 #[derive(Clone, Copy, Debug, PartialEq, Eq)]
@@ -41,23 +41,24 @@ pub enum Status {
 
 impl Status {
     ghost use Rattle.std.specs.Prelude.{◌≡◌};
+    ghost use Rattle.gs_reply.specs.{Refusals.{Refusal as Why}, Replies.{IsRefusal}};
     ghost use Rattle.gs_run.specs.Statuses.{code_of, status_of};
 
-    /// Returns the status of a run that refuses its input for this cause.
-    pub fn of(cause: Cause) -> Status
-        ensures { result ≡ status_of cause }
+    /// Returns the status of a run that refuses its input.
+    pub fn of(refusal: &Refusal) -> Status
+        ensures { (why : Why) → IsRefusal refusal.now why → result ≡ status_of why }
     {
-        match cause {
-            Cause::BadGame => Status::BadGame,
-            Cause::Unlike => Status::Unlike,
-            Cause::Overflow => Status::Overflow,
-            Cause::PivotLimit => Status::PivotLimit,
-            Cause::TooLarge => Status::TooLarge,
-            Cause::BadStrategy => Status::BadStrategy,
-            Cause::WrongNumbers => Status::WrongNumbers,
-            Cause::BadQuery => Status::BadQuery,
-            Cause::OtherGame => Status::OtherGame,
-            Cause::BadCertificate => Status::BadCertificate,
+        match refusal {
+            Refusal::BadGame(_) => Status::BadGame,
+            Refusal::Unlike { .. } => Status::Unlike,
+            Refusal::Overflows(_) => Status::Overflow,
+            Refusal::ManyPivots => Status::PivotLimit,
+            Refusal::TooLarge(_) => Status::TooLarge,
+            Refusal::BadStrategy { .. } => Status::BadStrategy,
+            Refusal::WrongNumber(_) => Status::WrongNumbers,
+            Refusal::BadQuery(_) => Status::BadQuery,
+            Refusal::OtherGame => Status::OtherGame,
+            Refusal::BadCertificate(_) => Status::BadCertificate,
         }
     }
 

@@ -1,47 +1,67 @@
--- What is said of a game over classes, as it is said of the game, of its classes and of the bytes that state it.
-use Rattle.std.proofs.Common.{◌≡◌, inl, inr, sym, ap, ◌∙◌, subst}
-use Rattle.gs_file.specs.Views.{valid_view}
+-- What is said of a game over classes, as it is said of the bytes that state the game.
+use Rattle.std.proofs.Common.{◌≡◌, ℕ, List, Result, Ok, Vec, inl, inr, sym, ap, ◌∙◌, subst}
+use Rattle.std.specs.declared.alloc.Global.{Global}
+use Rattle.gs_file.specs.{Reading.{FileGame, read_at}, Views.{valid_view}}
 use Rattle.gs_filter.specs.Filter.{Filter}
 use Rattle.gs_game.specs.declared.valid.ValidGame.{ValidGame}
-use Rattle.gs_group.specs.Checking.{IsGrouping}
+use Rattle.gs_group.specs.Checking.{IsGrouping, SaysNotLossless}
 use Rattle.gs_lossless.specs.declared.Lossless.{Lossless}
-use Rattle.gs_model.specs.{Frame.{frame_of}, Lossless.{IsLossless}}
-use Rattle.gs_reply.specs.{Replies.{Answers}, Troubles.{SaysLarge}, declared.answers.Answer.{Answer}}
+use Rattle.gs_model.specs.{Classes.{ClassLists}, Frame.{frame_of}, Lossless.{IsLossless}}
+use Rattle.gs_reply.specs.{Replies.{Answers, OfReading, Reply, StopsFor}, Troubles.{SaysLarge}, declared.refusals.Stop.{Stop}}
+use Rattle.gs_reply.proofs.Refused.{answers_more, stops_more}
 use Rattle.gs_seq.specs.{Abstracts.{abstract_frame, lists_of}, Stops.{IsSmall}, declared.form.Abstract.{Abstract}}
 use Rattle.gs_tree.specs.{Trees.{rules_of}, declared.signals.Signals.{Signals}}
 use Rattle.gs_words.specs.declared.request.Grouping.{Grouping}
-use Rattle.gs_settle.specs.{Settling.{OfForm, OfGrouping, file_game_in}, Tasks.{Says}, declared.tasks.Task.{Task}}
-use Rattle.gs_reply.proofs.Refused.{answers_more}
+use Rattle.gs_settle.specs.Settling.{OfGrouping, Settles, file_game_in}
 
--- of a game in sequence form it is said of the lossless classes
-pub form_said : (task : Task) (form : Abstract) (l : Lossless) (a : Answer) → form.lossless.now ≡ l → IsSmall (abstract_frame form) (lists_of form)
-    → Answers (Says task (file_game_in form) (lists_of form)) a
-    → Answers (OfForm (Says task) (valid_view l.signals.now.game.now) l.classes.now.lists) a
-form_said task form l a held small said =
-    subst (λ (x : Lossless). Answers (OfForm (Says task) (valid_view x.signals.now.game.now) x.classes.now.lists) a) held
-    (answers_more (Says task (file_game_in form) (lists_of form)) (OfForm (Says task) (file_game_in form) (lists_of form)) (λ r h. inr (small, h)) a said)
+-- the lossless classes of a grouping over the signals of the game that the bytes state
+pub record IsOver (grouping : Grouping) (bytes : List ℕ) (l : Lossless) : Type 0 where
+  pub game : ValidGame
+  pub signals : Signals
+  pub classes : Filter
+  pub read : read_at bytes ≡ Ok (valid_view game)
+  pub of_game : signals.game.now ≡ game
+  pub are : IsGrouping grouping (rules_of signals) classes.lists
+  pub held_signals : l.signals.now ≡ signals
+  pub held_classes : l.classes.now ≡ classes
+  pub lossless : IsLossless (frame_of (rules_of signals)) classes.lists
 
--- that the game over lossless classes is too large
-pub large_said : (task : Task) (l : Lossless) (a : Answer) → Answers (SaysLarge (valid_view l.signals.now.game.now) l.classes.now.lists) a
-    → Answers (OfForm (Says task) (valid_view l.signals.now.game.now) l.classes.now.lists) a
-large_said task l a said =
-    answers_more (SaysLarge (valid_view l.signals.now.game.now) l.classes.now.lists)
-    (OfForm (Says task) (valid_view l.signals.now.game.now) l.classes.now.lists) (λ r h. inl h) a said
+module _ (says : FileGame → ClassLists → Reply → Type 0) (grouping : Grouping) (bytes : List ℕ) where
+  -- classes that are not lossless are refused
+  pub unlike : (game : ValidGame) (signals : Signals) (e : Stop) → read_at bytes ≡ Ok (valid_view game) → signals.game.now ≡ game
+      → StopsFor (SaysNotLossless grouping (valid_view signals.game.now)) e → StopsFor (Settles says grouping bytes) e
+  unlike game signals e read of_game h =
+      let at : read_at bytes ≡ Ok (valid_view signals.game.now) = read ∙ ap (λ (v : ValidGame). Ok (valid_view v)) (sym of_game) in
+      subst (λ x. StopsFor (OfReading (OfGrouping grouping says) x) e) (sym at)
+      (stops_more (SaysNotLossless grouping (valid_view signals.game.now)) (OfGrouping grouping says (valid_view signals.game.now)) (λ r said. inl said) e h)
 
--- of lossless classes of a grouping it is said of the game
-pub classes_said : (grouping : Grouping) (task : Task) (v : ValidGame) (s : Signals) (classes : Filter) (l : Lossless) (a : Answer) → s.game.now ≡ v
-    → l.signals.now ≡ s → l.classes.now ≡ classes
-    → IsGrouping grouping (rules_of s) classes.lists → IsLossless (frame_of (rules_of s)) classes.lists
-    → Answers (OfForm (Says task) (valid_view l.signals.now.game.now) l.classes.now.lists) a
-    → Answers (OfGrouping grouping (Says task) (valid_view v)) a
-classes_said grouping task v s classes l a of_game held_signals held_classes are lossless said =
-    let g = valid_view l.signals.now.game.now in
-    let are_here : IsGrouping grouping (rules_of l.signals.now) l.classes.now.lists =
-    subst (λ (x : Signals). IsGrouping grouping (rules_of x) l.classes.now.lists) (sym held_signals)
-    (subst (λ (x : Filter). IsGrouping grouping (rules_of s) x.lists) (sym held_classes) are) in
-    let lossless_here : IsLossless (frame_of (rules_of l.signals.now)) l.classes.now.lists =
-    subst (λ (x : Signals). IsLossless (frame_of (rules_of x)) l.classes.now.lists) (sym held_signals)
-    (subst (λ (x : Filter). IsLossless (frame_of (rules_of s)) x.lists) (sym held_classes) lossless) in
-    subst (λ (x : ValidGame). Answers (OfGrouping grouping (Says task) (valid_view x)) a) (ap (λ (x : Signals). x.game.now) held_signals ∙ of_game)
-    (answers_more (OfForm (Says task) g l.classes.now.lists) (OfGrouping grouping (Says task) g)
-    (λ r h. inr (l.classes.now.lists, are_here, lossless_here, h)) a said)
+  module _ (l : Lossless) (o : IsOver grouping bytes l) where
+    read : read_at bytes ≡ Ok (valid_view l.signals.now.game.now)
+    read = o.read ∙ ap (λ (v : ValidGame). Ok (valid_view v)) (sym (ap (λ (s : Signals). s.game.now) o.held_signals ∙ o.of_game))
+
+    are : IsGrouping grouping (rules_of l.signals.now) l.classes.now.lists
+    are = subst (λ (s : Signals). IsGrouping grouping (rules_of s) l.classes.now.lists) (sym o.held_signals)
+        (subst (λ (k : Filter). IsGrouping grouping (rules_of o.signals) k.lists) (sym o.held_classes) o.are)
+
+    lossless : IsLossless (frame_of (rules_of l.signals.now)) l.classes.now.lists
+    lossless = subst (λ (s : Signals). IsLossless (frame_of (rules_of s)) l.classes.now.lists) (sym o.held_signals)
+        (subst (λ (k : Filter). IsLossless (frame_of (rules_of o.signals)) k.lists) (sym o.held_classes) o.lossless)
+
+    -- a game over lossless classes that is too large is refused
+    pub large : (e : Stop) → StopsFor (SaysLarge (valid_view l.signals.now.game.now) l.classes.now.lists) e → StopsFor (Settles says grouping bytes) e
+    large e h =
+        let g = valid_view l.signals.now.game.now in
+        subst (λ x. StopsFor (OfReading (OfGrouping grouping says) x) e) (sym read)
+        (stops_more (SaysLarge g l.classes.now.lists) (OfGrouping grouping says g) (λ r said. inr (l.classes.now.lists, are, lossless, inl said)) e h)
+
+    -- of a game in sequence form the command's answer is given
+    pub said : (form : Abstract) (a : Result (Vec ℕ Global) Stop) → form.lossless.now ≡ l → IsSmall (abstract_frame form) (lists_of form)
+        → Answers (says (file_game_in form) (lists_of form)) a → Answers (Settles says grouping bytes) a
+    said form a held small h =
+        let g = valid_view l.signals.now.game.now in
+        let lists = l.classes.now.lists in
+        let is_small : IsSmall (frame_of (rules_of l.signals.now)) lists =
+        subst (λ (x : Lossless). IsSmall (frame_of (rules_of x.signals.now)) x.classes.now.lists) held small in
+        let says_here : Answers (says g lists) a = subst (λ (x : Lossless). Answers (says (valid_view x.signals.now.game.now) x.classes.now.lists) a) held h in
+        subst (λ x. Answers (OfReading (OfGrouping grouping says) x) a) (sym read)
+        (answers_more (says g lists) (OfGrouping grouping says g) (λ r said. inr (lists, are, lossless, inr (is_small, said))) a says_here)

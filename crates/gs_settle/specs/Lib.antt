@@ -4,4 +4,3 @@ pub mod Printed
 pub mod Playing
 pub mod Solving
 pub mod Paths
-pub mod Tasks

@@ -2,7 +2,8 @@
 use Rattle.std.specs.Prelude.{◌≡◌, ℕ, List, pos}
 use Rattle.gs_file.specs.Reading.{FileGame}
 use Rattle.gs_model.specs.Classes.{ClassLists}
-use Rattle.gs_reply.specs.{Refusals.{Refusal, Overflows, At_step, At_total, Many_pivots, Too_large, Table_numbers}, Replies.{Reply, Prints, Refuses}}
+use Rattle.gs_reply.specs.{Refusals.{Refusal, Overflows, Many_pivots, Too_large}, Replies.{Reply, Prints, Refuses}}
+use Rattle.gs_reply.specs.{declared.refusals.Limit.TheVariants.{TableNumbers}, declared.refusals.Overflow.TheVariants.{AtStep, AtTotal}}
 use Rattle.gs_seq.specs.declared.plan.Plan.{Plan}
 use Rattle.gs_solve.specs.{Solutions.{IsGameSolution, IsSolveStop}, declared.stop.SolveStop.TheVariants.{TableTooLarge, Wide, Pivots, Total}}
 use Rattle.gs_strategy.specs.Values.{file_frame}
@@ -20,14 +21,14 @@ pub record IsSolved (g : FileGame) (lists : ClassLists) (text : List ℕ) : Type
 
 -- this refusal applies: the path of the game's linear program stops before its end, or the program's table has too many numbers
 abbrev pub SaysStopped : FileGame → ClassLists → Refusal → Type 0
-SaysStopped g lists (Too_large (Table_numbers count)) = IsSolveStop (file_frame g) lists (TableTooLarge count)
-SaysStopped g lists (Overflows (At_step step row column number)) = IsSolveStop (file_frame g) lists (Wide step row column number)
+SaysStopped g lists (Too_large (TableNumbers count)) = IsSolveStop (file_frame g) lists (TableTooLarge count)
+SaysStopped g lists (Overflows (AtStep step row column number)) = IsSolveStop (file_frame g) lists (Wide step row column number)
 SaysStopped g lists Many_pivots = IsSolveStop (file_frame g) lists Pivots
 SaysStopped g lists why = ⊥
 
 -- this refusal applies: the path stops, or a plan's least total is too large
 abbrev pub SaysUnsolved : FileGame → ClassLists → Refusal → Type 0
-SaysUnsolved g lists (Overflows (At_total player multiple)) = IsSolveStop (file_frame g) lists (Total player multiple)
+SaysUnsolved g lists (Overflows (AtTotal player multiple)) = IsSolveStop (file_frame g) lists (Total player multiple)
 SaysUnsolved g lists why = SaysStopped g lists why
 
 -- what `solve` says of a game over classes

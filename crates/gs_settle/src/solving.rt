@@ -1,43 +1,51 @@
 //! The command `solve`.
 
-ghost use Rattle.std.specs.Prelude.{IfOk};
-ghost use Rattle.gs_reply.specs.Replies.{Answers};
+ghost use Rattle.gs_reply.specs.Replies.{Answers, StopsFor};
 ghost use Rattle.gs_seq.specs.{Abstracts.{abstract_frame, lists_of}, Stops.{IsSmall}};
 ghost use Rattle.gs_settle.specs.{Settling.{file_game_in}, Solving.{Solves}};
 ghost use Rattle.gs_solve.specs.Solutions.{IsSolveStop};
 
 use crate::writing::text_of;
-use gs_reply::{Answer, many_pivots, many_table_numbers, overflow_at_step, overflow_of_total};
+use gs_reply::{Limit, Overflow, Refusal, Stop};
 use gs_seq::Abstract;
 use gs_solve::{SolveStop, solve};
-use std::alloc::{AllocError, Global};
+use std::alloc::Global;
 
-/// Returns the refusal of a game that is not solved.
-fn unsolved(alloc: Global, form: &Abstract, stop: SolveStop) -> Result<Answer, AllocError>
+// Returns why a game is not solved.
+fn unsolved(form: &Abstract, stop: SolveStop) -> Stop
     requires { IsSolveStop (abstract_frame form.now) (lists_of form.now) stop }
-    ensures { IfOk result (Answers (Solves (file_game_in form.now) (lists_of form.now))) }
+    ensures { StopsFor (Solves (file_game_in form.now) (lists_of form.now)) result }
 {
     match stop {
-        SolveStop::TableTooLarge { count } => many_table_numbers(alloc, count),
+        SolveStop::TableTooLarge { count } => Stop::Refused(Refusal::TooLarge(Limit::TableNumbers {
+            count,
+        })),
         SolveStop::Wide {
             step,
             row,
             col,
             number,
-        } => overflow_at_step(alloc, step, row, col, number),
-        SolveStop::Pivots => many_pivots(alloc),
-        SolveStop::Total { player, multiple } => overflow_of_total(alloc, player, multiple),
-        SolveStop::Memory => Err(AllocError),
+        } => Stop::Refused(Refusal::Overflows(Overflow::AtStep {
+            step,
+            row,
+            column: col,
+            number,
+        })),
+        SolveStop::Pivots => Stop::Refused(Refusal::ManyPivots),
+        SolveStop::Total { player, multiple } => Stop::Refused(Refusal::Overflows(
+            Overflow::AtTotal { player, multiple },
+        )),
+        SolveStop::Memory => Stop::Memory,
     }
 }
 
 /// Returns the text of a strategy with both gaps 0, or the refusal.
-pub(crate) fn solved(alloc: Global, form: &Abstract) -> Result<Answer, AllocError>
+pub(crate) fn solved(alloc: Global, form: &Abstract) -> Result<Vec<u8>, Stop>
     requires { IsSmall (abstract_frame form.now) (lists_of form.now) }
-    ensures { IfOk result (Answers (Solves (file_game_in form.now) (lists_of form.now))) }
+    ensures { Answers (Solves (file_game_in form.now) (lists_of form.now)) result }
 {
     match solve(alloc, form) {
-        Ok((one, two)) => Ok(Answer::Prints(text_of(alloc, form, &one, &two)?)),
-        Err(stop) => unsolved(alloc, form, stop),
+        Ok((one, two)) => Ok(text_of(alloc, form, &one, &two)?),
+        Err(stop) => Err(unsolved(form, stop)),
     }
 }

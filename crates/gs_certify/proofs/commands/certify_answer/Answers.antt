@@ -1,13 +1,14 @@
-use Rattle.std.proofs.lemmas.Result.{IfOk-weaker}
-use Rattle.gs_reply.proofs.Held.{held, not_held}
 use Rattle.gs_confirm.specs.Commands.{OfConfirmed}
-use Rattle.gs_reply.specs.declared.strategies.Which.TheVariants.{Only}
+use Rattle.gs_reply.proofs.{Held.{held, not_held}, Refused.{exits}}
+use Rattle.gs_reply.specs.declared.refusals.Which.TheVariants.{Only}
 use Rattle.gs_strategy.specs.Views.{stored_view}
-use Rattle.gs_certify.specs.Certificates.{SaysCertified}
+use Rattle.gs_certify.specs.Certificates.{Certifies, SaysCertified}
 use Rattle.gs_certify.proofs.commands.certify_answer.Goals as goal
 
-pub returns-in-Ok : goal.returns-in-Ok
-returns-in-Ok c = IfOk-weaker c.of_strategy.result _ _ (λ a. held Only (OfConfirmed SaysCertified) c.args.bytes.now (stored_view c.in-Ok.stored) a (rw c.in-Ok.is at c.in_ok-stored.ensures.stored)) c.of_strategy.ensures
+pub returns-in_err-stored : goal.returns-in_err-stored
+returns-in_err-stored c =
+    let bytes = c.args.bytes.now in
+    exits (Certifies bytes) _ _ c.from_residual.ensures.1 (not_held Only (OfConfirmed SaysCertified) bytes _ c.in_err-stored.ensures.refused)
 
-pub returns-in-Err : goal.returns-in-Err
-returns-in-Err c = not_held Only (OfConfirmed SaysCertified) c.args.bytes.now c.in-Err.refusal (rw c.in-Err.is at c.in_ok-stored.ensures.refused)
+pub returns : goal.returns
+returns c = held Only (OfConfirmed SaysCertified) c.args.bytes.now (stored_view c.in_ok-stored.stored) c.certified.result c.in_ok-stored.ensures.stored c.certified.ensures

@@ -1,19 +1,19 @@
-use Rattle.std.proofs.{Common.{subst}, lemmas.Result.{IfOk-weaker}}
-use Rattle.gs_reply.proofs.Held.{held, not_held}
+use Rattle.std.proofs.Common.{subst}
+use Rattle.gs_reply.proofs.{Held.{held, not_held}, Refused.{exits}}
 use Rattle.gs_confirm.specs.Commands.{OfStrategy}
-use Rattle.gs_reply.specs.{Replies.{Answers}, declared.strategies.Which.TheVariants.{Only}}
+use Rattle.gs_reply.specs.{Replies.{Answers, StopsFor}, declared.refusals.Which.TheVariants.{Only}}
 use Rattle.gs_strategy.specs.Views.{stored_view}
-use Rattle.gs_certify.specs.Verifying.{SaysVerified}
+use Rattle.gs_certify.specs.Verifying.{SaysVerified, Verifies}
 use Rattle.gs_certify.proofs.commands.verify_answer.Goals as goal
 
-pub returns-in-Ok : goal.returns-in-Ok
-returns-in-Ok c =
+pub returns-in_err-stored : goal.returns-in_err-stored
+returns-in_err-stored c =
     let r = c.first_line.result in
-    IfOk-weaker c.with_second.result _ _ (λ a h. subst (λ p. Answers (OfStrategy (SaysVerified p.1) p.0) a) c.first_line.ensures
-    (held Only (SaysVerified r.1.now) r.0.now (stored_view c.in-Ok.stored) a (rw c.in-Ok.is at c.in_ok-stored.ensures.stored) h)) c.with_second.ensures
+    exits (Verifies c.args.bytes.now) _ _ c.from_residual.ensures.1 (subst (λ p. StopsFor (OfStrategy (SaysVerified p.1) p.0) c.in_err-stored.field-0.0) c.first_line.ensures
+    (not_held Only (SaysVerified r.1.now) r.0.now _ c.in_err-stored.ensures.refused))
 
-pub returns-in-Err : goal.returns-in-Err
-returns-in-Err c =
+pub returns : goal.returns
+returns c =
     let r = c.first_line.result in
-    subst (λ p. Answers (OfStrategy (SaysVerified p.1) p.0) c.in-Err.refusal) c.first_line.ensures
-    (not_held Only (SaysVerified r.1.now) r.0.now c.in-Err.refusal (rw c.in-Err.is at c.in_ok-stored.ensures.refused))
+    subst (λ p. Answers (OfStrategy (SaysVerified p.1) p.0) c.verified.result) c.first_line.ensures
+    (held Only (SaysVerified r.1.now) r.0.now (stored_view c.in_ok-stored.stored) c.verified.result c.in_ok-stored.ensures.stored c.verified.ensures)

@@ -1,44 +1,17 @@
-use Rattle.std.proofs.{Common.{refl}, lemmas.Result.{IfOk-weaker}}
-use Rattle.gs_best.specs.Judged.{parts}
-use Rattle.gs_certificate.specs.FaultTexts.{cert_fault_text}
-use Rattle.gs_model.specs.Verdict.{IsValue}
-use Rattle.gs_reply.specs.Refusals.{Bad_certificate}
-use Rattle.gs_reply.proofs.Refused.{tells_answer}
-use Rattle.gs_seq.specs.Plans.{lifted}
-use Rattle.gs_strategy.specs.Views.{parts_of, stored_view}
+use Rattle.gs_reply.proofs.Refused.{exits}
+use Rattle.gs_strategy.specs.Views.{stored_view}
 use Rattle.gs_certify.specs.Verifying.{SaysChecked}
-use Rattle.gs_certify.proofs.Moved.{bounds_moved, fault_moved, moved, sound_moved}
+use Rattle.gs_certify.proofs.Moved.{large_said, unlike_said}
 use Rattle.gs_certify.proofs.verifying.checked.Goals as goal
 
-pub returns-in-Err : goal.returns-in-Err
-returns-in-Err c =
-    let s = c.args.stored.now in
+pub returns-in_err-lossless : goal.returns-in_err-lossless
+returns-in_err-lossless c =
+    let s = stored_view c.args.stored.now in
     let k = c.args.c.now in
-    let why = c.in-Err.fault in
-    IfOk-weaker c.unsound.result _ _ (λ a t. tells_answer (SaysChecked (stored_view s) k) a (Bad_certificate (cert_fault_text why)) (record {
-      lossless = c.requires.form.lossless;
-      small = c.requires.form.small;
-      why = why;
-      fault = fault_moved c.args.form.now.lossless.now s k c.requires.form.held _ why c.in-Err.is c.in_ok-fault.ensures.exact;
-      told = refl;
-    }) t) c.unsound.ensures
+    exits (SaysChecked s k) _ _ c.from_residual-in_err-lossless.ensures.1 (unlike_said s k _ c.in_err-lossless.ensures.unlike)
 
-pub returns-in_ok-bounds_text-in-Ok : goal.returns-in_ok-bounds_text-in-Ok
-returns-in_ok-bounds_text-in-Ok c =
-    let l = c.args.form.now.lossless.now in
-    let s = c.args.stored.now in
+pub returns-in_err-form : goal.returns-in_err-form
+returns-in_err-form c =
+    let s = stored_view c.args.stored.now in
     let k = c.args.c.now in
-    let v = c.value_of-value.result in
-    record {
-      lossless = c.requires.form.lossless;
-      small = c.requires.form.small;
-      holds = record {
-        small = c.requires.modest;
-        sound = sound_moved l s k c.requires.form.held _ _ c.in-Ok.is c.in_ok-fault.ensures.exact;
-        bounds = bounds_moved l s k c.requires.form.held _ _ c.in-Ok.is c.in_ok-fault.ensures.bounds;
-      };
-      value = parts_of v;
-      fraction = v.reduced;
-      value_is = moved (λ f n. IsValue f (lifted f n s.one) (lifted f n s.two) (parts v).0 (parts v).1) l s c.requires.form.held c.value_of-value.ensures;
-      printed = c.in_ok-bounds_text-in-Ok.ensures;
-    }
+    exits (SaysChecked s k) _ _ c.from_residual-in_err-form.ensures.1 (large_said s k _ c.in_err-form.ensures.large)

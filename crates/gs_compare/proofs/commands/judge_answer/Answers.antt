@@ -1,12 +1,13 @@
-use Rattle.std.proofs.lemmas.Result.{IfOk-weaker}
-use Rattle.gs_reply.proofs.Held.{held, not_held}
-use Rattle.gs_reply.specs.declared.strategies.Which.TheVariants.{Only}
+use Rattle.gs_reply.proofs.{Held.{held, not_held}, Refused.{exits}}
+use Rattle.gs_reply.specs.declared.refusals.Which.TheVariants.{Only}
 use Rattle.gs_strategy.specs.Views.{stored_view}
-use Rattle.gs_compare.specs.Commands.{SaysJudged}
+use Rattle.gs_compare.specs.Commands.{Judges, SaysJudged}
 use Rattle.gs_compare.proofs.commands.judge_answer.Goals as goal
 
-pub returns-in-Ok : goal.returns-in-Ok
-returns-in-Ok c = IfOk-weaker c.judged.result _ _ (λ a. held Only SaysJudged c.args.bytes.now (stored_view c.in-Ok.stored) a (rw c.in-Ok.is at c.in_ok-stored.ensures.stored)) c.judged.ensures
+pub returns-in_err-stored : goal.returns-in_err-stored
+returns-in_err-stored c =
+    let bytes = c.args.bytes.now in
+    exits (Judges bytes) _ _ c.from_residual.ensures.1 (not_held Only SaysJudged bytes _ c.in_err-stored.ensures.refused)
 
-pub returns-in-Err : goal.returns-in-Err
-returns-in-Err c = not_held Only SaysJudged c.args.bytes.now c.in-Err.refusal (rw c.in-Err.is at c.in_ok-stored.ensures.refused)
+pub returns : goal.returns
+returns c = held Only SaysJudged c.args.bytes.now (stored_view c.in_ok-stored.stored) c.judged.result c.in_ok-stored.ensures.stored c.judged.ensures

@@ -1,4 +1,4 @@
-use Rattle.std.proofs.{Common.{◌≡◌, ◌≤◌, ◌++◌, List, map, length, inl, sym, ap, ◌∙◌, subst, arith}, lemmas.Result.{IfOk-weaker}}
+use Rattle.std.proofs.Common.{◌≡◌, ◌≤◌, ◌++◌, List, map, length, inl, sym, ap, ◌∙◌, subst, arith}
 use Rattle.gs_card.specs.Decks.{DeckValue}
 use Rattle.gs_file.specs.Reading.{FileGame, file_rules as rules_in}
 use Rattle.gs_frac.specs.declared.value.Fraction.{Fraction}
@@ -65,6 +65,5 @@ returns-in-Err-TooManyCells c =
     let x = stored_view c.args.one.now in
     let y = stored_view c.args.two.now in
     let f = frame_in c.in_ok-signals.signals.game.now in
-    IfOk-weaker c.many_raw_cells.result _ _
-    (λ a t. too_many f x y (λ n reply. (hands : List FractionParts) × AreHandValues x y hands × (reply ≡ Prints (verdict_text n ++ hands_text x.game.deck (rules_in x.game) hands))) c.in-Err-TooManyCells.count c.in-Err-TooManyCells.field-0 a
-    (ap frame_in c.in_ok-signals.ensures) c.in-Err-TooManyCells.field-0-is c.in-Err-TooManyCells.ensures.refused t) c.many_raw_cells.ensures
+    rw c.in-Err-TooManyCells.field-0-is (too_many f x y (λ n reply. (hands : List FractionParts) × AreHandValues x y hands × (reply ≡ Prints (verdict_text n ++ hands_text x.game.deck (rules_in x.game) hands))) c.in-Err-TooManyCells.count c.in-Err-TooManyCells.field-0
+    (ap frame_in c.in_ok-signals.ensures) c.in-Err-TooManyCells.field-0-is c.in-Err-TooManyCells.ensures.refused)

@@ -1,4 +1,4 @@
-use Rattle.std.proofs.{Common.{◌≡◌, ◌≤◌, inl, sym, ap, subst}, lemmas.Result.{IfOk-weaker}}
+use Rattle.std.proofs.Common.{◌≡◌, ◌≤◌, inl, sym, ap, subst}
 use Rattle.gs_game.specs.declared.valid.ValidGame.{ValidGame}
 use Rattle.gs_raw.specs.Cells.{raw_cell_count}
 use Rattle.gs_reply.specs.{Replies.{Prints}, VerdictText.{verdict_text}}
@@ -33,6 +33,4 @@ pub returns-in-Err-TooManyCells : goal.returns-in-Err-TooManyCells
 returns-in-Err-TooManyCells c =
     let s = stored_view c.args.stored.now in
     let f = frame_in c.in_ok-signals.signals.game.now in
-    IfOk-weaker c.many_raw_cells.result _ _
-    (λ a t. too_many f s s (λ n reply. reply ≡ Prints (verdict_text n)) c.in-Err-TooManyCells.count c.in-Err-TooManyCells.field-0 a (ap frame_in c.in_ok-signals.ensures) c.in-Err-TooManyCells.field-0-is c.in-Err-TooManyCells.ensures.refused t)
-    c.many_raw_cells.ensures
+    rw c.in-Err-TooManyCells.field-0-is (too_many f s s (λ n reply. reply ≡ Prints (verdict_text n)) c.in-Err-TooManyCells.count c.in-Err-TooManyCells.field-0 (ap frame_in c.in_ok-signals.ensures) c.in-Err-TooManyCells.field-0-is c.in-Err-TooManyCells.ensures.refused)

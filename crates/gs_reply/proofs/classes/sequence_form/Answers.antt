@@ -1,0 +1,10 @@
+use Rattle.gs_file.specs.Views.{valid_view}
+use Rattle.gs_reply.specs.Troubles.{SaysLarge}
+use Rattle.gs_reply.proofs.Refused.{fails, too_large}
+use Rattle.gs_reply.proofs.classes.sequence_form.Goals as goal
+
+pub returns-in_err-of-clause-large : goal.returns-in_err-of-clause-large
+returns-in_err-of-clause-large c =
+    let l = c.args.lossless.now in
+    let g = valid_view l.signals.now.game.now in
+    fails (SaysLarge g l.classes.now.lists) _ _ c.from_residual.ensures.1 (too_large g l.classes.now.lists c.in_err-of.field-0.0 c.in_err-of.ensures.refused)

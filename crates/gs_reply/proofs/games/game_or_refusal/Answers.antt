@@ -1,9 +1,0 @@
-use Rattle.std.proofs.Common.{◌≢◌, rules}
-use Rattle.gs_file.specs.{Reading.{read_at}, declared.fault.FileFault.TheVariants.{Memory}}
-use Rattle.gs_reply.proofs.Refused.{game_refused}
-use Rattle.gs_reply.proofs.games.game_or_refusal.Goals as goal
-
-pub returns-in_ok-bad_game-in-Err-clause-refused : goal.returns-in_ok-bad_game-in-Err-clause-refused
-returns-in_ok-bad_game-in-Err-clause-refused c =
-    let told : c.in-Err.fault ≢ Memory = search rules in
-    game_refused (read_at c.args.bytes.now) c.in-Err.fault c.in_ok-bad_game-in-Err.field-0 told (search rules) c.in_ok-bad_game-in-Err.ensures

@@ -1,0 +1,169 @@
+//! Why a command refuses its input, or stops for another reason.
+
+ghost use Rattle.std.specs.Prelude.{◌≡◌};
+ghost use Rattle.gs_reply.specs.declared.refusals.Stop.TheVariants.{Memory};
+
+use gs_file::FileFault;
+use gs_frac::Fraction;
+use gs_lift::QueryFault;
+use gs_seq::SeqStop;
+use gs_strategy::StoreFault;
+use std::alloc::{AllocError, AllocFailed};
+use std::fmt;
+
+/// What there is too much of, and how much.
+#[derive(Clone, Copy, Debug)]
+pub enum Limit {
+    /// Sequences of a player.
+    Sequences { player: u8, count: u64 },
+    /// Pairs of classes over all ends.
+    Cells { count: u64 },
+    /// Numbers of a linear program's table.
+    TableNumbers { count: u64 },
+    /// Pairs of raw signals over all ends.
+    RawCells { count: u64 },
+}
+
+/// What of a solution is too large.
+#[derive(Clone, Copy, Debug)]
+pub enum Overflow {
+    /// A number of the path.
+    AtStep {
+        step: u32,
+        row: u32,
+        column: u32,
+        number: i128,
+    },
+    /// A player's total.
+    AtTotal {
+        player: u8,
+        multiple: u128,
+    },
+}
+
+/// Which of a command's strategy files: its only one, or the first or the second of two.
+#[derive(Clone, Copy, Debug, PartialEq, Eq)]
+pub enum Which {
+    Only,
+    First,
+    Second,
+}
+
+/// A stated number, by its name, that differs from the computed one.
+#[derive(Clone, Copy, Debug)]
+pub struct WrongNumber {
+    pub name: &'static str,
+    pub stated: Fraction,
+    pub found: Fraction,
+}
+
+/// Why an input is refused.
+#[derive(Debug, Drop)]
+pub enum Refusal {
+    /// It is not a valid game file.
+    BadGame(FileFault),
+    /// Its classes have an unlike pair in a round, given by the texts of the two signals.
+    Unlike {
+        round: u8,
+        first: String,
+        second: String,
+    },
+    /// A number of its solution is too large.
+    Overflows(Overflow),
+    /// The path to its solution is too long.
+    ManyPivots,
+    /// Its game is too large for what is asked.
+    TooLarge(Limit),
+    /// It is not a valid strategy file.
+    BadStrategy {
+        which: Which,
+        fault: StoreFault,
+    },
+    /// A stated number differs from the computed one.
+    WrongNumber(WrongNumber),
+    /// The query names no information set of the player.
+    BadQuery(QueryFault),
+    /// Its two strategies are for different games.
+    OtherGame,
+    /// Its certificate is malformed or invalid, given by the text of the fault.
+    BadCertificate(Vec<u8>),
+}
+
+/// Why a command prints nothing: it refuses its input, or memory ran out.
+#[derive(Debug, Drop)]
+pub enum Stop {
+    Refused(Refusal),
+    Memory,
+}
+
+impl From<AllocError> for Stop {
+    ghost from_gives = { λ _ e. e ≡ Memory };
+
+    fn from(_: AllocError) -> Stop {
+        Stop::Memory
+    }
+}
+
+impl<T: Drop> From<AllocFailed<T>> for Stop {
+    ghost from_gives = { λ _ e. e ≡ Memory };
+
+    fn from(_: AllocFailed<T>) -> Stop {
+        Stop::Memory
+    }
+}
+
+impl From<SeqStop> for Stop {
+    ghost use Rattle.gs_reply.specs.Replies.{of_seq_stop};
+
+    ghost from_gives = { λ why e. e ≡ of_seq_stop why };
+
+    fn from(stop: SeqStop) -> Stop {
+        match stop {
+            SeqStop::TooManySequences { player, count } => Stop::Refused(Refusal::TooLarge(
+                Limit::Sequences { player, count },
+            )),
+            SeqStop::TooManyCells { count } => Stop::Refused(Refusal::TooLarge(Limit::Cells {
+                count,
+            })),
+            SeqStop::Memory => Stop::Memory,
+        }
+    }
+}
+
+impl fmt::Display for Limit {
+    ghost use Rattle.std.specs.Prelude.{Some};
+    ghost use Rattle.gs_reply.specs.Refusals.{limit_text};
+
+    ghost output = { λ limit. Some (limit_text limit) };
+
+    fn fmt<W: fmt::Write>(&self, f: &mut fmt::Formatter<W>) -> fmt::Result {
+        match self {
+            Limit::Sequences { player, count } => write!(
+                f,
+                "sequences of player {player}: {count}"
+            ),
+            Limit::Cells { count } => write!(f, "cells: {count}"),
+            Limit::TableNumbers { count } => write!(f, "table numbers: {count}"),
+            Limit::RawCells { count } => write!(f, "raw cells: {count}"),
+        }
+    }
+}
+
+impl fmt::Display for Overflow {
+    ghost use Rattle.std.specs.Prelude.{Some};
+    ghost use Rattle.gs_reply.specs.Refusals.{overflow_text};
+
+    ghost output = { λ at. Some (overflow_text at) };
+
+    fn fmt<W: fmt::Write>(&self, f: &mut fmt::Formatter<W>) -> fmt::Result {
+        match self {
+            Overflow::AtStep {
+                step,
+                row,
+                column,
+                number,
+            } => write!(f, "step {step} row {row} column {column} number {number}"),
+            Overflow::AtTotal { player, multiple } => write!(f, "player {player} total {multiple}"),
+        }
+    }
+}
