@@ -57,6 +57,6 @@ fn lines_of_limits(rt: HostRuntime) -> Result<(), Fail> {
         assert_eq!(rt; told.as_slice(), line.as_bytes());
     }
     let told = refusal_line(rt.alloc(), &Refusal::ManyPivots)?;
-    assert_eq!(rt; told.as_slice(), b"more than 8192 pivots\n");
+    assert_eq!(rt; told.as_slice(), "more than 8192 pivots\n".as_bytes());
     Ok(())
 }
