@@ -7,10 +7,10 @@ use borrow.Author.Differences.{product_is}
 use Rattle.gs_model.specs.{Classes.{ClassLists, class_count}, Frame.{Frame, last_round, point_count, round_of}, FrameFacts.{IsWalked}, Positions.{at_point}}
 use Rattle.gs_model.proofs.{RawBound.{All-range, range_once}, Regroup.{regroup_weights, sum_z-pos}, Total.{sum_z-same}}
 use Rattle.gs_model.proofs.Basics.{pos-injective, sum-same, sum-ones, sum_by-map}
-use Rattle.gs_best.specs.Sizes.{AreOfLength, HasRoomForClasses, HoldsEntries, HoldsAll, IsRoomy, IsWide, IsWideFor, point_room, points_of_round, sizes_of}
-use Rattle.gs_best.specs.Sizes.{value_room}
-use Rattle.gs_best.specs.{Tables.{start_of}, declared.room.Scratch.{Scratch}, declared.room.Table.{Table}}
-use Rattle.gs_best.proofs.Filled.{written}
+use Rattle.gs_values.specs.{Rooms.{HasRows, AreOfLength, HoldsEntries, HoldsAll, IsWide}, Tables.{start_of}, declared.rooms.Scratch.{Scratch}}
+use Rattle.gs_values.specs.declared.rooms.Table.{Table}
+use Rattle.gs_values.proofs.Written.{written}
+use Rattle.gs_best.specs.Sizes.{IsRoomy, IsWideFor, point_room, points_of_round, sizes_of, value_room}
 
 pub pos-product : (a b : ℕ) → pos a *ℤ pos b ≡ pos (a * b)
 pos-product a b = omega (arith, ints, product_is (pos a) (pos b))
@@ -75,7 +75,7 @@ by_wide f lists wide h i d l =
 lengths_by : (s : Scratch) (one other : ℕ → Type 0) → ((wide : ℕ) → one wide → other wide) → AreOfLength one s → AreOfLength other s
 lengths_by s one other h r = record { numbers = h _ r.numbers; ends = h _ r.ends; worths = h _ r.worths; best = h _ r.best; moves = h _ r.moves }
 
-pub roomy : (f : Frame) (lists : ClassLists) → IsWalked f 1 → (t : Table) (s : Scratch) → HoldsAll f lists t → HasRoomForClasses f lists s
+pub roomy : (f : Frame) (lists : ClassLists) → IsWalked f 1 → (t : Table) (s : Scratch) → HoldsAll f lists t → HasRows f lists s
     → IsRoomy (sizes_of f lists) t s
 roomy f lists w t s h r = record {
   table = subst (λ n. HoldsEntries n (value_room (sizes_of f lists)) t) (sym (point_room_is f 1 w lists))
@@ -87,11 +87,5 @@ pub holds_all : (f : Frame) (lists : ClassLists) → IsWalked f 1 → (t : Table
 holds_all f lists w t s r = subst (λ n. HoldsEntries (point_count f) n t) (value_room_is f 1 w lists)
     (subst (λ n. HoldsEntries n (value_room (sizes_of f lists)) t) (point_room_is f 1 w lists) r.table)
 
-pub has_room : (f : Frame) (lists : ClassLists) (t : Table) (s : Scratch) → IsRoomy (sizes_of f lists) t s → HasRoomForClasses f lists s
+pub has_room : (f : Frame) (lists : ClassLists) (t : Table) (s : Scratch) → IsRoomy (sizes_of f lists) t s → HasRows f lists s
 has_room f lists t s r = lengths_by s (IsWideFor (sizes_of f lists)) (IsWide f lists) (wide_by f lists) r.rows
-
--- a row as it stands after it was written through a slice
-pub written_wide : {A : Type 0} (f : Frame) (lists : ClassLists) (n : ℕ) (old row : List A) → length old ≡ n → length row ≡ length old
-    → IsWide f lists (length old) → IsWide f lists (length (take n (row ++ drop (length row) old)))
-written_wide f lists n old row full same wide j some top =
-    omega (arith, wide j some top, same, ap length (written n row (drop (length row) old) (same ∙ full)))

@@ -1,4 +1,4 @@
--- Best values at the start, and how large they and payoffs are.
+-- What plans gain against the best totals, and how large payoffs are.
 use Rattle.std.proofs.{Common.{◌≡◌, ℕ, ◌+◌, ◌-◌, ◌^◌, ◌<◌, ◌≤◌, List, get_or, sym, ap, ◌∙◌, subst, arith}, lemmas.Int.{ints, unsigned_abs-mul}}
 use Rattle.std.specs.Prelude.{ℤ, pos, ◌*ℤ◌, ◌≤ℤ◌, unsigned_abs}
 use borrow.Author.Differences.{abs_is}
@@ -8,42 +8,16 @@ use Rattle.gs_model.specs.{Payoff.{gain, raw_payoff}, Plans.{IsClassPlan, Plan, 
 use Rattle.gs_model.proofs.{Alike.{keeps_from}, Best.{best_holds}, Deviations.{lift_is_raw_plan, no_raw_plan_gains_more}}
 use Rattle.gs_model.proofs.{Exchange.{gain_exchange, raw_payoff_is_gain}, FirstBest.{first_best_reaches}}
 use Rattle.gs_model.proofs.{Gather.{class_in, firsts_from, holds_by, known_from, plan_by}, Tables.{is_table}, Basics.{product_le}}
-use Rattle.gs_best.specs.{Answers.{IsBestTotal, NoneGainsMore}, Ends.{IsEndRow}, Rows.{value_at}, Tables.{start_of, table_of}}
-use Rattle.gs_best.proofs.Ranges.{sum_same}
-
-module _ (f : Frame) (lists : ClassLists) (p : ℕ) (y : Plan) (values : List ℤ) where
-  abbrev summed : Target → ℤ
-  summed t = sum_z (λ s. table_of f lists p y values t (class_of lists (round_of f t) s)) (signals_in f (round_of f t))
-
-  -- the values at a point where play starts
-  pub starts_at_point : (q round start : ℕ) → f.start ≡ at_point q → round ≡ round_of f (at_point q) → start ≡ start_of f lists q
-      → sum_z (value_at lists round values start) (signals_in f round) ≡ start_sum f (spread f lists (table_of f lists p y values))
-  starts_at_point q round start is here at =
-      ap (λ j. sum_z (value_at lists j values start) (signals_in f j)) here
-      ∙ ap (λ k. sum_z (value_at lists (round_of f (at_point q)) values k) (signals_in f (round_of f (at_point q)))) at
-      ∙ ap summed (sym is)
-
-  -- the values at an end where play starts
-  pub starts_at_end : IsClasses f.parents lists → (z round : ℕ) (row : List ℤ) → f.start ≡ at_end z → round ≡ round_of f (at_end z) → 0 < round
-      → round ≤ last_round f → IsEndRow f lists p y z row
-      → sum_z (value_at lists round row 0) (signals_in f round) ≡ start_sum f (spread f lists (table_of f lists p y values))
-  starts_at_end k z round row is here some top ends =
-      ap (λ j. sum_z (value_at lists j row 0) (signals_in f j)) here
-      ∙ sum_same (value_at lists (round_of f (at_end z)) row 0) (λ s. table_of f lists p y values (at_end z) (class_of lists (round_of f (at_end z)) s)) 0
-      (signal_count f (round_of f (at_end z)))
-      (λ s lo hi.
-      let j = round_of f (at_end z) in
-      let plain : 0 + (class_of lists j s - 1) ≡ class_of lists j s - 1 = omega arith in
-      ap (λ n. get_or row n (pos 0)) plain ∙ ends (class_of lists j s) (class_in f lists k j s (omega (arith, here, some)) (omega (arith, here, top))
-      (omega arith)))
-      ∙ ap summed (sym is)
+use Rattle.gs_values.specs.{ClassTotals.{IsBestTotal}, Tables.{start_of, table_of}}
+use Rattle.gs_values.proofs.Ranges.{sum_same}
+use Rattle.gs_best.specs.Answers.{NoneGainsMore}
 
 -- a product of a total and a best total
-pub scaled_small : (total : ℕ) (best : ℤ) → total ≤ 2 ^ 36 → unsigned_abs best ≤ 2 ^ 87 → unsigned_abs (pos total *ℤ best) ≤ 2 ^ 123
+pub scaled_small : (total : ℕ) (best : ℤ) → total ≤ 2 ^ 36 → unsigned_abs best ≤ 2 ^ 74 → unsigned_abs (pos total *ℤ best) ≤ 2 ^ 110
 scaled_small total best l m =
     let e = unsigned_abs-mul (pos total) best in
     let t : unsigned_abs (pos total) ≤ 2 ^ 36 = omega (arith, ints, abs_is (pos total), l) in
-    let p = product_le (unsigned_abs (pos total)) (unsigned_abs best) (2 ^ 36) (2 ^ 87) t m in
+    let p = product_le (unsigned_abs (pos total)) (unsigned_abs best) (2 ^ 36) (2 ^ 74) t m in
     omega (arith, e, p)
 
 module _ (f : Frame) (r : InRange f) (lists : ClassLists) (k : IsClasses f.parents lists) (g : IsLossless f lists) where
@@ -71,7 +45,7 @@ module _ (f : Frame) (r : InRange f) (lists : ClassLists) (k : IsClasses f.paren
   -- what two plans pay is small
   pub paid_small : IsWalked f 1 → IsWalked f 2 → IsExchanged f 1 → (x y : Plan) → IsClassPlan f lists 1 x → IsClassPlan f lists 2 y → (b1 b2 : ℤ)
       → IsBestTotal f lists 1 (lift f lists y) b1 → IsBestTotal f lists 2 (lift f lists x) b2
-      → unsigned_abs b1 ≤ 2 ^ 87 → unsigned_abs b2 ≤ 2 ^ 87 → unsigned_abs (raw_payoff f (lift f lists x) (lift f lists y)) ≤ 2 ^ 123
+      → unsigned_abs b1 ≤ 2 ^ 74 → unsigned_abs b2 ≤ 2 ^ 74 → unsigned_abs (raw_payoff f (lift f lists x) (lift f lists y)) ≤ 2 ^ 110
   paid_small w1 w2 ex x y px py b1 b2 h1 h2 s1 s2 =
       let v = raw_payoff f (lift f lists x) (lift f lists y) in
       let one = raw_payoff_is_gain f (lift f lists x) (lift f lists y) in

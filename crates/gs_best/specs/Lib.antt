@@ -1,6 +1,3 @@
-pub mod Ends
-pub mod Tables
-pub mod Rows
 pub mod Sizes
 pub mod Rounds
 pub mod Answers

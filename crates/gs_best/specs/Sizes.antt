@@ -1,7 +1,7 @@
 -- The room that best answers need.
 use Rattle.std.specs.{Prelude.{ℕ, ◌*◌, ◌<◌, ◌≤◌, ◌==◌, List, length, map, get_or, sum_by, count_by}, List.{range_with_len}}
 use Rattle.gs_model.specs.{Classes.{ClassLists, class_count}, Frame.{Frame, last_round, point_count, round_of}, Positions.{at_point}}
-use Rattle.gs_best.specs.{Tables.{AreStarts, start_of}, declared.room.Scratch.{Scratch}, declared.room.Table.{Table}}
+use Rattle.gs_values.specs.{Rooms.{AreOfLength, HoldsEntries}, declared.rooms.Scratch.{Scratch}, declared.rooms.Table.{Table}}
 
 -- how many points a round has
 abbrev pub points_of_round : Frame → ℕ → ℕ
@@ -10,37 +10,6 @@ points_of_round f round = count_by (λ q. round_of f (at_point q) == round) (ran
 -- for each round how many points and how many classes it has
 abbrev pub sizes_of : Frame → ClassLists → List (ℕ × ℕ)
 sizes_of f lists = map (λ round. (points_of_round f round, class_count lists round)) (range_with_len 1 (last_round f))
-
--- no round has more than `wide` classes
-abbrev pub IsWide : Frame → ClassLists → ℕ → Type 0
-IsWide f lists wide = (round : ℕ) → 0 < round → round ≤ last_round f → class_count lists round ≤ wide
-
--- the length of each scratch row meets the test
-pub record AreOfLength (is_long : ℕ → Type 0) (s : Scratch) : Type 0 where
-  pub numbers : is_long (length s.numbers.items)
-  pub ends : is_long (length s.ends.items)
-  pub worths : is_long (length s.worths.items)
-  pub best : is_long (length s.best.items)
-  pub moves : is_long (length s.moves.items)
-
--- each scratch row has an entry for each class of any round
-abbrev pub HasRoomForClasses : Frame → ClassLists → Scratch → Type 0
-HasRoomForClasses f lists = AreOfLength (IsWide f lists)
-
--- the table has room for `points` points and `entries` values
-pub record HoldsEntries (points entries : ℕ) (t : Table) : Type 0 where
-  pub starts : points ≤ length t.starts.items
-  pub values : entries ≤ length t.values.items
-  pub picks : entries ≤ length t.picks.items
-
--- the table has room for each point's start, and for a value and a move at each point and class
-abbrev pub HoldsAll : Frame → ClassLists → Table → Type 0
-HoldsAll f lists = HoldsEntries (point_count f) (start_of f lists (point_count f))
-
--- the table has room for all values, and it has the place where each point's values start
-pub record IsLaidOut (f : Frame) (lists : ClassLists) (t : Table) : Type 0 where
-  pub holds : HoldsAll f lists t
-  pub places : AreStarts f lists t.starts.items
 
 -- ---- room by sizes
 

@@ -5,11 +5,10 @@ ghost use Rattle.gs_model.specs.{BestAnswers.{IsFirstBestPlan}, Frame.{other_pla
 ghost use Rattle.gs_seq.specs.{Abstracts.{abstract_frame, lists_of}, Plans.{IsPlanOf, class_plan, lifted}};
 ghost use Rattle.gs_best.specs.Answers.{AreChoices, IsPaidMost, NoneGainsMore};
 
-use crate::deviator::Deviator;
-use crate::fill::filled;
 use crate::listing::own_moves;
 use crate::putting::put_all;
 use gs_seq::{Abstract, Plan};
+use gs_values::{Side, filled};
 use std::alloc::{AllocError, Global};
 
 /// Returns a player's first best answer to the other's plan, in the literature a best response. Its total is 1.
@@ -26,7 +25,7 @@ pub fn best(alloc: Global, form: &Abstract, player: u8, other: &Plan) -> Result<
     ensures paid { IfOk result (λ x. let f = abstract_frame form.now in let lists = lists_of form.now in
         IsPaidMost f lists player (lifted f lists other.now) (lifted f lists x)) }
 {
-    let side = Deviator {
+    let side = Side {
         form,
         player,
         other,
@@ -49,7 +48,7 @@ pub fn choices(
     ensures { IfOk result (λ v. let f = abstract_frame form.now in let lists = lists_of form.now in
         AreChoices f lists player (lifted f lists other.now) v.items) }
 {
-    let side = Deviator {
+    let side = Side {
         form,
         player,
         other,

@@ -2,10 +2,10 @@
 
 ghost use Rattle.std.specs.Prelude.{◌≡◌, ◌+◌, ◌≤◌, ◌++◌, IfOk, drop, length, take};
 ghost use Rattle.gs_seq.specs.{Abstracts.{abstract_frame, lists_of}, Plans.{lifted}};
-ghost use Rattle.gs_best.specs.Answers.{AreChoices, IsFilled};
+ghost use Rattle.gs_values.specs.Filled.{IsFilled};
+ghost use Rattle.gs_best.specs.Answers.{AreChoices};
 
-use crate::deviator::Deviator;
-use crate::room::Table;
+use gs_values::{Side, Table};
 use std::alloc::{AllocError, Global};
 
 /// Adds to `moves` the `count` picks from the place `start` on.
@@ -19,11 +19,10 @@ fn push_row(moves: &mut Vec<u8>, picks: &[u8], start: usize, count: usize) -> Re
 /// Returns the first best move for each own point and class of its round.
 pub(crate) fn own_moves(
     alloc: Global,
-    side: &Deviator<'_>,
+    side: &Side<'_>,
     table: &Table,
 ) -> Result<Vec<u8>, AllocError>
-    requires filled { let f = abstract_frame side.now.form.now in let lists = lists_of side.now.form.now in
-        IsFilled f lists side.now.player (lifted f lists side.now.other.now) table.now }
+    requires filled { IsFilled side.now table.now }
     ensures { let f = abstract_frame side.now.form.now in let lists = lists_of side.now.form.now in
         IfOk result (λ v. AreChoices f lists side.now.player (lifted f lists side.now.other.now) v.items) }
 {

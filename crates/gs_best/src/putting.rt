@@ -4,11 +4,11 @@ ghost use Rattle.std.specs.Prelude.{◌≡◌, ◌+◌, ◌<◌, ◌≤◌, ℕ,
 ghost use Rattle.gs_model.specs.{BestAnswers.{IsFirstBestPlan}, Classes.{IsClass}, Frame.{player_at, point_count, round_of}, Positions.{at_point}};
 ghost use Rattle.gs_seq.specs.{Abstracts.{abstract_frame, lists_of}, Firsts.{AgreeBefore, IsClear}, Plans.{IsPlanOf, class_plan, lifted}};
 ghost use Rattle.gs_seq.specs.Slots.{slot_count, slots_before};
-ghost use Rattle.gs_best.specs.{Answers.{IsFilled}, Puts.{ArePutBefore, IsPutAt}, Tables.{AreInMoves, AreStarts, moves_of, start_of}};
+ghost use Rattle.gs_values.specs.{Filled.{IsFilled}, Tables.{AreInMoves, AreStarts, moves_of, start_of}};
+ghost use Rattle.gs_best.specs.Puts.{ArePutBefore, IsPutAt};
 
-use crate::deviator::Deviator;
-use crate::room::Table;
 use gs_seq::{Abstract, Plan};
+use gs_values::{Side, Table};
 use std::alloc::{AllocError, Global};
 
 /// Gives the chosen move, at each class of an own point, all the weight that comes there.
@@ -66,9 +66,8 @@ pub fn put_moves(form: &Abstract, player: u8, starts: &[u32], picks: &[u8], weig
 }
 
 /// Returns the weights of the plan with total 1 that puts all weight on the best moves.
-fn best_weights(alloc: Global, side: &Deviator<'_>, table: &Table) -> Result<Vec<u64>, AllocError>
-    requires filled { let f = abstract_frame side.now.form.now in let lists = lists_of side.now.form.now in
-        IsFilled f lists side.now.player (lifted f lists side.now.other.now) table.now }
+fn best_weights(alloc: Global, side: &Side<'_>, table: &Table) -> Result<Vec<u64>, AllocError>
+    requires filled { IsFilled side.now table.now }
     ensures long { IfOk result (λ v. length v.items ≡ slot_count (abstract_frame side.now.form.now) (lists_of side.now.form.now) side.now.player) }
     ensures puts { let f = abstract_frame side.now.form.now in let lists = lists_of side.now.form.now in
         IfOk result (λ v. ArePutBefore f lists side.now.player (moves_of f lists table.now.picks.items) v.items (point_count f)) }
@@ -86,9 +85,8 @@ fn best_weights(alloc: Global, side: &Deviator<'_>, table: &Table) -> Result<Vec
 }
 
 /// Returns the plan with total 1 that puts all weight on the best moves.
-pub(crate) fn put_all(alloc: Global, side: &Deviator<'_>, table: &Table) -> Result<Plan, AllocError>
-    requires filled { let f = abstract_frame side.now.form.now in let lists = lists_of side.now.form.now in
-        IsFilled f lists side.now.player (lifted f lists side.now.other.now) table.now }
+pub(crate) fn put_all(alloc: Global, side: &Side<'_>, table: &Table) -> Result<Plan, AllocError>
+    requires filled { IsFilled side.now table.now }
     ensures plan { IfOk result (IsPlanOf (abstract_frame side.now.form.now) (lists_of side.now.form.now) side.now.player) }
     ensures best { let f = abstract_frame side.now.form.now in let lists = lists_of side.now.form.now in
         IfOk result (λ x. IsFirstBestPlan f lists side.now.player (lifted f lists side.now.other.now) (class_plan f lists x)) }

@@ -2,7 +2,7 @@
 use Rattle.std.specs.Prelude.{IfSome}
 use Rattle.gs_model.specs.{BestAnswers.{Values}, Classes.{ClassLists}, Frame.{Frame}}
 use Rattle.gs_seq.specs.{Abstracts.{abstract_frame, lists_of}, Plans.{class_plan, lifted}}
-use Rattle.gs_best.specs.Tables.{table_of}
+use Rattle.gs_values.specs.Tables.{table_of}
 use Rattle.gs_certificate.specs.{Numbers.{AreNumbers}, Paid.{AreSumsPaid}, declared.claim.Claim.{Claim}}
 
 -- the game

@@ -3,7 +3,7 @@ use Rattle.std.specs.Prelude.{ℕ, ◌+◌, ◌<◌, ◌≤◌, ◌≡◌, List,
 use Rattle.gs_game.specs.Seen.{target_of}
 use Rattle.gs_model.specs.{BestAnswers.{Values}, Classes.{ClassLists, IsClass}, Frame.{Frame, last_round, leads_to, point_count, round_of}}
 use Rattle.gs_model.specs.{FrameFacts.{IsInside}, Positions.{Target, at_end, at_point}}
-use Rattle.gs_best.specs.Tables.{start_of}
+use Rattle.gs_values.specs.Tables.{start_of}
 use Rattle.gs_certificate.specs.{Worths.{target_worth}, declared.spot.Spot.{Spot}, declared.spot.Way.{Way}}
 
 -- a point of the game, its round, and the place of its first number

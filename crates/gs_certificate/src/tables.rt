@@ -3,12 +3,12 @@
 ghost use Rattle.std.specs.Prelude.{◌≡◌, ◌<◌, IfOk, length};
 ghost use Rattle.gs_model.specs.{Classes.{IsClass}, Frame.{end_count, round_of}, Payoff.{raw_payoff}, Positions.{at_end}};
 ghost use Rattle.gs_seq.specs.{Abstracts.{abstract_frame, lists_of}, Payoffs.{end_sum, payoff_at}, Plans.{IsPlanOf, class_plan, lifted}};
-ghost use Rattle.gs_best.specs.Sizes.{IsWide};
+ghost use Rattle.gs_values.specs.Rooms.{IsWide};
 ghost use Rattle.gs_certificate.specs.{Claims.{IsClaim, claim_frame, claim_lists}, Paid.{AreSumsPaid}};
 
 use crate::claim::Claim;
-use gs_best::{Deviator, widest};
 use gs_seq::{Plan, plus, scaled};
+use gs_values::{Side, widest};
 use std::alloc::{AllocError, Global};
 
 /// What each end pays the members of each class of its round together, end by end, and the place of each end's first class.
@@ -21,7 +21,7 @@ pub(crate) struct EndSums {
 /// Returns what all ends pay a player. `row` and `numbers` are scratch rows, long enough for the classes of any round.
 fn sums_in(
     alloc: Global,
-    side: &Deviator<'_>,
+    side: &Side<'_>,
     row: &mut [i128],
     numbers: &mut [u64],
 ) -> Result<EndSums, AllocError>
@@ -44,7 +44,7 @@ fn sums_in(
 }
 
 /// Returns what all ends pay a player against the other's plan.
-pub(crate) fn sums_of(alloc: Global, side: &Deviator<'_>) -> Result<EndSums, AllocError>
+pub(crate) fn sums_of(alloc: Global, side: &Side<'_>) -> Result<EndSums, AllocError>
     ensures { let f = abstract_frame side.now.form.now in let lists = lists_of side.now.form.now in
         IfOk result (AreSumsPaid f lists side.now.player (class_plan f lists side.now.other.now)) }
 {
@@ -55,7 +55,7 @@ pub(crate) fn sums_of(alloc: Global, side: &Deviator<'_>) -> Result<EndSums, All
 }
 
 /// Returns what an end pays the members of a class of its round together, from the kept sums.
-fn kept_at(side: &Deviator<'_>, ends: &EndSums, end: u32, class: u32) -> i128
+fn kept_at(side: &Side<'_>, ends: &EndSums, end: u32, class: u32) -> i128
     requires ends { let f = abstract_frame side.now.form.now in let lists = lists_of side.now.form.now in
         AreSumsPaid f lists side.now.player (class_plan f lists side.now.other.now) ends.now }
     requires end { end < end_count (abstract_frame side.now.form.now) }
@@ -82,7 +82,7 @@ pub(crate) fn paid_at(claim: &Claim<'_>, end: u32, class: u32) -> i128
 }
 
 /// Returns what plan `x` of player 1 and the other's plan pay player 1 at an end, by what the end pays player 1's classes.
-fn end_paid(first: &Deviator<'_>, x: &Plan, ends: &EndSums, end: u32) -> i128
+fn end_paid(first: &Side<'_>, x: &Plan, ends: &EndSums, end: u32) -> i128
     requires first { first.now.player ≡ 1 }
     requires x { IsPlanOf (abstract_frame first.now.form.now) (lists_of first.now.form.now) 1 x.now }
     requires ends { let f = abstract_frame first.now.form.now in let lists = lists_of first.now.form.now in
@@ -100,7 +100,7 @@ fn end_paid(first: &Deviator<'_>, x: &Plan, ends: &EndSums, end: u32) -> i128
 }
 
 /// Returns what plan `x` of player 1 and the other's plan pay player 1, by what ends pay player 1's classes.
-pub(crate) fn plans_pay(first: &Deviator<'_>, x: &Plan, ends: &EndSums) -> i128
+pub(crate) fn plans_pay(first: &Side<'_>, x: &Plan, ends: &EndSums) -> i128
     requires first { first.now.player ≡ 1 }
     requires x { IsPlanOf (abstract_frame first.now.form.now) (lists_of first.now.form.now) 1 x.now }
     requires ends { let f = abstract_frame first.now.form.now in let lists = lists_of first.now.form.now in

@@ -1,7 +1,8 @@
 -- The two lines that `certify` prints are verified.
 use Rattle.std.proofs.Common.{◌≡◌, ℕ, List, length, Result, Ok, Err, inl, inr, refl, ap, subst, ◌∙◌, arith}
 use Rattle.std.specs.Prelude.{unsigned_abs}
-use Rattle.gs_best.specs.Tables.{table_of}
+use Rattle.gs_seq.specs.Stops.{IsSmall}
+use Rattle.gs_values.specs.Tables.{table_of}
 use Rattle.gs_certificate.specs.{Checks.{AreSmall, IsSound}, Numbers.{number_count}, Texts.{Side, Stated, certificate_text}, Views.{certificate_view}}
 use Rattle.gs_certificate.specs.{declared.certificate.Certificate.{Certificate}, declared.text_fault.CertTextFault.{CertTextFault}}
 use Rattle.gs_certificate.proofs.{Holding.{faults_exclude}, Only.{only as certificate_only, stated}, OneText.{one_certificate}}
@@ -13,7 +14,6 @@ use Rattle.gs_model.specs.{Certificate.{IsCertificate}, Classes.{ClassLists}, Fr
 use Rattle.gs_reply.specs.Refusals.{Bad_game, Unlike_pair, Overflows, Many_pivots, Too_large, Bad_strategy, Wrong_number, Bad_query, Other_game, Bad_certificate}
 use Rattle.gs_reply.specs.{declared.refusals.Limit.{Limit}, declared.refusals.Limit.TheVariants.{Sequences, Cells, TableNumbers, RawCells}}
 use Rattle.gs_reply.specs.{Replies.{OfRead, Reply, Prints, Refuses}, Troubles.{Passes}, declared.refusals.Which.TheVariants.{Only}}
-use Rattle.gs_seq.specs.Stops.{IsSmall}
 use Rattle.gs_strategy.specs.{Checks.{ReadResult}, Confirmed.{IsConfirmed, strategy_frame, raw_plan}, Laws.{IsStrategy}, Texts.{strategy_data, strategy_text}}
 use Rattle.gs_strategy.specs.Values.{Strategy}
 use Rattle.gs_strategy.proofs.{Only.{only}, Shape.{has_line}}

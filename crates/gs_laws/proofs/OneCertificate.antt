@@ -2,7 +2,9 @@
 use Rattle.std.proofs.Common.{◌≡◌, ◌⊎◌, ℕ, zero, suc, ◌+◌, ◌-◌, ◌*◌, ◌<◌, ◌≤◌, ◌++◌, List, get_or, Err, codes, ℤ, pos, refl, sym, ap, ◌∙◌, subst, inl, inr, arith}
 use Rattle.std.proofs.{lemmas.Bool.{cases_lt}, lemmas.List.{get_or_default, same_lists}}
 use Rattle.std.specs.{Prelude.{unsigned_abs}, Fmt.{decimal}}
-use Rattle.gs_best.specs.{Answers.{AreBestValues}, Tables.{classes_at, start_of, table_of}}
+use Rattle.gs_seq.proofs.SlotLaws.{sum_range_more}
+use Rattle.gs_values.specs.Tables.{classes_at, start_of, table_of}
+use Rattle.gs_best.specs.Answers.{AreBestValues}
 use Rattle.gs_certificate.proofs.{Bounds.{one_bound}, Holding.{faults_exclude, low_not_high, sound_no_fault}, OneText.{one_certificate}}
 use Rattle.gs_certificate.proofs.Only.{only as read_only, stated}
 use Rattle.gs_certificate.specs.{Checks.{IsFault, IsFaultOf, IsSound, IsSoundFor, sum_of}, FaultTexts.{cert_fault_text, cert_text_fault_text}}
@@ -24,7 +26,6 @@ use Rattle.gs_model.specs.{Frame.{Frame, point_count, round_of, total_weight}, F
 use Rattle.gs_reply.specs.Refusals.{Bad_game, Unlike_pair, Overflows, Many_pivots, Too_large, Bad_strategy, Wrong_number, Bad_query, Other_game, Bad_certificate}
 use Rattle.gs_reply.specs.declared.refusals.Limit.{Limit}
 use Rattle.gs_reply.specs.{Replies.{Reply, Prints, Refuses}, Troubles.{IsUnlikePair}, declared.refusals.Which.TheVariants.{Only}}
-use Rattle.gs_seq.proofs.SlotLaws.{sum_range_more}
 use Rattle.gs_strategy.specs.{Confirmed.{strategy_frame, raw_plan}, Laws.{IsStrategy}, Texts.{strategy_text}, Values.{FractionParts, Strategy}}
 use Rattle.gs_laws.proofs.{Confirming.{small_passes, strategy_scale}, OneGame.{unlike_pair_one}}
 use Rattle.gs_file.proofs.Dealt.{told_dealt, told_playable}

@@ -3,11 +3,10 @@
 ghost use Rattle.std.specs.Prelude.{◌≡◌, ◌↔◌, IsTrue, false, ◌+◌, ◌<◌, ◌≤◌, ◌^◌, IfOk, length};
 ghost use Rattle.gs_model.specs.Frame.{other_player, point_count};
 ghost use Rattle.gs_seq.specs.{Abstracts.{abstract_frame, lists_of}, Plans.{IsPlanOf, class_plan}, Slots.{plan_of, slot_count}};
-ghost use Rattle.gs_best.specs.{Puts.{ArePutBefore}, Tables.{AreInMoves, start_of}};
-ghost use Rattle.gs_totals.specs.{ClassTotals.{AreBestTotals}, PlanSums.{ArePlansAlike, plus_times}};
-ghost use Rattle.gs_totals.specs.Places.{AreEndLines, AreEndSums, ArePointLines, AreSmallPoints, AreSmallRows};
-ghost use Rattle.gs_totals.specs.Room.{HasRows, HasScratch};
-ghost use Rattle.gs_totals.specs.Roles.{ArePaid, IsOthers, role_frame, role_lists, moves_in, role_plan, totals_in};
+ghost use Rattle.gs_values.specs.{Tables.{AreInMoves, start_of}, ClassTotals.{AreBestTotals}, Places.{AreEndSums}};
+ghost use Rattle.gs_best.specs.Puts.{ArePutBefore};
+ghost use Rattle.gs_totals.specs.{PlanSums.{ArePlansAlike, plus_times}, Places.{AreEndLines, ArePointLines, AreSmallPoints, AreSmallRows}};
+ghost use Rattle.gs_totals.specs.{Room.{HasRows, HasScratch}, Roles.{ArePaid, IsOthers, role_frame, role_lists, moves_in, role_plan, totals_in}};
 ghost use Rattle.gs_play.specs.{Seats.{HasAnswered, HasRises, HasSeatRoom, IsAtStart, IsSeat}, Staying.{AnswerStays, ChoicesStay}};
 
 use crate::adding::add_times;

@@ -7,10 +7,10 @@ ghost use Rattle.gs_seq.specs.{Abstracts.{abstract_frame, lists_of}, Plans.{IsPl
 ghost use Rattle.gs_raw.specs.{Answers.{AreHandValuesOf, IsHandValueOf}, Hands.{hand_pays_at, signal_pays, signal_weighs, signals_pay}};
 
 use crate::hands::{hand_weight, paid_over};
-use gs_best::{Deviator, end_value, run_below};
 use gs_frac::Fraction;
 use gs_lossless::{Run, descendants};
 use gs_seq::{Abstract, Plan, plus, scaled};
+use gs_values::{Side, end_value, run_below};
 use std::alloc::{AllocError, Global};
 
 /// A plan of player 1 and a plan of player 2 of a game in sequence form over single signals.
@@ -33,12 +33,12 @@ fn signal_gain(side: &Spread<'_>, end: u32, signal: u32) -> i128
     ensures few { unsigned_abs result ≤ (2 ^ 84) * signal_weighs (abstract_frame side.now.form.now) end signal }
 {
     let number = side.form.number_at_end(side.one, end, signal + 1);
-    let deviator = Deviator {
+    let facing = Side {
         form: side.form,
         player: 1,
         other: side.two,
     };
-    scaled(number, end_value(&deviator, end, signal + 1))
+    scaled(number, end_value(&facing, end, signal + 1))
 }
 
 /// Returns what the deals of a run of signals of an end's round pay player 1 there.

@@ -3,8 +3,9 @@ use Rattle.std.proofs.{Common.{◌≡◌, ◌≢◌, ℕ, ◌+◌, ◌<◌, ◌�
 use Rattle.std.proofs.lemmas.Int.{ints}
 use Rattle.std.specs.Prelude.{ℤ, pos, IsTrue, ◌<ℤ◌, nat_lt, slice_index}
 use Rattle.gs_model.specs.{Classes.{IsClass}, Frame.{move_count, player_at, point_count, round_of}, Positions.{at_point}}
-use Rattle.gs_totals.specs.{ClassTotals.{total_worth}, Courses.{LastsAt, StaysBehind, moves_chosen, totals_added, totals_now}, Jumps.{line}}
-use Rattle.gs_totals.specs.{Lasting.{AreBehind, IsBehind, IsNotAhead}, Roles.{role_frame, role_lists}, declared.course.Course.{Course}}
+use Rattle.gs_values.specs.ClassTotals.{total_worth}
+use Rattle.gs_totals.specs.{Courses.{LastsAt, StaysBehind, moves_chosen, totals_added, totals_now}, Jumps.{line}, Lasting.{AreBehind, IsBehind, IsNotAhead}}
+use Rattle.gs_totals.specs.{Roles.{role_frame, role_lists}, declared.course.Course.{Course}}
 
 -- ---- fewer turns
 

@@ -4,8 +4,8 @@ use Rattle.std.proofs.lemmas.Bool.Decides.{Decides-eqb}
 use Rattle.std.specs.Prelude.{◌==◌, ℤ, pos}
 use Rattle.gs_model.specs.{BestAnswers.{Values}, Classes.{ClassLists, class_count}, Frame.{Frame, round_of}, Positions.{at_point}}
 use Rattle.gs_model.proofs.Basics.{not_eq}
-use Rattle.gs_best.specs.{Rows.{AreWorths}, Tables.{moves_of, start_of}}
-use Rattle.gs_totals.specs.{ClassTotals.{total_worth}, Merged.{AreChosen, AreTaken}}
+use Rattle.gs_values.specs.{Rows.{AreWorths}, Tables.{moves_of, start_of}, ClassTotals.{total_worth}}
+use Rattle.gs_totals.specs.Merged.{AreChosen, AreTaken}
 
 module _ (f : Frame) (lists : ClassLists) (v : Values) (q n count : ℕ) (all : count
     ≡ class_count lists (round_of f (at_point q))) (worths : List ℤ) (new : AreWorths f lists (total_worth f lists v) q n worths) where

@@ -3,11 +3,11 @@ use Rattle.std.proofs.{Common.{◌≡◌, ◌≢◌, ℕ, ◌+◌, ◌-◌, ◌^
 use Rattle.std.specs.Prelude.{ℤ, pos, ◌-ℤ◌, nat_lt, slice_index, unsigned_abs}
 use borrow.Author.Differences.{abs_is}
 use Rattle.gs_model.specs.{Classes.{IsClass}, Frame.{move_count, player_at, point_count, round_of}, Positions.{at_point}}
-use Rattle.gs_best.specs.{Rows.{AreWorths}, Tables.{classes_at, start_of}}
-use Rattle.gs_best.proofs.Placed.{IsRow}
-use Rattle.gs_totals.specs.{ClassTotals.{total_worth}, Courses.{StaysBehind, moves_chosen, totals_added, totals_now}, Jumps.{line}}
-use Rattle.gs_totals.specs.{Lasting.{AreBehind, IsBehind, IsNotAhead}, Merged.{AreModestFrom}, Roles.{role_frame, role_lists}, declared.course.Course.{Course}}
-use Rattle.gs_totals.proofs.{Behind.{BehindAt, before_from, behind_same}, Known.{known_modest, worth_modest}, Stepping.{from_some}}
+use Rattle.gs_values.specs.{Rows.{AreWorths}, Tables.{classes_at, start_of}, ClassTotals.{total_worth}, LaterRows.{AreModestFrom}}
+use Rattle.gs_values.proofs.{Placed.{IsRow}, Stepping.{from_some}}
+use Rattle.gs_totals.specs.{Courses.{StaysBehind, moves_chosen, totals_added, totals_now}, Jumps.{line}, Lasting.{AreBehind, IsBehind, IsNotAhead}}
+use Rattle.gs_totals.specs.{Roles.{role_frame, role_lists}, declared.course.Course.{Course}}
+use Rattle.gs_totals.proofs.{Behind.{BehindAt, before_from, behind_same}, Known.{known_modest, worth_modest}}
 
 apart : (a b : ℤ) → unsigned_abs a < 2 ^ 110 → unsigned_abs b < 2 ^ 110 → unsigned_abs (a -ℤ b) < 2 ^ 120
 apart a b h g = omega (arith, ints, abs_is a, abs_is b, abs_is (a -ℤ b), h, g)

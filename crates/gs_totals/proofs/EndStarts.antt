@@ -3,8 +3,8 @@ use Rattle.std.proofs.Common.{◌≡◌, ℕ, zero, suc, ◌+◌, ◌-◌, ◌*�
 use Rattle.gs_model.specs.{Classes.{ClassLists, IsClass}, Frame.{Frame, end_count, round_of}, Positions.{at_end}}
 use Rattle.gs_seq.specs.{Abstracts.{abstract_frame, lists_of}, declared.form.Abstract.{Abstract}, Payoffs.{end_classes}}
 use Rattle.gs_seq.proofs.{SlotLaws.{sum_range_le, sum_range_more}, Forms.{form_class_few, form_walked}}
-use Rattle.gs_best.proofs.Chips.{form_modest}
-use Rattle.gs_totals.specs.Places.{end_start}
+use Rattle.gs_values.specs.Places.{end_start}
+use Rattle.gs_values.proofs.Chips.{form_modest}
 
 pub end_starts_more : (f : Frame) (lists : ClassLists) (z : ℕ) → end_start f lists (z + 1) ≡ end_start f lists z + end_classes f lists z
 end_starts_more f lists z = sum_range_more (end_classes f lists) z

@@ -5,26 +5,13 @@ use Rattle.std.specs.{Prelude.{◌==◌, ℤ, pos, ◌+ℤ◌, unsigned_abs}, Li
 use borrow.Author.Differences.{abs_is}
 use Rattle.gs_model.specs.{Classes.{ClassLists, IsClass, class_count}, Frame.{Frame}, Sums.{sum_z}}
 use Rattle.gs_model.proofs.Basics.{not_eq}
-use Rattle.gs_best.specs.Rows.{AreModestClasses}
-use Rattle.gs_best.proofs.Ranges.{range_abs, sum_same}
-use Rattle.gs_totals.specs.{ClassTotals.{earlier_class, gathered_below}, Merged.{row_from}}
 use Rattle.gs_seq.proofs.EndTotals.{range_more}
+use Rattle.gs_values.specs.{Rows.{AreModestClasses}, ClassTotals.{earlier_class, gathered_below}, LaterRows.{row_from}}
+use Rattle.gs_values.proofs.{Gathered.{tested_small}, Ranges.{range_abs, sum_same}}
 
 -- what the first classes of a round hold below a class
 abbrev pub gathered_to : Frame → ClassLists → ℕ → ℕ → List ℤ → ℕ → ℕ → ℕ → ℤ
 gathered_to f lists from to values start c n = sum_z (λ k. cond (earlier_class f lists from to k == c) (row_from values start k) (pos 0)) (range_with_len 1 n)
-
--- what is gathered hangs on the classes of the round alone
-pub gathered_same : (f : Frame) (lists : ClassLists) (from to : ℕ) (v w : ℕ → ℤ) (c : ℕ) → ((k : ℕ) → IsClass lists from k → v k ≡ w k)
-    → gathered_below f lists from to v c ≡ gathered_below f lists from to w c
-gathered_same f lists from to v w c h =
-    sum_same (λ k. cond (earlier_class f lists from to k == c) (v k) (pos 0)) (λ k. cond (earlier_class f lists from to k == c) (w k) (pos 0)) 1
-    (class_count lists from)
-    (λ k lo hi. ap (λ x. cond (earlier_class f lists from to k == c) x (pos 0)) (h k (omega arith, omega arith)))
-
-pub tested_small : (b : Bool) (x : ℤ) (most : ℕ) → unsigned_abs x ≤ most → unsigned_abs (cond b x (pos 0)) ≤ most
-tested_small true x most h = h
-tested_small false x most h = omega (arith, ints, abs_is (pos 0))
 
 module _ (f : Frame) (lists : ClassLists) (from to : ℕ) (values : List ℤ) (start : ℕ) where
   pub gathered_small : (count : ℕ) → AreModestClasses values start count → (c n : ℕ) → n ≤ count

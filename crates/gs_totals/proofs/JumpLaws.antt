@@ -7,8 +7,8 @@ use Rattle.gs_model.specs.Frame.{Frame, choices_at, leads_to, move_count, other_
 use Rattle.gs_model.specs.{FrameFacts.{InRange, IsInside, IsWalked}, Plans.{Plan}, Positions.{Target, at_end, at_point}, Sums.{sum_z}}
 use Rattle.gs_model.proofs.Total.{sum_z-add, sum_z-mul, sum_z-same}
 use Rattle.gs_seq.specs.Payoffs.{end_sum}
-use Rattle.gs_best.proofs.Ranges.{sum_same}
-use Rattle.gs_totals.specs.ClassTotals.{AreBestTotals, IsFollowed, earlier_class, gathered_below, total_worth}
+use Rattle.gs_values.specs.ClassTotals.{AreBestTotals, IsFollowed, earlier_class, gathered_below, total_worth}
+use Rattle.gs_values.proofs.Ranges.{sum_same}
 use Rattle.gs_totals.specs.{Jumps.{AreBeforeChange, IsBeforeChange, line, tables_after}, PlanSums.{ArePlansAlike, plus_times}}
 use Rattle.gs_totals.proofs.SumLaws.{end_plus, kept_alike}
 

@@ -6,13 +6,11 @@ use Rattle.gs_model.specs.Sums.{sum_z}
 use Rattle.gs_model.proofs.Basics.{product_le}
 use Rattle.gs_seq.specs.declared.plan.Plan.{Plan}
 use Rattle.gs_seq.proofs.Forms.{form_class_few, form_classes, form_in_range, form_moves}
-use Rattle.gs_best.proofs.{Chips.{form_modest}, Ranges.{range_abs}}
-use Rattle.gs_totals.specs.{ClassTotals.{earlier_class, total_worth}, Merged.{AreModestFrom}, Places.{IsFollowedFrom}}
+use Rattle.gs_values.specs.{ClassTotals.{earlier_class, total_worth}, LaterRows.{AreModestFrom}, Places.{IsFollowedFrom}}
+use Rattle.gs_values.proofs.{Chips.{form_modest}, Gathered.{tested_small}, Modest.{figures}, Players.{apart, either_player}, Ranges.{range_abs}}
+use Rattle.gs_values.proofs.TotalBounds.{totals_few}
 use Rattle.gs_totals.specs.{Roles.{IsOthers, role_frame, role_lists, role_plan, totals_in}, declared.role.Role.{Role}}
-use Rattle.gs_totals.proofs.{Gathers.{tested_small}, Sides.{apart, either_player, other_walked, walked}, TotalBounds.{totals_few}}
-
-pub figures : (total weight : ℕ) → total ≤ 2 ^ 36 → weight ≤ 67108864 → 4096 * (total * weight) ≤ 2 ^ 74
-figures total weight l m = let p = product_le total weight (2 ^ 36) 67108864 l m in omega (arith, p)
+use Rattle.gs_totals.proofs.Sides.{other_walked, walked}
 
 module _ (k : Role) where
   pub known_modest : (other : Plan) → IsOthers k other → (values : List ℤ) (move : ℕ → ℕ → ℕ) (from : ℕ)

@@ -1,7 +1,7 @@
 -- Rows one behind another as one list: what holds of each class of each row holds of all places, and the other way round.
 use Rattle.std.proofs.Common.{◌≡◌, ℕ, ◌+◌, ◌-◌, ◌^◌, ◌<◌, ◌≤◌, ◌++◌, List, get_or, length, take, drop, sym, subst, arith}
 use Rattle.std.specs.Prelude.{ℤ, pos, unsigned_abs}
-use Rattle.gs_best.proofs.{Filled.{written}, Placed.{all_places, place_inside, row_start}}
+use Rattle.gs_values.proofs.{Written.{written}, Placed.{all_places, place_inside, row_start}}
 use Rattle.gs_totals.specs.Jumps.{line}
 
 module _ (width : ℕ → ℕ) (n count : ℕ) (all : count ≡ row_start width n) where

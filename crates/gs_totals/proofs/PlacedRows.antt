@@ -3,9 +3,9 @@ use Rattle.std.proofs.{Common.{◌≡◌, ℕ, ◌+◌, ◌-◌, ◌<◌, List, 
 use Rattle.std.specs.Prelude.{ℤ, pos}
 use Rattle.gs_model.specs.{Classes.{ClassLists, IsClass}, Frame.{Frame, end_count, point_count, round_of}, Positions.{at_end}}
 use Rattle.gs_seq.specs.Payoffs.{end_classes, end_sum}
-use Rattle.gs_best.specs.Tables.{classes_at}
-use Rattle.gs_best.proofs.Placed.{IsRow, row_read}
-use Rattle.gs_totals.specs.{Ledgers.{IsPaidAt}, Places.{end_start}, Roles.{role_frame, role_lists, role_plan}, Room.{IsPlaced}, declared.ledger.Ledger.{Ledger}}
+use Rattle.gs_values.specs.{Tables.{classes_at}, Places.{end_start}}
+use Rattle.gs_values.proofs.Placed.{IsRow, row_read}
+use Rattle.gs_totals.specs.{Ledgers.{IsPaidAt}, Roles.{role_frame, role_lists, role_plan}, Room.{IsPlaced}, declared.ledger.Ledger.{Ledger}}
 use Rattle.gs_totals.specs.declared.places.Places.{Places}
 use Rattle.gs_totals.proofs.EndStarts.{end_before}
 

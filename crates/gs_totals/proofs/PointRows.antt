@@ -3,10 +3,9 @@ use Rattle.std.proofs.Common.{◌≡◌, ℕ, ◌+◌, ◌-◌, ◌<◌, ◌≤�
 use Rattle.std.specs.Prelude.{pos, unsigned_abs}
 use Rattle.gs_model.specs.{Classes.{IsClass, class_count}, Frame.{end_count, leads_to, move_count, point_count, round_of}, Positions.{Target, at_end, at_point}}
 use Rattle.gs_seq.proofs.SlotLaws.{sum_range_le}
-use Rattle.gs_best.specs.{Sizes.{IsWide}, Tables.{classes_at, start_of}}
-use Rattle.gs_best.proofs.Placed.{IsRow, row_next}
-use Rattle.gs_totals.specs.{Places.{end_start}, PointRows.{totals_at}, Roles.{role_frame, role_lists}, Rows.{IsLaterRow, IsRowOf}}
-use Rattle.gs_totals.specs.declared.ledger.Ledger.{Ledger}
+use Rattle.gs_values.specs.{Tables.{classes_at, start_of}, Places.{end_start}, Rooms.{IsWide}}
+use Rattle.gs_values.proofs.Placed.{IsRow, row_next}
+use Rattle.gs_totals.specs.{PointRows.{totals_at}, Roles.{role_frame, role_lists}, Rows.{IsLaterRow, IsRowOf}, declared.ledger.Ledger.{Ledger}}
 use Rattle.gs_totals.specs.{declared.places.Totals.{Totals}, declared.point_row.PointRow.{PointRow}, declared.rows.Row.{Row}}
 use Rattle.gs_totals.proofs.Sides.{walked}
 

@@ -6,7 +6,7 @@ use Rattle.gs_model.specs.{Frame.{Frame, ancestor, end_count, last_step, other_p
 use Rattle.gs_model.specs.{Pairs.{class_number, pair_sum}, Plans.{Plan, lift, number_before}, Positions.{Step, at_end, at_point}}
 use Rattle.gs_model.proofs.{Gather.{class_in, member_in}, Tables.{is_table}}
 use Rattle.gs_seq.specs.{Payoffs.{end_sum}, Slots.{plan_of}}
-use Rattle.gs_best.proofs.Ranges.{sum_same}
+use Rattle.gs_values.proofs.Ranges.{sum_same}
 use Rattle.gs_totals.specs.Renewed.{AgreeAt, AreSameAt}
 
 pub none_same : (f : Frame) (lists : ClassLists) (player z total : ℕ) (before now : List ℕ) → last_step f player (at_end z) ≡ None

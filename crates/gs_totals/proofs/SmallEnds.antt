@@ -4,9 +4,10 @@ use Rattle.std.specs.Prelude.{ℤ, unsigned_abs}
 use Rattle.gs_model.specs.{Frame.{other_player, point_count}, FrameFacts.{IsFrom}, Positions.{at_end, at_point}}
 use Rattle.gs_seq.specs.{Abstracts.{abstract_frame, lists_of}, Plans.{IsPlanOf, class_plan}, declared.form.Abstract.{Abstract}, declared.plan.Plan.{Plan}}
 use Rattle.gs_seq.proofs.Forms.{form_classes, form_in_range, form_walked}
-use Rattle.gs_best.proofs.Chips.{form_modest}
-use Rattle.gs_totals.specs.{ClassTotals.{IsFollowed}, Places.{AreEndSums, AreSmallPoints, AreSmallRows, totals_of}}
-use Rattle.gs_totals.proofs.{Known.{figures}, Sides.{apart, either_player}, Stepping.{from_some, none_followed}, TotalBounds.{totals_few}}
+use Rattle.gs_values.specs.{ClassTotals.{IsFollowed}, Places.{AreEndSums, totals_of}}
+use Rattle.gs_values.proofs.{Chips.{form_modest}, Modest.{figures}, Players.{apart, either_player}, Stepping.{from_some, none_followed}}
+use Rattle.gs_values.proofs.TotalBounds.{totals_few}
+use Rattle.gs_totals.specs.Places.{AreSmallPoints, AreSmallRows}
 
 module _ (a : Abstract) (player : ℕ) (some : 0 < player) (two : player
     ≤ 2) (p : Plan) (h : IsPlanOf (abstract_frame a) (lists_of a) (other_player player) p) where

@@ -6,8 +6,9 @@ use Rattle.gs_model.specs.{Frame.{Frame, ancestor, end_count, last_step, other_p
 use Rattle.gs_model.specs.{Plans.{Plan, lift, number_before}, Positions.{Step, at_end, at_point}, Sums.{sum_z}}
 use Rattle.gs_model.proofs.{Gather.{class_in, known_from, member_in}, Total.{mul-add_right, mul_assoc_z, sum_z-add, sum_z-mul, sum_z-same}}
 use Rattle.gs_seq.specs.Payoffs.{end_sum}
-use Rattle.gs_totals.specs.{ClassTotals.{earlier_class}, PlanSums.{ArePlansAlike, plus_times}}
-use Rattle.gs_best.proofs.Ranges.{sum_same}
+use Rattle.gs_values.specs.ClassTotals.{earlier_class}
+use Rattle.gs_values.proofs.Ranges.{sum_same}
+use Rattle.gs_totals.specs.PlanSums.{ArePlansAlike, plus_times}
 
 -- ---- the sums
 

@@ -2,9 +2,9 @@
 use Rattle.std.proofs.Common.{◌≡◌, ℕ, List, sym, ap, ◌∙◌, subst}
 use Rattle.std.specs.Prelude.{ℤ}
 use Rattle.gs_model.specs.{BestAnswers.{Values}, Classes.{ClassLists, IsClass}, Frame.{Frame, leads_to, round_of}, Positions.{at_point}}
-use Rattle.gs_best.specs.Rows.{AreWorths}
-use Rattle.gs_totals.specs.{ClassTotals.{gathered_below, total_worth}, Merged.{AreGathered, row_from}, Rows.{IsRowOf}, declared.rows.Row.{Row}}
-use Rattle.gs_totals.proofs.Gathers.{gathered_same}
+use Rattle.gs_values.specs.{Rows.{AreWorths}, ClassTotals.{gathered_below, total_worth}, LaterRows.{AreGathered, row_from}}
+use Rattle.gs_values.proofs.Gathered.{gathered_same}
+use Rattle.gs_totals.specs.{Rows.{IsRowOf}, declared.rows.Row.{Row}}
 
 pub worths_by : (f : Frame) (lists : ClassLists) (v : Values) (q m to : ℕ) → to ≡ round_of f (at_point q) → (r : Row) → IsRowOf f lists v (leads_to f q m) r
     → (sums : List ℤ) → AreGathered f lists r.round to r.values.now r.start sums → AreWorths f lists (total_worth f lists v) q m sums

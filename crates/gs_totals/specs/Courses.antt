@@ -1,8 +1,9 @@
 -- A course: best class totals, and what each turn adds to them.
 use Rattle.std.specs.Prelude.{ℕ, ◌≢◌, nat_lt}
 use Rattle.gs_model.specs.{BestAnswers.{Values}, Classes.{IsClass}, Frame.{move_count, round_of}, Positions.{at_point}}
-use Rattle.gs_totals.specs.{ClassTotals.{total_worth}, Jumps.{AreBeforeChange, IsBeforeChange}, Lasting.{IsBehind}}
-use Rattle.gs_totals.specs.{Roles.{role_frame, role_lists, moves_in, totals_in}, declared.course.Course.{Course}}
+use Rattle.gs_values.specs.ClassTotals.{total_worth}
+use Rattle.gs_totals.specs.{Jumps.{AreBeforeChange, IsBeforeChange}, Lasting.{IsBehind}, Roles.{role_frame, role_lists, moves_in, totals_in}}
+use Rattle.gs_totals.specs.declared.course.Course.{Course}
 
 -- the class totals as they stand, against the other's plan so far
 abbrev pub totals_now : Course → Values

@@ -3,7 +3,7 @@
 use Rattle.std.specs.Prelude.{ℕ, ◌<◌, ◌≡◌, ℤ, pos, ◌+ℤ◌, ◌*ℤ◌, ◌≤ℤ◌, ◌<ℤ◌}
 use Rattle.gs_model.specs.{BestAnswers.{Values}, Classes.{ClassLists, IsClass}, Frame.{Frame, move_count, player_at, point_count, round_of}}
 use Rattle.gs_model.specs.Positions.{at_point}
-use Rattle.gs_totals.specs.ClassTotals.{total_worth}
+use Rattle.gs_values.specs.ClassTotals.{total_worth}
 
 -- a number after some turns, by what it is now and what each turn adds
 abbrev pub line : ℤ → ℤ → ℕ → ℤ

@@ -2,9 +2,8 @@
 use Rattle.std.specs.Prelude.{ℕ, ◌+◌, ◌-◌, ◌<◌, ◌≤◌, ◌≡◌, List, get_or, length, ℤ, pos}
 use Rattle.gs_model.specs.{Classes.{IsClass}, Frame.{point_count, round_of}, Positions.{at_end}}
 use Rattle.gs_seq.specs.Payoffs.{end_classes, end_sum}
-use Rattle.gs_best.specs.Tables.{AreInMoves, start_of}
-use Rattle.gs_totals.specs.{Places.{AreBestFrom, IsFollowedFrom}, Roles.{ArePaid, role_frame, role_lists, moves_in, role_plan, totals_in}}
-use Rattle.gs_totals.specs.Room.{HasRows, HasScratch}
+use Rattle.gs_values.specs.{Tables.{AreInMoves, start_of}, Places.{AreBestFrom, IsFollowedFrom}}
+use Rattle.gs_totals.specs.{Roles.{ArePaid, role_frame, role_lists, moves_in, role_plan, totals_in}, Room.{HasRows, HasScratch}}
 use Rattle.gs_totals.specs.{declared.ledger.Ledger.{Ledger}, declared.places.Scratch.{Scratch}, declared.places.Totals.{Totals}}
 
 -- there is room for class totals, moves and scratch rows, and the totals have what ends pay

@@ -1,4 +1,3 @@
-pub mod ClassTotals
 pub mod PlanSums
 pub mod Jumps
 pub mod Places

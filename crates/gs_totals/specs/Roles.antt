@@ -2,8 +2,8 @@
 use Rattle.std.specs.Prelude.{ℕ, List, ℤ}
 use Rattle.gs_model.specs.{BestAnswers.{Values}, Classes.{ClassLists}, Frame.{Frame, other_player}, Plans.{Plan as ModelPlan}}
 use Rattle.gs_seq.specs.{Abstracts.{abstract_frame, lists_of}, Plans.{IsPlanOf, class_plan}, declared.plan.Plan.{Plan}}
-use Rattle.gs_best.specs.Tables.{moves_of}
-use Rattle.gs_totals.specs.{Places.{AreEndSums, totals_of}, declared.places.Totals.{Totals}, declared.role.Role.{Role}}
+use Rattle.gs_values.specs.{Tables.{moves_of}, Places.{AreEndSums, totals_of}}
+use Rattle.gs_totals.specs.{declared.places.Totals.{Totals}, declared.role.Role.{Role}}
 
 -- the frame of a player's game
 abbrev pub role_frame : Role → Frame

@@ -1,9 +1,8 @@
 -- Room for class totals.
 use Rattle.std.specs.Prelude.{◌≤◌, length}
 use Rattle.gs_model.specs.{Classes.{ClassLists}, Frame.{Frame, end_count, point_count}}
-use Rattle.gs_best.specs.{Sizes.{IsWide}, Tables.{AreStarts, start_of}}
-use Rattle.gs_totals.specs.{Places.{AreEndStarts, end_start}, declared.places.Places.{Places}, declared.places.Scratch.{Scratch}}
-use Rattle.gs_totals.specs.declared.places.Totals.{Totals}
+use Rattle.gs_values.specs.{Tables.{AreStarts, start_of}, Places.{AreEndStarts, end_start}, Rooms.{IsWide}}
+use Rattle.gs_totals.specs.{declared.places.Places.{Places}, declared.places.Scratch.{Scratch}, declared.places.Totals.{Totals}}
 
 -- the places have the start of each end's row and of each point's row
 pub record IsPlaced (f : Frame) (lists : ClassLists) (p : Places) : Type 0 where

@@ -1,8 +1,8 @@
 -- Rows of a number for each class of a round. For private functions.
 use Rattle.std.specs.Prelude.{ℕ, ◌+◌, ◌≤◌, ◌≡◌, length}
 use Rattle.gs_model.specs.{BestAnswers.{Values}, Classes.{ClassLists, IsClass, class_count}, Frame.{Frame, last_round, round_of}, Positions.{Target}}
-use Rattle.gs_best.specs.Rows.{AreModestClasses}
-use Rattle.gs_totals.specs.{Merged.{row_from}, declared.rows.Row.{Row}}
+use Rattle.gs_values.specs.{Rows.{AreModestClasses}, LaterRows.{row_from}}
+use Rattle.gs_totals.specs.declared.rows.Row.{Row}
 
 -- a row of round `to` or a later one lies inside its list, and its numbers are modest
 pub record IsLaterRow (f : Frame) (lists : ClassLists) (to : ℕ) (r : Row) : Type 0 where

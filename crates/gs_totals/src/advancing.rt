@@ -5,8 +5,8 @@ ghost use Rattle.gs_seq.specs.Abstracts.{abstract_frame, lists_of};
 ghost use Rattle.gs_totals.specs.{Jumps.{line}, Places.{AreEndLines, ArePointLines, AreSmallPoints, AreSmallRows}, Room.{HasRows}};
 
 use crate::places::{Totals, end_room};
-use gs_best::value_total;
 use gs_seq::{Abstract, plus, scaled};
+use gs_values::value_total;
 
 /// Returns a number plus `times` times a step.
 fn advanced(sum: i128, step: i128, times: u32) -> i128

@@ -2,9 +2,8 @@
 
 ghost use Rattle.std.specs.Prelude.{◌≤◌, length};
 ghost use Rattle.gs_model.specs.Frame.{point_count};
-ghost use Rattle.gs_best.specs.Tables.{start_of};
-ghost use Rattle.gs_totals.specs.{ClassTotals.{AreBestTotals, IsFollowed}, Room.{HasRows}};
-ghost use Rattle.gs_totals.specs.Roles.{ArePaid, IsOthers, role_frame, role_lists, moves_in, role_plan, totals_in};
+ghost use Rattle.gs_values.specs.{Tables.{start_of}, ClassTotals.{AreBestTotals, IsFollowed}};
+ghost use Rattle.gs_totals.specs.{Room.{HasRows}, Roles.{ArePaid, IsOthers, role_frame, role_lists, moves_in, role_plan, totals_in}};
 
 use crate::places::Totals;
 use crate::role::Role;

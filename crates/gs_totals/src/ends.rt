@@ -2,8 +2,8 @@
 
 ghost use Rattle.std.specs.Prelude.{◌≤◌, length};
 ghost use Rattle.gs_model.specs.Frame.{end_count};
-ghost use Rattle.gs_best.specs.Sizes.{IsWide};
-ghost use Rattle.gs_totals.specs.{Places.{AreEndSums, end_start}, Roles.{ArePaid, role_frame, role_lists, role_plan}, Room.{HasRows, HasScratch}};
+ghost use Rattle.gs_values.specs.{Places.{AreEndSums, end_start}, Rooms.{IsWide}};
+ghost use Rattle.gs_totals.specs.{Roles.{ArePaid, role_frame, role_lists, role_plan}, Room.{HasRows, HasScratch}};
 
 use crate::ledger::Ledger;
 use crate::paying::read_end;

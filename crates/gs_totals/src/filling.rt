@@ -2,13 +2,14 @@
 
 ghost use Rattle.std.specs.Prelude.{◌≡◌, ◌+◌, ◌<◌};
 ghost use Rattle.gs_model.specs.Frame.{point_count};
-ghost use Rattle.gs_totals.specs.{ClassTotals.{AreBestTotals}, Ledgers.{AreBestIn, IsReady}, Roles.{role_frame, role_lists, moves_in, role_plan, totals_in}};
+ghost use Rattle.gs_values.specs.ClassTotals.{AreBestTotals};
+ghost use Rattle.gs_totals.specs.{Ledgers.{AreBestIn, IsReady}, Roles.{role_frame, role_lists, moves_in, role_plan, totals_in}};
 
 use crate::ledger::Ledger;
 use crate::merging::merge_moves;
 use crate::places::{Scratch, Totals};
 use crate::point_row::PointRow;
-use gs_best::{copy_moves, copy_values};
+use gs_values::{copy_moves, copy_values};
 
 /// Sets the class totals and first best moves of a point, from the totals of all later points.
 fn fill_point(

@@ -2,14 +2,14 @@
 
 ghost use Rattle.std.specs.Prelude.{◌≡◌, ◌+◌, ◌<◌};
 ghost use Rattle.gs_model.specs.Frame.{point_count};
-ghost use Rattle.gs_totals.specs.{ClassTotals.{IsFollowed}, Ledgers.{AreFollowedIn, AreMoves, IsReady}};
-ghost use Rattle.gs_totals.specs.Roles.{role_frame, role_lists, moves_in, role_plan, totals_in};
+ghost use Rattle.gs_values.specs.ClassTotals.{IsFollowed};
+ghost use Rattle.gs_totals.specs.{Ledgers.{AreFollowedIn, AreMoves, IsReady}, Roles.{role_frame, role_lists, moves_in, role_plan, totals_in}};
 
 use crate::ledger::Ledger;
 use crate::merging::follow_moves;
 use crate::places::{Scratch, Totals};
 use crate::point_row::PointRow;
-use gs_best::copy_values;
+use gs_values::copy_values;
 
 /// Sets the class totals of a point for given moves, from the totals of all later points.
 fn follow_point(

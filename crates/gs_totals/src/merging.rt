@@ -2,13 +2,12 @@
 
 ghost use Rattle.std.specs.Prelude.{◌+◌, ◌<◌, ◌≤◌, length};
 ghost use Rattle.gs_model.specs.Frame.{move_count, point_count};
-ghost use Rattle.gs_best.specs.{Rows.{AreGreatest, AreSums, IsMerged}, Sizes.{IsWide}, Tables.{start_of}};
-ghost use Rattle.gs_totals.specs.{ClassTotals.{total_worth}, Merged.{AreChosen, AreTaken, IsFollowing}, PointRows.{totals_at}};
-ghost use Rattle.gs_totals.specs.Roles.{role_frame, role_lists, moves_in};
+ghost use Rattle.gs_values.specs.{Rows.{AreGreatest, AreSums, IsMerged}, Tables.{start_of}, ClassTotals.{total_worth}, Rooms.{IsWide}};
+ghost use Rattle.gs_totals.specs.{Merged.{AreChosen, AreTaken, IsFollowing}, PointRows.{totals_at}, Roles.{role_frame, role_lists, moves_in}};
 
 use crate::point_row::PointRow;
 use crate::rows::read_worths;
-use gs_best::{add, raise};
+use gs_values::{add, raise};
 
 /// Copies to `row` the worth of a move for each of the first `count` classes that has chosen it. `picks` has the classes' moves from place `start` on.
 fn take(worths: &[i128], choice: u8, count: usize, picks: &[u8], start: usize, row: &mut [i128])

@@ -3,7 +3,7 @@
 ghost use Rattle.std.specs.Prelude.{◌+◌, ◌<◌, ◌≤◌, length};
 ghost use Rattle.gs_model.specs.Frame.{end_count};
 ghost use Rattle.gs_seq.specs.Payoffs.{end_classes};
-ghost use Rattle.gs_best.specs.Sizes.{IsWide};
+ghost use Rattle.gs_values.specs.Rooms.{IsWide};
 ghost use Rattle.gs_totals.specs.{Ledgers.{IsPaidAt}, Roles.{role_frame, role_lists}};
 
 use crate::ledger::Ledger;

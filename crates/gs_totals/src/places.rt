@@ -3,11 +3,11 @@
 ghost use Rattle.std.specs.Prelude.{◌≡◌, ◌≤◌, IfOk, length};
 ghost use Rattle.gs_model.specs.Frame.{end_count, point_count};
 ghost use Rattle.gs_seq.specs.Abstracts.{abstract_frame, lists_of};
-ghost use Rattle.gs_best.specs.Tables.{start_of};
-ghost use Rattle.gs_totals.specs.{Places.{AreEndStarts, end_start}, Room.{HasRows, HasScratch, IsPlaced}};
+ghost use Rattle.gs_values.specs.{Tables.{start_of}, Places.{AreEndStarts, end_start}};
+ghost use Rattle.gs_totals.specs.Room.{HasRows, HasScratch, IsPlaced};
 
-use gs_best::{place_points, value_total, widest};
 use gs_seq::Abstract;
+use gs_values::{place_points, value_total, widest};
 use std::alloc::{AllocError, Global};
 
 /// The places where the rows of ends and of points start. A row has a number for each class of its round, and follows the row before.

@@ -2,8 +2,8 @@
 
 ghost use Rattle.std.specs.Prelude.{◌≡◌, ◌+◌, ◌<◌};
 ghost use Rattle.gs_model.specs.Frame.{point_count};
-ghost use Rattle.gs_best.specs.Tables.{classes_at, start_of};
-ghost use Rattle.gs_totals.specs.{Merged.{AreModestFrom}, Roles.{ArePaid, role_frame, role_lists, totals_in}, Room.{HasRows}};
+ghost use Rattle.gs_values.specs.{Tables.{classes_at, start_of}, LaterRows.{AreModestFrom}};
+ghost use Rattle.gs_totals.specs.{Roles.{ArePaid, role_frame, role_lists, totals_in}, Room.{HasRows}};
 
 use crate::ledger::Ledger;
 use crate::places::Totals;

@@ -3,7 +3,8 @@
 ghost use Rattle.std.specs.Prelude.{◌≡◌, ◌<◌, ◌≤◌, length};
 ghost use Rattle.gs_model.specs.Frame.{point_count};
 ghost use Rattle.gs_seq.specs.{Abstracts.{abstract_frame, lists_of}, Firsts.{IsClear}, Slots.{slot_count}};
-ghost use Rattle.gs_best.specs.{Puts.{ArePutBefore}, Tables.{AreInMoves, moves_of, start_of}};
+ghost use Rattle.gs_values.specs.Tables.{AreInMoves, moves_of, start_of};
+ghost use Rattle.gs_best.specs.Puts.{ArePutBefore};
 ghost use Rattle.gs_totals.specs.Room.{IsPlaced};
 
 use crate::places::Places;

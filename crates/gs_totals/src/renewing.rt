@@ -5,9 +5,9 @@ ghost use Rattle.gs_game.specs.Seen.{step_of};
 ghost use Rattle.gs_model.specs.{Classes.{IsClass}, Frame.{end_count, move_count, other_player, player_at, point_count, round_of}};
 ghost use Rattle.gs_model.specs.Positions.{at_end};
 ghost use Rattle.gs_seq.specs.{Abstracts.{abstract_frame, lists_of}, Payoffs.{end_classes, end_sum}, Slots.{plan_of, slot_count}};
-ghost use Rattle.gs_best.specs.Sizes.{IsWide};
-ghost use Rattle.gs_totals.specs.{Ledgers.{IsPaidAt}, Places.{AreEndSums, end_start}, Renewed.{AgreeAt, AreSameAt}};
-ghost use Rattle.gs_totals.specs.{Roles.{ArePaid, role_frame, role_lists, role_plan}, Room.{HasRows, HasScratch}};
+ghost use Rattle.gs_values.specs.{Places.{AreEndSums, end_start}, Rooms.{IsWide}};
+ghost use Rattle.gs_totals.specs.{Ledgers.{IsPaidAt}, Renewed.{AgreeAt, AreSameAt}, Roles.{ArePaid, role_frame, role_lists, role_plan}};
+ghost use Rattle.gs_totals.specs.Room.{HasRows, HasScratch};
 
 use crate::ledger::Ledger;
 use crate::paying::read_end;

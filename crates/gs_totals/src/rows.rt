@@ -3,9 +3,8 @@
 ghost use Rattle.std.specs.Prelude.{◌≡◌, ◌<◌, ◌≤◌, ℕ, pos, length, get_or};
 ghost use Rattle.gs_model.specs.{Classes.{class_count}, Frame.{leads_to, move_count, round_of}, Positions.{at_point}};
 ghost use Rattle.gs_seq.specs.Abstracts.{abstract_frame, lists_of};
-ghost use Rattle.gs_best.specs.{Rows.{AreWorths}, Sizes.{IsWide}};
-ghost use Rattle.gs_totals.specs.{ClassTotals.{total_worth}, Merged.{AreGathered}, PointRows.{totals_at}};
-ghost use Rattle.gs_totals.specs.{Roles.{role_frame, role_lists}, Rows.{IsLaterRow, IsRowOf}};
+ghost use Rattle.gs_values.specs.{Rows.{AreWorths}, ClassTotals.{total_worth}, LaterRows.{AreGathered}, Rooms.{IsWide}};
+ghost use Rattle.gs_totals.specs.{PointRows.{totals_at}, Roles.{role_frame, role_lists}, Rows.{IsLaterRow, IsRowOf}};
 
 use crate::point_row::PointRow;
 use gs_game::Target;

@@ -3,7 +3,7 @@
 ghost use Rattle.std.specs.Prelude.{ℕ, ◌≡◌, ◌≢◌, ◌+◌, ◌-◌, ◌/◌, ◌<◌, ◌≤◌, ◌^◌, ◌-ℤ◌, IsTrue, pos, length, get_or, slice_index};
 ghost use Rattle.std.specs.Prelude.{nat_lt, unsigned_abs};
 ghost use Rattle.gs_model.specs.Frame.{move_count, player_at, point_count};
-ghost use Rattle.gs_best.specs.Sizes.{IsWide};
+ghost use Rattle.gs_values.specs.Rooms.{IsWide};
 ghost use Rattle.gs_totals.specs.{Courses.{Lasts, LastsAt, StaysBehind}, Roles.{role_frame, role_lists}, Room.{HasScratch}};
 ghost use Rattle.gs_totals.specs.Lasting.{AreBehind, IsBehind, IsNotAhead, IsWithinGap};
 

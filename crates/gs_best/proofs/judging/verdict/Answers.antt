@@ -14,13 +14,13 @@ paid_is : (c : After-plans_pay-paid) → let f = abstract_frame c.args.form.now 
     to_z w128 (of_z w128 c.plans_pay-paid.result) ≡ raw_payoff f (lift f lists (class_plan f lists c.args.one.now)) (lift f lists (class_plan f lists c.args.two.now))
 paid_is c = to_z-of_z w128 c.plans_pay-paid.result (record { sfits = c.plans_pay-paid.type_inv }) ∙ c.plans_pay-paid.ensures.paid
 
-pub best_total-requires-clause-holds : goal.best_total-requires-clause-holds
-best_total-requires-clause-holds c =
+pub lay_out-requires : goal.lay_out-requires
+lay_out-requires c =
     let a = c.args.form.now in
     holds_all (abstract_frame a) (lists_of a) (form_walked a 1 (omega arith) (omega arith)) c.work.inside.table c.work.inside.scratch (subst (λ l. IsRoomy l c.work.inside.table c.work.inside.scratch) (c.work.view_is ∙ c.requires.room) c.work.invariant)
 
-pub best_total-requires-clause-room : goal.best_total-requires-clause-room
-best_total-requires-clause-room c = has_room (abstract_frame c.args.form.now) (lists_of c.args.form.now) c.work.inside.table c.work.inside.scratch (subst (λ l. IsRoomy l c.work.inside.table c.work.inside.scratch) (c.work.view_is ∙ c.requires.room) c.work.invariant)
+pub best_total-requires-clause-rows : goal.best_total-requires-clause-rows
+best_total-requires-clause-rows c = has_room (abstract_frame c.args.form.now) (lists_of c.args.form.now) c.work.inside.table c.work.inside.scratch (subst (λ l. IsRoomy l c.work.inside.table c.work.inside.scratch) (c.work.view_is ∙ c.requires.room) c.work.invariant)
 
 pub judged-requires-clause-paid : goal.judged-requires-clause-paid
 judged-requires-clause-paid c =
@@ -40,7 +40,7 @@ invariant_of-work c =
     let w1 = form_walked a 1 (omega arith) (omega arith) in
     let t = c.best_total-2.new.table in
     let s = c.plans_pay-paid.new.scratch in
-    subst (λ l. IsRoomy l t s) (sym (c.work.view_is ∙ c.requires.room)) (roomy f lists w1 t s c.best_total-2.ensures.holds c.plans_pay-paid.ensures.room)
+    subst (λ l. IsRoomy l t s) (sym (c.work.view_is ∙ c.requires.room)) (roomy f lists w1 t s c.best_total-2.ensures.laid.holds c.plans_pay-paid.ensures.room)
 
 pub returns-clause-verdict : goal.returns-clause-verdict
 returns-clause-verdict c =

@@ -1,7 +1,9 @@
 use Rattle.std.proofs.Common.{◌≡◌, ℕ, List, length, drop, sym, ap, subst, arith}
 use Rattle.gs_model.specs.Frame.{point_count}
-use Rattle.gs_best.specs.{Puts.{ArePutBefore}, Tables.{moves_of}}
-use Rattle.gs_best.proofs.{Filled.{written}, Sides.{frame, lists}}
+use Rattle.gs_values.specs.Tables.{moves_of}
+use Rattle.gs_values.proofs.Written.{written}
+use Rattle.gs_values.specs.Sides.{frame_at, lists_at}
+use Rattle.gs_best.specs.Puts.{ArePutBefore}
 use Rattle.gs_best.proofs.putting.best_weights.Goals as goal
 
 pub returns-clause-puts : goal.returns-clause-puts
@@ -10,5 +12,5 @@ returns-clause-puts c =
     let old = c.in_ok-weights.weights in
     let new = c.put_moves.new.weights in
     let full : length new ≡ old.len = omega (arith, c.put_moves.auto.weights, ap (λ (l : List ℕ). length l) c.deref_mut.ensures.value, old.ok.0) in
-    subst (λ l. ArePutBefore (frame d) (lists d) d.player (moves_of (frame d) (lists d) c.args.table.now.picks.items) l (point_count (frame d))) (sym (written old.len new (drop (length new) old.items) full))
-    (subst (λ l. ArePutBefore (frame d) (lists d) d.player (moves_of (frame d) (lists d) l) new (point_count (frame d))) c.deref-2.ensures.value c.put_moves.ensures)
+    subst (λ l. ArePutBefore (frame_at d) (lists_at d) d.player (moves_of (frame_at d) (lists_at d) c.args.table.now.picks.items) l (point_count (frame_at d))) (sym (written old.len new (drop (length new) old.items) full))
+    (subst (λ l. ArePutBefore (frame_at d) (lists_at d) d.player (moves_of (frame_at d) (lists_at d) l) new (point_count (frame_at d))) c.deref-2.ensures.value c.put_moves.ensures)

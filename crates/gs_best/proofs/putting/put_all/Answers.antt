@@ -1,27 +1,28 @@
 use Rattle.std.proofs.Common.{refl}
 use Rattle.gs_model.specs.BestAnswers.{IsFirstBestPlan}
-use Rattle.gs_seq.specs.Slots.{plan_of}
-use Rattle.gs_seq.proofs.Forms.{form_in_range}
-use Rattle.gs_best.specs.Tables.{moves_of, table_of}
-use Rattle.gs_best.proofs.{AllOn.{put_is_best, put_is_plan}, Sides.{against, classes, frame, lists, side_walked}}
+use Rattle.gs_seq.specs.{Plans.{lifted}, Slots.{plan_of}}
+use Rattle.gs_seq.proofs.Forms.{form_classes, form_in_range}
+use Rattle.gs_values.specs.Sides.{frame_at, lists_at, moves_at}
+use Rattle.gs_values.proofs.{MemberValues.{filled_best, filled_values}, Players.{walked}}
+use Rattle.gs_best.proofs.{AllOn.{put_is_best, put_is_plan}, putting.put_all.Goals.{In_ok-weights}}
 use Rattle.gs_best.proofs.putting.put_all.Goals as goal
+
+best : (c : In_ok-weights) → let s = c.args.side.now in
+    IsFirstBestPlan (frame_at s) (lists_at s) s.player (lifted (frame_at s) (lists_at s) s.other.now) (plan_of (frame_at s) (lists_at s) 1 c.in_ok-weights.weights.items)
+best c =
+    let s = c.args.side.now in
+    let t = c.args.table.now in
+    put_is_best (frame_at s) (lists_at s) s.player (lifted (frame_at s) (lists_at s) s.other.now) (filled_values s t c.requires.filled) (moves_at s t.picks.items)
+    c.in_ok-weights.weights.items (filled_best s t c.requires.filled) c.in_ok-weights.ensures.puts
 
 pub returns-clause-plan : goal.returns-clause-plan
 returns-clause-plan c =
-    let d = c.args.side.now in
-    let f = frame d in
-    let filled = c.requires.filled in
-    let t = c.args.table.now in
-    let weights = c.in_ok-weights.weights.items in
-    let best : IsFirstBestPlan f (lists d) d.player (against d) (plan_of f (lists d) 1 weights) =
-    put_is_best f (lists d) d.player (against d) (table_of f (lists d) d.player (against d) t.values.items) (moves_of f (lists d) t.picks.items) weights filled.best c.in_ok-weights.ensures.puts in
+    let s = c.args.side.now in
     record {
       player_is = refl;
-      plan = put_is_plan f (form_in_range d.form.now) (lists d) (classes d) d.player (side_walked d) (against d) weights c.in_ok-weights.ensures.long best;
+      plan = put_is_plan (frame_at s) (form_in_range s.form.now) (lists_at s) (form_classes s.form.now) s.player (walked s) (lifted (frame_at s) (lists_at s) s.other.now)
+          c.in_ok-weights.weights.items c.in_ok-weights.ensures.long (best (goal.at.returns-clause-plan c).In_ok-weights);
     }
 
 pub returns-clause-best : goal.returns-clause-best
-returns-clause-best c =
-    let d = c.args.side.now in
-    let t = c.args.table.now in
-    put_is_best (frame d) (lists d) d.player (against d) (table_of (frame d) (lists d) d.player (against d) t.values.items) (moves_of (frame d) (lists d) t.picks.items) c.in_ok-weights.weights.items c.requires.filled.best c.in_ok-weights.ensures.puts
+returns-clause-best c = best (goal.at.returns-clause-best c).In_ok-weights

@@ -2,7 +2,7 @@ use Rattle.std.proofs.{Common.{◌≡◌, ℕ, ◌+◌, sym, subst, arith, of_z,
 use Rattle.std.specs.{Int.{w128}, Int.Signed.{lt_z}}
 use Rattle.gs_model.specs.Classes.{IsClass}
 use Rattle.gs_seq.proofs.Signed.{read_back}
-use Rattle.gs_best.proofs.Sides.{frame, lists, values_in}
+use Rattle.gs_certificate.proofs.Sides.{frame, lists, values_in}
 use Rattle.gs_certificate.specs.Numbers.{IsHighForSum, IsLowForSum, TellsWhether}
 use Rattle.gs_certificate.proofs.{Shares.{compared}, others.others_low_at.Goals.{After-number_at}}
 use Rattle.gs_certificate.proofs.others.others_low_at.Goals as goal

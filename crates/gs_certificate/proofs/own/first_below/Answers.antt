@@ -1,5 +1,5 @@
 use Rattle.gs_game.specs.Seen.{target_of}
-use Rattle.gs_best.proofs.Sides.{frame, lists, values_in}
+use Rattle.gs_certificate.proofs.Sides.{frame, lists, values_in}
 use Rattle.gs_certificate.proofs.Below.{found_below, one_above}
 use Rattle.gs_certificate.proofs.own.first_below.Goals as goal
 

@@ -3,7 +3,7 @@ use Rattle.std.specs.Int.{w128}
 use Rattle.gs_game.specs.Seen.{target_of}
 use Rattle.gs_model.specs.{Frame.{round_of}, FrameFacts.{IsInside}, Positions.{at_point}}
 use Rattle.gs_seq.proofs.Signed.{read_back}
-use Rattle.gs_best.proofs.Sides.{against, frame, lists, values_in}
+use Rattle.gs_certificate.proofs.Sides.{against, frame, lists, values_in}
 use Rattle.gs_certificate.specs.Worths.{target_worth}
 use Rattle.gs_certificate.proofs.{Runs.{end_own, end_worth_is}, Shares.{compared, tells_same}, own.is_below.Goals.{After-number_at-number}}
 use Rattle.gs_certificate.proofs.own.is_below.Goals as goal

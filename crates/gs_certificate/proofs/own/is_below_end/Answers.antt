@@ -2,7 +2,7 @@ use Rattle.std.proofs.Common.{rules, ◌<◌, ◌^◌, sym, ap, subst, ◌∙◌
 use Rattle.std.specs.Prelude.{pos, ◌*ℤ◌, unsigned_abs}
 use Rattle.gs_model.specs.{BestAnswers.{end_worth}, Classes.{first_member}, Frame.{round_of}, Positions.{at_end}}
 use Rattle.gs_seq.proofs.Signed.{read_back}
-use Rattle.gs_best.proofs.Sides.{against, frame, lists}
+use Rattle.gs_certificate.proofs.Sides.{against, frame, lists}
 use Rattle.gs_certificate.proofs.{PlainTexts.{kept}, Shares.{share_tells, times_small}}
 use Rattle.gs_certificate.proofs.own.is_below_end.Goals as goal
 

@@ -1,7 +1,7 @@
 use Rattle.std.proofs.Common.{◌≡◌, ◌≤◌, ap, subst, ◌∙◌, arith}
 use Rattle.gs_game.specs.Seen.{target_of}
 use Rattle.gs_model.specs.{Classes.{class_count}, Frame.{move_count, round_of}, Positions.{at_point}}
-use Rattle.gs_best.proofs.Sides.{frame, lists, values_in}
+use Rattle.gs_certificate.proofs.Sides.{frame, lists, values_in}
 use Rattle.gs_certificate.proofs.{Below.{IsLeast, least_low, none_low, one_move}, own.own_low_at.Goals.{After-class_total-count, At-loop-choice}}
 use Rattle.gs_certificate.proofs.own.own_low_at.Goals as goal
 

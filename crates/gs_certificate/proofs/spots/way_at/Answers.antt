@@ -1,6 +1,6 @@
 use Rattle.std.proofs.Common.{refl, sym, ap, ◌∙◌, arith}
 use Rattle.gs_game.specs.Seen.{target_of}
-use Rattle.gs_best.proofs.Sides.{next_end, next_point}
+use Rattle.gs_values.proofs.Onward.{next_end, next_point}
 use Rattle.gs_certificate.proofs.spots.way_at.Goals as goal
 
 pub round_at-requires : goal.round_at-requires

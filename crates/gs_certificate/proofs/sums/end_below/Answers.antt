@@ -2,14 +2,15 @@ use Rattle.std.proofs.Common.{◌≡◌, ◌<◌, ℕ, ◌≤◌, sym, ap, subst
 use Rattle.std.specs.{Int.{w128}, Prelude.{unsigned_abs}}
 use Rattle.gs_model.specs.{BestAnswers.{end_worth}, Classes.{IsClass, first_member}, Frame.{end_count, last_round, round_of, signal_count}, Positions.{at_end}}
 use Rattle.gs_seq.proofs.{Signed.{read_back}, Forms.{form_signals}}
-use Rattle.gs_best.proofs.{Ranges.{run_is}, Sides.{against, frame, lists, side_walked}}
-use Rattle.gs_best.specs.declared.deviator.Deviator.{Deviator}
+use Rattle.gs_values.specs.declared.side.Side.{Side}
+use Rattle.gs_values.proofs.Ranges.{run_is}
+use Rattle.gs_certificate.proofs.Sides.{against, frame, lists, side_walked}
 use Rattle.gs_certificate.specs.Worths.{sum_below, worth_at}
 use Rattle.gs_certificate.proofs.{Ends.{end_small}, Runs.{end_own, run_small, worth_small}, sums.end_below.Goals.{After-share_of}}
 use Rattle.gs_certificate.proofs.sums.end_below.Goals as goal
 
 -- the end's round is one of the game's
-round_in : (d : Deviator) (z to : ℕ) → z < end_count (frame d) → to ≡ round_of (frame d) (at_end z) → to ≤ last_round (frame d)
+round_in : (d : Side) (z to : ℕ) → z < end_count (frame d) → to ≡ round_of (frame d) (at_end z) → to ≤ last_round (frame d)
 round_in d z to l e = let top = (side_walked d).end_in z l in omega (arith, top, e)
 
 pub share_of-requires-clause-class : goal.share_of-requires-clause-class

@@ -5,7 +5,8 @@ use Rattle.gs_lossless.specs.declared.checking.Lossless.{Lossless}
 use Rattle.gs_model.specs.{BestAnswers.{end_worth}, Classes.{IsClass, class_size, first_member}, Frame.{round_of}, Positions.{at_end}}
 use Rattle.gs_seq.specs.Plans.{class_plan}
 use Rattle.gs_seq.proofs.{Signed.{read_back}, Forms.{form_in_range, form_lossless}}
-use Rattle.gs_best.proofs.{Shares.{end_share, some_member}, Sides.{against, classes, frame, lists, side_walked}}
+use Rattle.gs_values.proofs.Shares.{end_share, some_member}
+use Rattle.gs_certificate.proofs.Sides.{against, classes, frame, lists, side_walked}
 use Rattle.gs_certificate.proofs.sums.paid_together.Goals.{After-size-members}
 use Rattle.gs_certificate.proofs.sums.paid_together.Goals as goal
 

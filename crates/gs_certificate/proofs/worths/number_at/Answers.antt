@@ -2,8 +2,9 @@ use Rattle.std.proofs.{Common.{◌≡◌, ◌+◌, ◌-◌, get_or, ap, subst, �
 use Rattle.std.specs.{Prelude.{pos, unsigned_abs}, Int.RustNames.{FitsSigned}}
 use mir.Syntax.{w128}
 use Rattle.gs_model.specs.{Classes.{IsClass}, Frame.{point_count}}
-use Rattle.gs_best.specs.Tables.{start_of}
-use Rattle.gs_best.proofs.{Sides.{frame, lists}, Starts.{place_before}}
+use Rattle.gs_values.specs.Tables.{start_of}
+use Rattle.gs_values.proofs.PointStarts.{place_before}
+use Rattle.gs_certificate.proofs.Sides.{frame, lists}
 use Rattle.gs_certificate.proofs.worths.number_at.Goals as goal
 
 pub bounds-values-spot : goal.bounds-values-spot

@@ -3,14 +3,16 @@ use Rattle.std.specs.{Prelude.{pos, unsigned_abs}, Int.RustNames.{FitsSigned}}
 use mir.Syntax.{w128}
 use Rattle.gs_model.specs.{Classes.{IsClass, class_count, first_member}, Frame.{point_count, round_of, signal_count}, Positions.{at_point}}
 use Rattle.gs_seq.proofs.Forms.{form_signals}
-use Rattle.gs_best.specs.{Rows.{value_at}, Tables.{start_of}, declared.deviator.Deviator.{Deviator}}
-use Rattle.gs_best.proofs.{Ranges.{run_is}, Sides.{frame, lists}, Starts.{place_before, starts_le, starts_more}}
+use Rattle.gs_values.specs.{Tables.{start_of}, declared.side.Side.{Side}}
+use Rattle.gs_values.proofs.{Ranges.{run_is}, PointStarts.{place_before, starts_le, starts_more}}
+use Rattle.gs_certificate.specs.Worths.{value_at}
+use Rattle.gs_certificate.proofs.Sides.{frame, lists}
 use Rattle.gs_certificate.specs.Worths.{sum_below}
 use Rattle.gs_certificate.proofs.Runs.{number_own, run_small, value_small}
 use Rattle.gs_certificate.proofs.worths.numbers_below.Goals as goal
 
 -- the place of a class's number, in its own round
-within : (d : Deviator) (next class from : ℕ) → next < point_count (frame d) → from ≡ round_of (frame d) (at_point next) → IsClass (lists d) from class
+within : (d : Side) (next class from : ℕ) → next < point_count (frame d) → from ≡ round_of (frame d) (at_point next) → IsClass (lists d) from class
     → start_of (frame d) (lists d) next + (class - 1) < start_of (frame d) (lists d) (point_count (frame d))
 within d next class from l e lc = place_before (frame d) (lists d) next class (point_count (frame d)) (subst (λ j. IsClass (lists d) j class) e lc) l
 

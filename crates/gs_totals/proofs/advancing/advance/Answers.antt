@@ -2,7 +2,7 @@ use Rattle.std.proofs.Common.{◌++◌, List, drop, length, take, ap, arith}
 use Rattle.std.specs.Prelude.{ℤ}
 use Rattle.gs_model.specs.Frame.{end_count, point_count}
 use Rattle.gs_seq.specs.{Abstracts.{abstract_frame, lists_of}, Payoffs.{end_classes}}
-use Rattle.gs_best.specs.Tables.{classes_at}
+use Rattle.gs_values.specs.Tables.{classes_at}
 use Rattle.gs_totals.specs.Places.{AreEndLines}
 use Rattle.gs_totals.proofs.{Lines.{lines_written, small_places}, advancing.advance.Goals.{After-advance_first}}
 use Rattle.gs_totals.proofs.advancing.advance.Goals as goal

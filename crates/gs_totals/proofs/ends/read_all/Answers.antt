@@ -1,7 +1,7 @@
 use Rattle.std.proofs.Common.{arith}
 use Rattle.gs_model.specs.Frame.{end_count}
 use Rattle.gs_seq.specs.Payoffs.{end_classes}
-use Rattle.gs_best.proofs.Placed.{IsRow}
+use Rattle.gs_values.proofs.Placed.{IsRow}
 use Rattle.gs_totals.specs.Roles.{role_frame, role_lists}
 use Rattle.gs_totals.proofs.{PlacedRows.{paid_more, row_of_end}, ends.read_all.Goals.{After-index}}
 use Rattle.gs_totals.proofs.ends.read_all.Goals as goal

@@ -2,7 +2,8 @@ use Rattle.std.proofs.Common.{◌≡◌, ℕ, ◌+◌, ◌-◌, ◌<◌, get_or}
 use Rattle.std.specs.Prelude.{pos}
 use Rattle.gs_model.specs.{Classes.{IsClass}, Frame.{round_of}, Positions.{at_end}}
 use Rattle.gs_seq.specs.Payoffs.{end_sum}
-use Rattle.gs_totals.specs.{Places.{end_start}, Roles.{role_frame, role_lists, role_plan}}
+use Rattle.gs_values.specs.Places.{end_start}
+use Rattle.gs_totals.specs.Roles.{role_frame, role_lists, role_plan}
 use Rattle.gs_totals.proofs.ends.read_all.Given as goal
 
 abbrev pub invariant-loop-end : goal.invariant-loop-end

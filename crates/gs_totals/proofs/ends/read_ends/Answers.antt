@@ -1,5 +1,6 @@
-use Rattle.gs_totals.specs.{Places.{AreEndSums}, Roles.{role_frame, role_lists, role_plan}}
-use Rattle.gs_totals.proofs.Slices.{kept_through}
+use Rattle.gs_values.specs.Places.{AreEndSums}
+use Rattle.gs_values.proofs.Slices.{kept_through}
+use Rattle.gs_totals.specs.Roles.{role_frame, role_lists, role_plan}
 use Rattle.gs_totals.proofs.ends.read_ends.Goals as goal
 
 pub returns-clause-paid : goal.returns-clause-paid

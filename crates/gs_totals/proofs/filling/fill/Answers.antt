@@ -1,6 +1,6 @@
 use Rattle.std.proofs.Common.{◌≡◌, ◌+◌, ◌-◌, sym, subst, arith}
+use Rattle.gs_values.proofs.Stepping.{all_best}
 use Rattle.gs_totals.specs.{Ledgers.{AreBestIn}, Roles.{role_frame, role_lists, moves_in, role_plan}}
-use Rattle.gs_totals.proofs.Stepping.{all_best}
 use Rattle.gs_totals.proofs.filling.fill.Goals as goal
 
 pub returns-clause-best : goal.returns-clause-best

@@ -1,11 +1,10 @@
 use Rattle.std.proofs.Common.{◌≡◌, ℕ, ◌+◌, ◌-◌, ◌≤◌, ◌++◌, List, length, get_or, drop, take, sym, ap, ◌∙◌, subst, arith}
 use Rattle.std.specs.Prelude.{ℤ, pos}
 use Rattle.gs_model.specs.Frame.{point_count}
-use Rattle.gs_best.specs.{Rows.{IsCopied, IsMerged}, Tables.{classes_at, start_of}}
-use Rattle.gs_best.proofs.Placed.{IsRow, row_later}
-use Rattle.gs_totals.specs.{ClassTotals.{total_worth}, Roles.{role_frame, role_lists, moves_in, role_plan, totals_in}, Places.{AreBestFrom}}
+use Rattle.gs_values.specs.{Rows.{IsCopied, IsMerged}, Tables.{classes_at, start_of}, ClassTotals.{total_worth}, Places.{AreBestFrom}}
+use Rattle.gs_values.proofs.{Placed.{IsRow, row_later}, Slices.{kept_through, long_through, through, wide_through}, Stepping.{best_back}}
+use Rattle.gs_totals.specs.Roles.{role_frame, role_lists, moves_in, role_plan, totals_in}
 use Rattle.gs_totals.proofs.{Known.{known_modest}, PointRows.{carried, row_of, wide_of}, Sides.{walked}}
-use Rattle.gs_totals.proofs.{Slices.{kept_through, long_through, through, wide_through}, Stepping.{best_back}}
 use Rattle.gs_totals.proofs.filling.fill_point.Goals.{After-of-at, After-merge_moves}
 use Rattle.gs_totals.proofs.filling.fill_point.Goals as goal
 

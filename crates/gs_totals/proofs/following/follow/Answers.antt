@@ -1,6 +1,6 @@
 use Rattle.std.proofs.Common.{◌≡◌, ◌+◌, ◌-◌, sym, subst, arith}
+use Rattle.gs_values.proofs.Stepping.{all_followed}
 use Rattle.gs_totals.specs.{Ledgers.{AreFollowedIn}, Roles.{role_frame, role_lists, moves_in, role_plan}}
-use Rattle.gs_totals.proofs.Stepping.{all_followed}
 use Rattle.gs_totals.proofs.following.follow.Goals as goal
 
 pub returns-clause-followed : goal.returns-clause-followed

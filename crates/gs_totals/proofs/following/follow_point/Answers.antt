@@ -1,11 +1,10 @@
 use Rattle.std.proofs.Common.{◌≡◌, ◌+◌, ◌≤◌, ◌++◌, List, length, drop, take, refl, sym, ap, ◌∙◌, subst, arith}
 use Rattle.std.specs.Prelude.{ℤ, pos}
 use Rattle.gs_model.specs.Frame.{point_count}
-use Rattle.gs_best.specs.{Rows.{IsCopied}, Tables.{classes_at}}
-use Rattle.gs_best.proofs.Placed.{IsRow}
-use Rattle.gs_totals.specs.{Roles.{role_frame, role_lists, moves_in, role_plan, totals_in}, Merged.{IsFollowing}, Places.{IsFollowedFrom}}
+use Rattle.gs_values.specs.{Rows.{IsCopied}, Tables.{classes_at}, Places.{IsFollowedFrom}}
+use Rattle.gs_values.proofs.{Placed.{IsRow}, Slices.{kept_through, long_through, through, wide_through}, Stepping.{following_back}}
+use Rattle.gs_totals.specs.{Roles.{role_frame, role_lists, moves_in, role_plan, totals_in}, Merged.{IsFollowing}}
 use Rattle.gs_totals.proofs.{Known.{known_modest}, PointRows.{carried, row_of, wide_of}, Sides.{walked}}
-use Rattle.gs_totals.proofs.{Slices.{kept_through, long_through, through, wide_through}, Stepping.{following_back}}
 use Rattle.gs_totals.proofs.following.follow_point.Goals.{After-of-at, After-follow_moves}
 use Rattle.gs_totals.proofs.following.follow_point.Goals as goal
 
@@ -65,4 +64,4 @@ returns-clause-followed c =
     (subst (λ l. IsCopied (pos 0) start count c.deref.result.now l values) c.deref_mut-3.ensures.value c.copy_values.ensures) in
     kept_through old _ values c.deref_mut-3.ensures.value c.copy_values.auto.values (λ l. IsFollowedFrom (role_frame k) (role_lists k) k.player (totals_in k other l) move c.args.point)
     (following_back (role_frame k) (role_lists k) k.player (walked k) (role_plan k other) old.items values c.args.point start count c.requires.point r.start_is r.count_is c.follow_moves.new.row copied move move (λ p e lo le. refl) (λ own e le. c.requires.moves c.args.point e c.requires.point own le)
-    (following at.After-follow_moves) c.requires.later)
+    (λ own e le. (following at.After-follow_moves).own own e le (c.requires.moves c.args.point e c.requires.point own le)) (following at.After-follow_moves).others c.requires.later)

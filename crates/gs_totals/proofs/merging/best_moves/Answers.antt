@@ -1,8 +1,8 @@
 use Rattle.std.proofs.Common.{◌≡◌, ◌<◌, subst, arith}
 use Rattle.gs_model.specs.Frame.{move_count}
-use Rattle.gs_best.specs.Rows.{AreGreatest}
-use Rattle.gs_best.proofs.Greatest.{greatest_step}
-use Rattle.gs_totals.specs.{ClassTotals.{total_worth}, Roles.{role_frame, role_lists}, PointRows.{totals_at}}
+use Rattle.gs_values.specs.{Rows.{AreGreatest}, ClassTotals.{total_worth}}
+use Rattle.gs_values.proofs.Greatest.{greatest_step}
+use Rattle.gs_totals.specs.{Roles.{role_frame, role_lists}, PointRows.{totals_at}}
 use Rattle.gs_totals.proofs.merging.best_moves.Goals as goal
 
 pub read_worths-read-requires-clause-wide : goal.read_worths-read-requires-clause-wide

@@ -1,7 +1,8 @@
 use Rattle.std.proofs.Common.{◌*◌, ◌^◌, ◌<◌, arith}
 use Rattle.gs_model.specs.Frame.{move_count}
-use Rattle.gs_best.proofs.Greatest.{sum_fits, sum_step}
-use Rattle.gs_totals.specs.{ClassTotals.{total_worth}, Roles.{role_frame, role_lists}, PointRows.{totals_at}}
+use Rattle.gs_values.specs.ClassTotals.{total_worth}
+use Rattle.gs_values.proofs.Greatest.{sum_fits, sum_step}
+use Rattle.gs_totals.specs.{Roles.{role_frame, role_lists}, PointRows.{totals_at}}
 use Rattle.gs_totals.proofs.Known.{worth_modest, worths_modest}
 use Rattle.gs_totals.proofs.merging.sum_moves.Goals as goal
 

@@ -1,6 +1,6 @@
 use Rattle.std.proofs.Common.{◌<◌}
-use Rattle.gs_best.specs.Rows.{AreSums}
-use Rattle.gs_totals.specs.{ClassTotals.{total_worth}, Roles.{role_frame, role_lists}, PointRows.{totals_at}}
+use Rattle.gs_values.specs.{Rows.{AreSums}, ClassTotals.{total_worth}}
+use Rattle.gs_totals.specs.{Roles.{role_frame, role_lists}, PointRows.{totals_at}}
 use Rattle.gs_totals.proofs.merging.sum_moves.Given as goal
 
 abbrev pub invariant-loop-choice : goal.invariant-loop-choice

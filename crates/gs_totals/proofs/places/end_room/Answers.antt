@@ -1,8 +1,8 @@
 use Rattle.std.proofs.Common.{◌≡◌, ◌+◌, ap, ◌∙◌, arith}
 use Rattle.gs_model.specs.Classes.{class_count}
 use Rattle.gs_seq.specs.{Abstracts.{abstract_frame, lists_of}, Payoffs.{end_classes}}
-use Rattle.gs_best.proofs.Placed.{row_next}
-use Rattle.gs_totals.specs.Places.{end_start}
+use Rattle.gs_values.specs.Places.{end_start}
+use Rattle.gs_values.proofs.Placed.{row_next}
 use Rattle.gs_totals.proofs.{EndStarts.{end_starts_few}, places.end_room.Goals.{After-class_total-total}}
 use Rattle.gs_totals.proofs.places.end_room.Goals as goal
 

@@ -1,6 +1,6 @@
 use Rattle.std.proofs.Common.{◌≡◌, ℕ, ◌<◌, get_or}
 use Rattle.gs_seq.specs.Abstracts.{abstract_frame, lists_of}
-use Rattle.gs_totals.specs.Places.{end_start}
+use Rattle.gs_values.specs.Places.{end_start}
 use Rattle.gs_totals.proofs.places.place_ends.Given as goal
 
 abbrev pub invariant-loop-end : goal.invariant-loop-end

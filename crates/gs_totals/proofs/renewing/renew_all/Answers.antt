@@ -2,8 +2,9 @@ use Rattle.std.proofs.Common.{◌≡◌, ◌+◌, ◌-◌, ◌≤◌, get_or, ap
 use Rattle.std.specs.Prelude.{pos}
 use Rattle.gs_model.specs.Frame.{end_count}
 use Rattle.gs_seq.specs.Payoffs.{end_classes}
-use Rattle.gs_best.proofs.Placed.{IsRow}
-use Rattle.gs_totals.specs.{Places.{end_start}, Roles.{role_frame, role_lists}}
+use Rattle.gs_values.specs.Places.{end_start}
+use Rattle.gs_values.proofs.Placed.{IsRow}
+use Rattle.gs_totals.specs.Roles.{role_frame, role_lists}
 use Rattle.gs_totals.proofs.{EndStarts.{end_starts_le, end_starts_more}, PlacedRows.{paid_more, row_of_end}, renewing.renew_all.Goals.{After-index}}
 use Rattle.gs_totals.proofs.renewing.renew_all.Goals as goal
 

@@ -1,7 +1,8 @@
 use Rattle.std.proofs.Common.{sym, subst}
 use Rattle.gs_seq.specs.Slots.{plan_of}
-use Rattle.gs_totals.specs.{Places.{AreEndSums}, Roles.{role_frame, role_lists, role_plan}}
-use Rattle.gs_totals.proofs.Slices.{kept_through}
+use Rattle.gs_values.specs.Places.{AreEndSums}
+use Rattle.gs_values.proofs.Slices.{kept_through}
+use Rattle.gs_totals.specs.Roles.{role_frame, role_lists, role_plan}
 use Rattle.gs_totals.proofs.renewing.renew_ends.Goals as goal
 
 pub renew_all-requires-clause-paid : goal.renew_all-requires-clause-paid

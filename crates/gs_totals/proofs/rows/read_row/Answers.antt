@@ -1,7 +1,7 @@
 use Rattle.std.proofs.Common.{arith}
 use Rattle.gs_seq.specs.Abstracts.{abstract_frame, lists_of}
 use Rattle.gs_seq.proofs.Forms.{form_classes, form_in_range}
-use Rattle.gs_totals.proofs.Itself.{row_gathers}
+use Rattle.gs_values.proofs.Itself.{row_gathers}
 use Rattle.gs_totals.proofs.rows.read_row.Goals as goal
 
 pub returns-then-row-to-clause-gathered : goal.returns-then-row-to-clause-gathered

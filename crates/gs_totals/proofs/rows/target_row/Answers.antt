@@ -3,10 +3,10 @@ use Rattle.std.specs.Prelude.{ℤ}
 use Rattle.gs_game.specs.Seen.{target_of}
 use Rattle.gs_model.specs.{Classes.{class_count}, Frame.{end_count, leads_to, point_count}, Positions.{at_end, at_point}}
 use Rattle.gs_seq.specs.Payoffs.{end_classes}
-use Rattle.gs_best.specs.Tables.{classes_at}
-use Rattle.gs_best.proofs.{Placed.{IsRow}, Sides.{IsNextEnd, IsNextPoint, next_end, next_point}}
+use Rattle.gs_values.specs.Tables.{classes_at}
+use Rattle.gs_values.proofs.{Onward.{IsNextEnd, IsNextPoint, next_end, next_point}, Placed.{IsRow}}
 use Rattle.gs_totals.specs.Roles.{role_frame, role_lists}
-use Rattle.gs_totals.proofs.{PlacedRows.{end_row, point_row}, PointRows.{held_at_end, held_at_point, later_row}, Sides.{deviator}}
+use Rattle.gs_totals.proofs.{PlacedRows.{end_row, point_row}, PointRows.{held_at_end, held_at_point, later_row}, Sides.{side_of}}
 use Rattle.gs_totals.proofs.rows.target_row.Goals.{In-Point, In-End, After-index, After-index-in-End}
 use Rattle.gs_totals.proofs.rows.target_row.Goals as goal
 
@@ -14,22 +14,22 @@ use Rattle.gs_totals.proofs.rows.target_row.Goals as goal
 to_point : (c : In-Point) → leads_to (role_frame c.args.at.now.ledger.role) c.args.at.now.point c.args.choice ≡ at_point c.in-Point.next
 to_point c = sym c.target_at.ensures ∙ ap target_of c.in-Point.is
 
-next : (c : In-Point) → IsNextPoint (deviator c.args.at.now.ledger) c.args.at.now.point c.in-Point.next
-next c = next_point (deviator c.args.at.now.ledger) c.args.at.now.point c.args.choice c.in-Point.next c.args.at.now.inside c.requires (to_point c)
+next : (c : In-Point) → IsNextPoint (side_of c.args.at.now.ledger) c.args.at.now.point c.in-Point.next
+next c = next_point (side_of c.args.at.now.ledger) c.args.at.now.point c.args.choice c.in-Point.next c.args.at.now.inside c.requires (to_point c)
 
 -- the end to which it leads
 to_end : (c : In-End) → leads_to (role_frame c.args.at.now.ledger.role) c.args.at.now.point c.args.choice ≡ at_end c.in-End.end
 to_end c = sym c.target_at.ensures ∙ ap target_of c.in-End.is
 
-end : (c : In-End) → IsNextEnd (deviator c.args.at.now.ledger) c.args.at.now.point c.in-End.end
-end c = next_end (deviator c.args.at.now.ledger) c.args.at.now.point c.args.choice c.in-End.end c.args.at.now.inside c.requires (to_end c)
+end : (c : In-End) → IsNextEnd (side_of c.args.at.now.ledger) c.args.at.now.point c.in-End.end
+end c = next_end (side_of c.args.at.now.ledger) c.args.at.now.point c.args.choice c.in-End.end c.args.at.now.inside c.requires (to_end c)
 
 -- their rows
-point : (c : After-index) → IsNextPoint (deviator c.args.at.now.ledger) c.args.at.now.point c.in-Point.next
+point : (c : After-index) → IsNextPoint (side_of c.args.at.now.ledger) c.args.at.now.point c.in-Point.next
     → let k = c.args.at.now.ledger.role in IsRow (classes_at (role_frame k) (role_lists k)) (point_count (role_frame k)) c.in-Point.next c.index.result.now (class_count (role_lists k) c.round_at.result)
 point c n = let k = c.args.at.now.ledger.role in point_row (role_frame k) (role_lists k) k.places.now k.placed c.in-Point.next _ _ n.inside c.index.ensures (ap (class_count (role_lists k)) c.round_at.ensures.value)
 
-paid : (c : After-index-in-End) → IsNextEnd (deviator c.args.at.now.ledger) c.args.at.now.point c.in-End.end
+paid : (c : After-index-in-End) → IsNextEnd (side_of c.args.at.now.ledger) c.args.at.now.point c.in-End.end
     → let k = c.args.at.now.ledger.role in IsRow (end_classes (role_frame k) (role_lists k)) (end_count (role_frame k)) c.in-End.end c.index-in-End.result.now (class_count (role_lists k) c.end_round.result)
 paid c n = let k = c.args.at.now.ledger.role in end_row (role_frame k) (role_lists k) k.places.now k.placed c.in-End.end _ _ n.inside c.index-in-End.ensures (ap (class_count (role_lists k)) c.end_round.ensures.value)
 

@@ -1,9 +1,9 @@
 use Rattle.std.proofs.Common.{◌+◌, ◌<◌, List, length, sym, ap, subst, arith}
 use Rattle.std.specs.Prelude.{ℤ}
 use Rattle.gs_model.specs.Frame.{move_count, point_count}
-use Rattle.gs_best.specs.{Rows.{AreWorths}, Sizes.{IsWide}, Tables.{classes_at}}
-use Rattle.gs_best.proofs.Placed.{IsRow}
-use Rattle.gs_totals.specs.{ClassTotals.{total_worth}, Courses.{totals_added, totals_now}, Roles.{role_frame, role_lists, totals_in}}
+use Rattle.gs_values.specs.{Rows.{AreWorths}, Tables.{classes_at}, ClassTotals.{total_worth}, Rooms.{IsWide}}
+use Rattle.gs_values.proofs.Placed.{IsRow}
+use Rattle.gs_totals.specs.{Courses.{totals_added, totals_now}, Roles.{role_frame, role_lists, totals_in}}
 use Rattle.gs_totals.proofs.CourseLaws.{added_modest, all_ahead, all_behind, all_gains, all_gaps, each_behind, now_modest, once_behind}
 use Rattle.gs_totals.proofs.{PointRows.{brought, carried, row_of}, staying.lasting_move.Goals.{After-of-now, After-read_worths-worth, After-read_worths-rise}}
 use Rattle.gs_totals.proofs.staying.lasting_move.Goals as goal

@@ -1,7 +1,8 @@
 use Rattle.std.proofs.{Common.{◌≡◌, ℕ, ◌+◌, ◌<◌, sym, subst, arith, ⊎_elim}, lemmas.Bool.{cases_eq}}
 use Rattle.gs_model.specs.Frame.{move_count}
+use Rattle.gs_values.proofs.Slices.{wide_through}
 use Rattle.gs_totals.specs.{Courses.{StaysBehind}, Roles.{role_frame, role_lists}}
-use Rattle.gs_totals.proofs.{Behind.{greatest_with, lasts_by, stays_by, stays_less}, Slices.{wide_through}}
+use Rattle.gs_totals.proofs.Behind.{greatest_with, lasts_by, stays_by, stays_less}
 use Rattle.gs_totals.proofs.staying.lasting_point.Goals as goal
 
 pub loop-choice-preserved : goal.loop-choice-preserved

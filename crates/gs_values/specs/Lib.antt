@@ -1,0 +1,11 @@
+pub mod Tables
+pub mod Rows
+pub mod ClassTotals
+pub mod Places
+pub mod LaterRows
+pub mod Rooms
+pub mod Sides
+pub mod Spots
+pub mod Runs
+pub mod Claims
+pub mod Filled
