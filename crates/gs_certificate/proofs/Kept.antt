@@ -5,8 +5,7 @@ use Rattle.std.specs.Prelude.{ℤ, pos}
 use Rattle.gs_model.specs.{Classes.{ClassLists, IsClass}, Frame.{Frame, round_of}, Plans.{IsClassPlan, Plan}, Positions.{at_end}}
 use Rattle.gs_seq.specs.{Payoffs.{end_classes, end_sum}, Plans.{class_plan}, Abstracts.{game_in}}
 use Rattle.gs_seq.proofs.Forms.{AreGiven, given, form_classes}
-use Rattle.gs_values.specs.declared.side.Side.{Side}
-use Rattle.gs_certificate.proofs.Sides.{frame, lists}
+use Rattle.gs_values.specs.{Sides.{frame_at, lists_at}, declared.side.Side.{Side}}
 use Rattle.gs_certificate.specs.Paid.{AreKept}
 
 module _ (f : Frame) (lists : ClassLists) (player : ℕ) (y : Plan) where
@@ -44,11 +43,11 @@ module _ (f : Frame) (lists : ClassLists) (player : ℕ) (y : Plan) where
       }
 
 -- the other's plan is player 2's
-pub other_plan : (d : Side) → d.player ≡ 1 → IsClassPlan (frame d) (lists d) 2 (class_plan (frame d) (lists d) d.other.now)
+pub other_plan : (d : Side) → d.player ≡ 1 → IsClassPlan (frame_at d) (lists_at d) 2 (class_plan (frame_at d) (lists_at d) d.other.now)
 other_plan d e =
     let two : 3 - d.player ≡ 2 = omega (arith, e) in
-    subst (λ p. IsClassPlan (frame d) (lists d) p (class_plan (frame d) (lists d) d.other.now)) two d.plan.plan.plan
+    subst (λ p. IsClassPlan (frame_at d) (lists_at d) p (class_plan (frame_at d) (lists_at d) d.other.now)) two d.plan.plan.plan
 
 -- what the laws ask of the game and its classes
-pub side_given : (d : Side) → AreGiven (frame d) (lists d)
-side_given d = given (game_in d.form.now) (frame d) (lists d) refl (form_classes d.form.now)
+pub side_given : (d : Side) → AreGiven (frame_at d) (lists_at d)
+side_given d = given (game_in d.form.now) (frame_at d) (lists_at d) refl (form_classes d.form.now)

@@ -2,7 +2,7 @@
 use Rattle.std.specs.Prelude.{ℕ, ◌+◌, ◌-◌, ◌<◌, ◌≤◌, ◌≡◌, List, get_or, length, ℤ, pos}
 use Rattle.gs_model.specs.{Classes.{ClassLists, IsClass}, Frame.{Frame, end_count, round_of}, Plans.{Plan}, Positions.{at_end}}
 use Rattle.gs_seq.specs.Payoffs.{end_classes, end_sum}
-use Rattle.gs_certificate.specs.declared.tables.EndSums.{EndSums}
+use Rattle.gs_certificate.specs.declared.ends.EndSums.{EndSums}
 
 -- For each of the first `count` ends, `sums` has what the end pays a player at each class of its round, against the other's plan y over classes.
 -- `starts` has the place of each end's first class.

@@ -1,19 +1,36 @@
-//! Points whose numbers are checked, and where their moves lead.
+//! A point whose numbers are checked, and where its moves lead.
 
-use gs_game::Target;
+ghost use Rattle.std.specs.Prelude.{◌≡◌, ◌<◌};
+ghost use Rattle.gs_game.specs.Seen.{target_of};
+ghost use Rattle.gs_model.specs.{Frame.{point_count, round_of}, Positions.{at_point}};
+ghost use Rattle.gs_values.specs.{Sides.{frame_at, lists_at}, Tables.{start_of}};
+ghost use Rattle.gs_certificate.specs.Claims.{AreWays};
 
-/// A point, its round, and the place of its first number.
+use crate::claim::Claim;
+use crate::way::{Way, way_from};
+
+/// A point whose numbers are checked.
 #[derive(Clone, Copy)]
-pub(crate) struct Spot {
+pub(crate) struct Spot<'a> {
+    pub(crate) claim: Claim<'a>,
     pub(crate) point: u32,
-    pub(crate) round: u8,
-    pub(crate) start: u32,
+    pub(crate) here: Way,
+    pub(crate) ghost inside: { point < point_count (frame_at claim.side) },
+    pub(crate) ghost to_is: { target_of here.to ≡ at_point point },
+    pub(crate) ghost round_is: { here.round ≡ round_of (frame_at claim.side) (at_point point) },
+    pub(crate) ghost place_is: { here.place ≡ start_of (frame_at claim.side) (lists_at claim.side) point },
 }
 
-/// Where a move leads, the round there, and for a point the place of its first number.
-#[derive(Clone, Copy)]
-pub(crate) struct Way {
-    pub(crate) to: Target,
-    pub(crate) round: u8,
-    pub(crate) place: u32,
+/// Returns where each move of a point leads.
+#[inline(always)]
+pub(crate) fn ways_of(spot: &Spot<'_>) -> [Way; 26]
+    ensures { let s = spot.now.claim.side in AreWays (frame_at s) (lists_at s) spot.now.point result }
+{
+    let form = spot.claim.side.form;
+    let mut ways = [spot.here; 26];
+    for choice in 0..form.move_total(spot.point) {
+        let to = form.target_at(spot.point, choice);
+        ways[usize::from(choice)] = way_from(form, spot.point, spot.here.place, to);
+    }
+    ways
 }

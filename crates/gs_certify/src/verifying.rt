@@ -9,7 +9,7 @@ ghost use Rattle.gs_certify.specs.Verifying.{SaysChecked, SaysVerified, bounds_t
 
 use crate::value::value_of;
 use gs_certificate::{
-    CertTextFault, Certificate, cert_fault_text, cert_text_fault_text, certified_payoff,
+    CertStop, CertTextFault, Certificate, cert_fault_text, cert_text_fault_text, certified_payoff,
     read_certificate,
 };
 use gs_confirm::{form_of, lossless_of};
@@ -37,8 +37,12 @@ fn sound(alloc: Global, stored: &Stored, form: &Abstract, c: &Certificate) -> Re
     requires modest { AreSmall c.now }
     ensures { Answers (SaysChecked (stored_view stored.now) c.now) result }
 {
-    match certified_payoff(alloc, form, &stored.one, &stored.two, c)? {
-        Err(fault) => Err(Stop::Refused(Refusal::BadCertificate(cert_fault_text(alloc, &fault)?))),
+    match certified_payoff(alloc, form, &stored.one, &stored.two, c) {
+        Err(CertStop::Memory) => Err(Stop::Memory),
+        Err(CertStop::Fault(fault)) => {
+            let why = cert_fault_text(alloc, &fault)?;
+            Err(Stop::Refused(Refusal::BadCertificate(why)))
+        }
         Ok(paid) => {
             let value = value_of(form, &stored.one, &stored.two, paid);
             Ok(bounds_text(alloc, &value, c)?)

@@ -25,8 +25,5 @@ pub mod SpotRows
 pub mod Modest
 pub mod Steps
 pub mod Starts
-pub mod Compared
-pub mod Sizes
-pub mod ClaimLaws
 pub mod MemberValues
 pub mod Onward

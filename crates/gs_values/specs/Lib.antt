@@ -7,5 +7,4 @@ pub mod Rooms
 pub mod Sides
 pub mod Spots
 pub mod Runs
-pub mod Claims
 pub mod Filled

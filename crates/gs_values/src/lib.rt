@@ -3,8 +3,6 @@
 #![tactic(auto)]
 
 mod below;
-mod claim;
-mod claimed;
 mod copying;
 mod gathering;
 mod merging;
@@ -18,17 +16,13 @@ mod spot;
 mod start;
 mod targets;
 mod walk;
-mod way;
 
 pub use below::{ClassRun, classes_below, run_below};
-pub use claim::Claim;
-pub use claimed::{is_below, is_below_all};
 pub use copying::{copy_moves, copy_values};
-pub use numbers::over;
+pub use numbers::{over, size_of};
 pub use raising::{add, raise};
 pub use rooms::{EndSums, Scratch, Table, lay_out, place_points, room_for, value_total, widest};
 pub use sharing::{end_value, share_all};
 pub use side::Side;
 pub use start::best_total;
 pub use walk::{backward, filled};
-pub use way::Way;

@@ -7,7 +7,7 @@ ghost use Rattle.gs_seq.specs.Abstracts.{abstract_frame, lists_of};
 use gs_seq::Abstract;
 
 /// Returns the number of members of a class.
-pub(crate) fn size_of(form: &Abstract, round: u8, class: u32) -> u32
+pub fn size_of(form: &Abstract, round: u8, class: u32) -> u32
     requires some { 0 < round }
     requires top { round ≤ last_round (abstract_frame form.now) }
     requires class { IsClass (lists_of form.now) round class }

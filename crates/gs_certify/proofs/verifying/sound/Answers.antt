@@ -18,7 +18,7 @@ returns-in_ok-cert_fault_text-in-Err c =
         lossless = c.requires.form.lossless;
         small = c.requires.form.small;
         why = why;
-        fault = fault_moved c.args.form.now.lossless.now s k c.requires.form.held _ why c.in-Err.is c.in_ok-fault.ensures.exact;
+        fault = fault_moved c.args.form.now.lossless.now s k c.requires.form.held _ why c.in-Err.is c.certified_payoff.ensures.exact;
         told = refl;
       },
       ap Bad_certificate (sym c.in_ok-cert_fault_text-in-Err.ensures),
@@ -35,8 +35,8 @@ returns-in_ok-bounds_text-in-Ok c =
       small = c.requires.form.small;
       holds = record {
         small = c.requires.modest;
-        sound = sound_moved l s k c.requires.form.held _ _ c.in-Ok.is c.in_ok-fault.ensures.exact;
-        bounds = bounds_moved l s k c.requires.form.held _ _ c.in-Ok.is c.in_ok-fault.ensures.bounds;
+        sound = sound_moved l s k c.requires.form.held _ _ c.in-Ok.is c.certified_payoff.ensures.exact;
+        bounds = bounds_moved l s k c.requires.form.held _ _ c.in-Ok.is c.certified_payoff.ensures.bounds;
       };
       value = parts_of v;
       fraction = v.reduced;
