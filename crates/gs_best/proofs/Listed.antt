@@ -6,8 +6,7 @@ use Rattle.std.specs.Prelude.{◌==◌}
 use Rattle.gs_model.specs.{Classes.{ClassLists, IsClass}, Frame.{Frame, player_at, round_of}, Positions.{at_point}}
 use Rattle.gs_model.proofs.Basics.{not_eq}
 use Rattle.gs_seq.proofs.SlotLaws.{sum_range_le, sum_range_more}
-use Rattle.gs_values.specs.Tables.{classes_at, moves_of, start_of}
-use Rattle.gs_best.specs.Answers.{choices_before}
+use Rattle.gs_best.specs.{Tables.{classes_at, moves_of, start_of}, Answers.{choices_before}}
 
 module _ (f : Frame) (lists : ClassLists) (player : ℕ) where
   abbrev choices_at_point : ℕ → ℕ

@@ -7,10 +7,9 @@ use borrow.Author.Differences.{product_is}
 use Rattle.gs_model.specs.{Classes.{ClassLists, class_count}, Frame.{Frame, last_round, point_count, round_of}, FrameFacts.{IsWalked}, Positions.{at_point}}
 use Rattle.gs_model.proofs.{RawBound.{All-range, range_once}, Regroup.{regroup_weights, sum_z-pos}, Total.{sum_z-same}}
 use Rattle.gs_model.proofs.Basics.{pos-injective, sum-same, sum-ones, sum_by-map}
-use Rattle.gs_values.specs.{Rooms.{HasRows, AreOfLength, HoldsEntries, HoldsAll, IsWide}, Tables.{start_of}, declared.rooms.Scratch.{Scratch}}
-use Rattle.gs_values.specs.declared.rooms.Table.{Table}
-use Rattle.gs_values.proofs.Written.{written}
-use Rattle.gs_best.specs.Sizes.{IsRoomy, IsWideFor, point_room, points_of_round, sizes_of, value_room}
+use Rattle.gs_best.proofs.Written.{written}
+use Rattle.gs_best.specs.{Rooms.{HasRows, AreOfLength, HoldsEntries, HoldsAll, IsWide}, Tables.{start_of}, declared.tables.Scratch.{Scratch}}
+use Rattle.gs_best.specs.{declared.tables.Table.{Table}, Sizes.{IsRoomy, IsWideFor, point_room, points_of_round, sizes_of, value_room}}
 
 pub pos-product : (a b : ℕ) → pos a *ℤ pos b ≡ pos (a * b)
 pos-product a b = omega (arith, ints, product_is (pos a) (pos b))

@@ -8,9 +8,8 @@ use Rattle.gs_model.specs.{Payoff.{gain, raw_payoff}, Plans.{IsClassPlan, Plan, 
 use Rattle.gs_model.proofs.{Alike.{keeps_from}, Best.{best_holds}, Deviations.{lift_is_raw_plan, no_raw_plan_gains_more}}
 use Rattle.gs_model.proofs.{Exchange.{gain_exchange, raw_payoff_is_gain}, FirstBest.{first_best_reaches}}
 use Rattle.gs_model.proofs.{Gather.{class_in, firsts_from, holds_by, known_from, plan_by}, Tables.{is_table}, Basics.{product_le}}
-use Rattle.gs_values.specs.{ClassTotals.{IsBestTotal}, Tables.{start_of, table_of}}
-use Rattle.gs_values.proofs.Ranges.{sum_same}
-use Rattle.gs_best.specs.Answers.{NoneGainsMore}
+use Rattle.gs_best.proofs.Ranges.{sum_same}
+use Rattle.gs_best.specs.{ClassTotals.{IsBestTotal}, Tables.{start_of, table_of}, Answers.{NoneGainsMore}}
 
 -- a product of a total and a best total
 pub scaled_small : (total : ℕ) (best : ℤ) → total ≤ 2 ^ 36 → unsigned_abs best ≤ 2 ^ 74 → unsigned_abs (pos total *ℤ best) ≤ 2 ^ 110

@@ -1,3 +1,13 @@
+pub mod Tables
+pub mod Rows
+pub mod ClassTotals
+pub mod Places
+pub mod LaterRows
+pub mod Rooms
+pub mod Sides
+pub mod Spots
+pub mod Runs
+pub mod Filled
 pub mod Sizes
 pub mod Rounds
 pub mod Answers

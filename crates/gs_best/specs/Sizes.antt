@@ -1,7 +1,7 @@
 -- The room that best answers need.
 use Rattle.std.specs.{Prelude.{ℕ, ◌*◌, ◌<◌, ◌≤◌, ◌==◌, List, length, map, get_or, sum_by, count_by}, List.{range_with_len}}
 use Rattle.gs_model.specs.{Classes.{ClassLists, class_count}, Frame.{Frame, last_round, point_count, round_of}, Positions.{at_point}}
-use Rattle.gs_values.specs.{Rooms.{AreOfLength, HoldsEntries}, declared.rooms.Scratch.{Scratch}, declared.rooms.Table.{Table}}
+use Rattle.gs_best.specs.{Rooms.{AreOfLength, HoldsEntries}, declared.tables.Scratch.{Scratch}, declared.tables.Table.{Table}}
 
 -- how many points a round has
 abbrev pub points_of_round : Frame → ℕ → ℕ

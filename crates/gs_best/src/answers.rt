@@ -7,8 +7,9 @@ ghost use Rattle.gs_best.specs.Answers.{AreChoices, IsPaidMost, NoneGainsMore};
 
 use crate::listing::own_moves;
 use crate::putting::put_all;
+use crate::side::Side;
+use crate::walk::filled;
 use gs_seq::{Abstract, Plan};
-use gs_values::{Side, filled};
 use std::alloc::{AllocError, Global};
 
 /// Returns a player's first best answer to the other's plan, in the literature a best response. Its total is 1.

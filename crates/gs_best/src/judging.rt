@@ -3,14 +3,15 @@
 ghost use Rattle.std.specs.Prelude.{◌≡◌};
 ghost use Rattle.gs_model.specs.{Payoff.{raw_payoff}, Verdict.{IsVerdict}};
 ghost use Rattle.gs_seq.specs.{Abstracts.{abstract_frame, lists_of}, Plans.{IsPlanOf, lifted}};
-ghost use Rattle.gs_values.specs.Rooms.{HasRows};
-ghost use Rattle.gs_best.specs.{Judged.{parts}, Sizes.{sizes_of}};
+ghost use Rattle.gs_best.specs.{Rooms.{HasRows}, Judged.{parts}, Sizes.{sizes_of}};
 
 use crate::numbers::judged;
+use crate::side::Side;
+use crate::start::best_total;
+use crate::tables::{Scratch, lay_out};
 use crate::work::Work;
 use gs_frac::Verdict;
 use gs_seq::{Abstract, Plan};
-use gs_values::{Scratch, Side, best_total, lay_out};
 
 /// Returns what two plans pay player 1, in chips times the weight of all deals times both totals.
 fn plans_pay(form: &Abstract, one: &Plan, two: &Plan, scratch: &mut Scratch) -> i128

@@ -2,10 +2,10 @@
 
 ghost use Rattle.std.specs.Prelude.{◌≡◌, ◌+◌, ◌≤◌, ◌++◌, IfOk, drop, length, take};
 ghost use Rattle.gs_seq.specs.{Abstracts.{abstract_frame, lists_of}, Plans.{lifted}};
-ghost use Rattle.gs_values.specs.Filled.{IsFilled};
-ghost use Rattle.gs_best.specs.Answers.{AreChoices};
+ghost use Rattle.gs_best.specs.{Filled.{IsFilled}, Answers.{AreChoices}};
 
-use gs_values::{Side, Table};
+use crate::side::Side;
+use crate::tables::Table;
 use std::alloc::{AllocError, Global};
 
 /// Adds to `moves` the `count` picks from the place `start` on.

@@ -4,11 +4,11 @@ ghost use Rattle.std.specs.Prelude.{◌≡◌, ◌+◌, ◌<◌, ◌≤◌, ℕ,
 ghost use Rattle.gs_model.specs.{BestAnswers.{IsFirstBestPlan}, Classes.{IsClass}, Frame.{player_at, point_count, round_of}, Positions.{at_point}};
 ghost use Rattle.gs_seq.specs.{Abstracts.{abstract_frame, lists_of}, Firsts.{AgreeBefore, IsClear}, Plans.{IsPlanOf, class_plan, lifted}};
 ghost use Rattle.gs_seq.specs.Slots.{slot_count, slots_before};
-ghost use Rattle.gs_values.specs.{Filled.{IsFilled}, Tables.{AreInMoves, AreStarts, moves_of, start_of}};
-ghost use Rattle.gs_best.specs.Puts.{ArePutBefore, IsPutAt};
+ghost use Rattle.gs_best.specs.{Filled.{IsFilled}, Tables.{AreInMoves, AreStarts, moves_of, start_of}, Puts.{ArePutBefore, IsPutAt}};
 
+use crate::side::Side;
+use crate::tables::Table;
 use gs_seq::{Abstract, Plan};
-use gs_values::{Side, Table};
 use std::alloc::{AllocError, Global};
 
 /// Gives the chosen move, at each class of an own point, all the weight that comes there.

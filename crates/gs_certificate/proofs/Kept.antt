@@ -5,7 +5,7 @@ use Rattle.std.specs.Prelude.{ℤ, pos}
 use Rattle.gs_model.specs.{Classes.{ClassLists, IsClass}, Frame.{Frame, round_of}, Plans.{IsClassPlan, Plan}, Positions.{at_end}}
 use Rattle.gs_seq.specs.{Payoffs.{end_classes, end_sum}, Plans.{class_plan}, Abstracts.{game_in}}
 use Rattle.gs_seq.proofs.Forms.{AreGiven, given, form_classes}
-use Rattle.gs_values.specs.{Sides.{frame_at, lists_at}, declared.side.Side.{Side}}
+use Rattle.gs_best.specs.{Sides.{frame_at, lists_at}, declared.side.Side.{Side}}
 use Rattle.gs_certificate.specs.Paid.{AreKept}
 
 module _ (f : Frame) (lists : ClassLists) (player : ℕ) (y : Plan) where

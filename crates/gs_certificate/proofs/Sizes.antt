@@ -11,7 +11,7 @@ use Rattle.gs_model.specs.Frame.{last_round}
 use Rattle.gs_model.proofs.Basics.{not_eq, pos-injective, sum-cond, sum-same}
 use Rattle.gs_model.proofs.Regroup.{sum_z-pos}
 use Rattle.gs_seq.proofs.{EndTotals.{range_more}, Forms.{form_classes, form_signals}}
-use Rattle.gs_values.specs.{Sides.{frame_at, lists_at}, declared.side.Side.{Side}}
+use Rattle.gs_best.specs.{Sides.{frame_at, lists_at}, declared.side.Side.{Side}}
 
 -- how often a number stands in a range
 abbrev times : ℕ → ℕ → ℕ → ℕ

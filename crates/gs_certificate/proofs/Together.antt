@@ -9,10 +9,10 @@ use Rattle.gs_model.specs.{Positions.{Target, at_end, at_point}, Sums.{sum_z}}
 use Rattle.gs_model.proofs.Total.{sum_z-mul}
 use Rattle.gs_seq.specs.{Payoffs.{end_sum}, Plans.{lifted}}
 use Rattle.gs_seq.proofs.{SlotLaws.{sum_range_le, sum_range_more}, Forms.{form_classes, form_in_range, form_lossless, form_signals}}
-use Rattle.gs_values.specs.{ClassTotals.{gathered_below, total_worth}, Sides.{frame_at, lists_at, plan_at, totals_at}, Tables.{classes_at, start_of}}
-use Rattle.gs_values.specs.declared.side.Side.{Side}
-use Rattle.gs_values.proofs.{Modest.{known_modest}, Players.{walked}, Ranges.{sum_same}, Shares.{end_share, some_member}, Starts.{in_round}}
-use Rattle.gs_values.proofs.{Stepping.{none_followed}, TotalAnswers.{all_by_classes}, WorthTotals.{worth_total}}
+use Rattle.gs_best.specs.{ClassTotals.{gathered_below, total_worth}, Sides.{frame_at, lists_at, plan_at, totals_at}, Tables.{classes_at, start_of}}
+use Rattle.gs_best.specs.declared.side.Side.{Side}
+use Rattle.gs_best.proofs.{Modest.{known_modest}, Players.{walked}, Ranges.{sum_same}, Shares.{end_share, some_member}, Starts.{in_round}}
+use Rattle.gs_best.proofs.{Stepping.{none_followed}, TotalAnswers.{all_by_classes}, WorthTotals.{worth_total}}
 use Rattle.gs_certificate.specs.Claims.{IsWay, claimed, first_place_of, together}
 use Rattle.gs_certificate.specs.{declared.claim.Claim.{Claim}, declared.spot.Spot.{Spot}, declared.way.Way.{Way}}
 

@@ -4,7 +4,7 @@ use Rattle.gs_game.specs.Seen.{target_of}
 use Rattle.gs_model.specs.{BestAnswers.{Values}, Classes.{ClassLists, class_size}, Frame.{Frame, leads_to, move_count, round_of}, FrameFacts.{IsInside}}
 use Rattle.gs_model.specs.Positions.{Target, at_end, at_point}
 use Rattle.gs_seq.specs.{Payoffs.{end_sum}, Plans.{lifted}}
-use Rattle.gs_values.specs.{Sides.{frame_at, lists_at, plan_at}, Tables.{start_of, table_of}}
+use Rattle.gs_best.specs.{Sides.{frame_at, lists_at, plan_at}, Tables.{start_of, table_of}}
 use Rattle.gs_certificate.specs.{declared.claim.Claim.{Claim}, declared.way.Way.{Way}}
 
 -- what each member of a class gains: at a point the number, at an end what the end is worth

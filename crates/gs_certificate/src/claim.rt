@@ -2,11 +2,11 @@
 
 ghost use Rattle.std.specs.{Prelude.{◌≡◌, ◌<◌, ◌^◌, All, length, unsigned_abs}, Option.{ForSome}};
 ghost use Rattle.gs_model.specs.Frame.{point_count};
-ghost use Rattle.gs_values.specs.{Sides.{frame_at, lists_at, plan_at}, Tables.{start_of}};
+ghost use Rattle.gs_best.specs.{Sides.{frame_at, lists_at, plan_at}, Tables.{start_of}};
 ghost use Rattle.gs_certificate.specs.Paid.{AreSumsPaid};
 
 use crate::ends::EndSums;
-use gs_values::Side;
+use gs_best::Side;
 
 /// A number for each point and each class of its round: what each member of the class gains at most. With it comes what ends pay the player, if that is kept.
 #[derive(Clone, Copy)]

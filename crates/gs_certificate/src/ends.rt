@@ -3,12 +3,12 @@
 ghost use Rattle.std.specs.Prelude.{◌≡◌, ◌<◌, IfOk, length};
 ghost use Rattle.gs_model.specs.{Classes.{IsClass}, Frame.{end_count, round_of}, Payoff.{raw_payoff}, Positions.{at_end}};
 ghost use Rattle.gs_seq.specs.{Payoffs.{end_sum, payoff_at}, Plans.{IsPlanOf, class_plan, lifted}};
-ghost use Rattle.gs_values.specs.{Rooms.{IsWide}, Sides.{frame_at, lists_at, plan_at}};
+ghost use Rattle.gs_best.specs.{Rooms.{IsWide}, Sides.{frame_at, lists_at, plan_at}};
 ghost use Rattle.gs_certificate.specs.Paid.{AreSumsPaid};
 
 use crate::claim::Claim;
+use gs_best::{Side, widest};
 use gs_seq::{Plan, plus, scaled};
-use gs_values::{Side, widest};
 use std::alloc::{AllocError, Global};
 
 /// What each end pays the members of each class of its round together, end by end, and the place of each end's first class.

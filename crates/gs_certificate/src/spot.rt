@@ -3,7 +3,7 @@
 ghost use Rattle.std.specs.Prelude.{◌≡◌, ◌<◌};
 ghost use Rattle.gs_game.specs.Seen.{target_of};
 ghost use Rattle.gs_model.specs.{Frame.{point_count, round_of}, Positions.{at_point}};
-ghost use Rattle.gs_values.specs.{Sides.{frame_at, lists_at}, Tables.{start_of}};
+ghost use Rattle.gs_best.specs.{Sides.{frame_at, lists_at}, Tables.{start_of}};
 ghost use Rattle.gs_certificate.specs.Claims.{AreWays};
 
 use crate::claim::Claim;

@@ -4,7 +4,7 @@ ghost use Rattle.std.specs.Prelude.{◌≡◌, ◌≤◌};
 ghost use Rattle.gs_game.specs.Seen.{target_of};
 ghost use Rattle.gs_model.specs.{Frame.{point_count}, FrameFacts.{IsFrom, IsInside}};
 ghost use Rattle.gs_seq.specs.Abstracts.{abstract_frame, lists_of};
-ghost use Rattle.gs_values.specs.Tables.{start_of};
+ghost use Rattle.gs_best.specs.Tables.{start_of};
 ghost use Rattle.gs_certificate.specs.Claims.{IsWay};
 
 use gs_game::Target;

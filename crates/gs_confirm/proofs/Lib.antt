@@ -1,2 +1,4 @@
 pub mod Spots
 pub mod Told
+pub mod Moved
+pub mod Lines

@@ -2,3 +2,5 @@ pub mod Troubles
 pub mod Queries
 pub mod Commands
 pub mod Held
+pub mod Certificates
+pub mod Verifying

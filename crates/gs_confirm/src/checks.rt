@@ -17,7 +17,7 @@ use gs_tree::Signals;
 use std::alloc::Global;
 
 /// Returns the classes of a strategy as lossless ones over the signals of its game, or the refusal with their first unlike pair.
-pub fn lossless_of<'a>(
+pub(crate) fn lossless_of<'a>(
     alloc: Global,
     stored: &'a Stored,
     signals: &'a Signals<'a>,
@@ -31,7 +31,7 @@ pub fn lossless_of<'a>(
 }
 
 /// Returns the game of a strategy in sequence form over its classes, or the refusal of a game that is too large.
-pub fn form_of<'a>(
+pub(crate) fn form_of<'a>(
     alloc: Global,
     stored: &Stored,
     lossless: &'a Lossless<'a>,

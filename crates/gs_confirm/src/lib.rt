@@ -1,10 +1,18 @@
-//! The commands that read a strategy file. They check its classes and compute its numbers again before they answer.
+//! The commands that read one strategy file: `evaluate`, `query`, `upgrade`, `certify` and `verify`. They check its classes before they answer, and all but
+//! `verify` compute its numbers again. `verify` checks a strategy and its certificate without trusting who made them.
 #![tactic(auto)]
 
+mod certificates;
+mod certifying;
 mod checks;
 mod commands;
+mod laws;
 mod numbers;
 mod queries;
+mod value;
+mod verifying;
 
-pub use checks::{confirmed_form, form_of, lossless_of};
+pub use certificates::{certify_answer, verify_answer};
+pub use checks::confirmed_form;
 pub use commands::{evaluate_answer, query_answer, upgrade_answer};
+pub use laws::printed_lines_are_verified;

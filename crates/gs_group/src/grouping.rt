@@ -26,7 +26,7 @@ fn coarsest(alloc: Global, signals: &Signals) -> Result<Classes, AllocError>
 }
 
 /// Returns the classes of a grouping.
-pub fn classes_of(
+pub(crate) fn classes_of(
     alloc: Global,
     signals: &Signals,
     grouping: Grouping,
@@ -42,7 +42,7 @@ pub fn classes_of(
 }
 
 /// Returns the classes of a grouping as lossless ones, or the refusal with their first unlike pair. Only signal classes are compared: the others are known to be lossless.
-pub fn lossless_of<'a>(
+pub(crate) fn lossless_of<'a>(
     alloc: Global,
     signals: &'a Signals<'a>,
     classes: &'a Classes,

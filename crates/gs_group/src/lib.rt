@@ -1,11 +1,19 @@
-//! The classes of a game's signals, and the commands that print them.
+//! The classes of a game's signals, and the commands that read a game file: `shrink` and `check` print classes, `play`, `solve` and `path` go on over them.
 #![tactic(auto)]
 
 mod checking;
+mod commands;
 mod grouping;
+mod laws;
+mod lines;
+mod paths;
+mod playing;
 mod shrinking;
+mod solving;
 mod telling;
+mod writing;
 
 pub use checking::check_answer;
-pub use grouping::{classes_of, lossless_of};
+pub use commands::{path_answer, play_answer, solve_answer};
+pub use laws::{pivot_limit_is_told, printed_are_raw, printed_are_strategies};
 pub use shrinking::shrink_answer;

@@ -2,7 +2,7 @@
 use Rattle.std.proofs.Common.{◌≡◌, ◌↔◌, ◌/◌, ◌==◌, ◌<◌, ◌∙◌, ◌∷◌, [], ℕ, ℤ, List, length, map, refl, sym, ap, subst}
 use Rattle.std.proofs.lemmas.List.Sorted.{All-permutation, IsPermutation-map, IsPermutation-sym, IsPermutation-trans}
 use Rattle.std.specs.{Prelude.{unsigned_abs}, List.{filter}, List.Sorted.{IsPermutation}}
-use Rattle.gs_alike.specs.Alike.{AreAlike, seen, seen_by}
+use Rattle.gs_lossless.specs.Alike.{AreAlike, seen, seen_by}
 use Rattle.gs_model.specs.{Deals.{Deal, deals, path_weight}, Game.{Game, round_count}, Isomorphism.{IsomorphicFor}, Signals.{signal_at, signals}}
 use Rattle.gs_model.specs.ViewTree.{leaves}
 use Rattle.gs_model.proofs.{Bijections.{IsPermutation-from_Matched_members, Matched-from_IsPermutation_members}, Facing.{leaves_are_deals}, Order.{sorts_equal}}

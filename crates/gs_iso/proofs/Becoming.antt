@@ -2,10 +2,10 @@
 use Rattle.std.proofs.Common.{◌≡◌, ℕ, ◌+◌, ◌<◌, ◌≤◌, ◌∷◌, [], ◌++◌, List, Vec, Global, length, get_or, set, take, refl, sym, ◌∙◌, subst, arith}
 use Rattle.std.proofs.{lemmas.Bool.Decides.{Decides-eqb}, lemmas.List.{get_or-set_other, length-set, take_more_set}}
 use Rattle.std.specs.Prelude.{nat_eq}
-use Rattle.gs_alike.specs.Alike.{AreAlike, AreStandIns}
+use Rattle.gs_lossless.specs.Alike.{AreAlike, AreStandIns}
 use Rattle.gs_model.specs.Game.{Game}
 use Rattle.gs_tree.specs.Walk.{last_count}
-use Rattle.gs_numbers.proofs.Numbered.{AreNumbered, numbered_none}
+use Rattle.gs_iso.proofs.Numbered.{AreNumbered, numbered_none}
 use Rattle.gs_iso.specs.Numbers.{IsLeafSignature}
 
 -- before a signal stand numbers, by the signatures that were seen, and from it on stand-ins

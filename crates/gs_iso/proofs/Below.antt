@@ -9,10 +9,8 @@ use Rattle.gs_model.specs.Signatures.{IsSignature}
 use Rattle.gs_model.proofs.{Bijections.{IsPermutation-from_Matched_members, Matched-from_IsPermutation_members}, Children.{children-run}, Order.{sorts_equal}}
 use Rattle.gs_model.proofs.{Ranges.{length-parents}, Signatures.{Matched-map, Matched-unmap}, Extends.{before_last, parents_below}}
 use Rattle.gs_model.proofs.SingleCards.{rounds_after, children_within}
-use Rattle.gs_numbers.specs.Numbers.{IsKeyClasses}
-use Rattle.gs_numbers.proofs.FirstSeen.{classes_like}
-use Rattle.gs_iso.specs.{Numbers.{AreMarks, IsNumbering, child_part, class_key, marks_under}, Orders.{mark_lt}}
-use Rattle.gs_iso.proofs.Exact.{mark_order, mark_ranks, pairs}
+use Rattle.gs_iso.specs.{KeyNumbers.{IsKeyClasses}, Numbers.{AreMarks, IsNumbering, child_part, class_key, marks_under}, Orders.{mark_lt}}
+use Rattle.gs_iso.proofs.{FirstSeen.{classes_like}, Exact.{mark_order, mark_ranks, pairs}}
 
 -- ---- isomorphism before the last round
 

@@ -1,3 +1,6 @@
+pub mod Numbered
+pub mod FirstSeen
+pub mod Grown
 pub mod Exact
 pub mod Rounds
 pub mod Below

@@ -6,8 +6,7 @@ use Rattle.gs_model.specs.Rows.{rows}
 use Rattle.gs_model.proofs.{Ranges.{length-parents}, Extends.{parents_below}}
 use Rattle.gs_game.specs.Limits.{IsWithinLimits}
 use Rattle.gs_filter.proofs.RowLaws.{length-rows, row_read}
-use Rattle.gs_numbers.specs.Numbers.{IsKeyClasses}
-use Rattle.gs_iso.specs.Numbers.{AreNumberings, IsNumbering, class_key, classes_above}
+use Rattle.gs_iso.specs.{KeyNumbers.{IsKeyClasses}, Numbers.{AreNumberings, IsNumbering, class_key, classes_above}}
 use Rattle.gs_iso.proofs.Below.{AreRoundClasses, next_classes}
 
 -- what holds of each list and of one more

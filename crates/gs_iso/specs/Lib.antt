@@ -1,3 +1,4 @@
+pub mod KeyNumbers
 pub mod Orders
 pub mod Numbers
 pub mod Pairings

@@ -7,7 +7,7 @@ ghost use Rattle.gs_tree.specs.Trees.{rules_of};
 ghost use Rattle.gs_iso.specs.{Numbers.{AreMarks, IsNumbering, child_part, marks_under}, Orders.{mark_lt}};
 
 use crate::nodes::Child;
-use gs_numbers::{number_of, number_of_list};
+use crate::numbers::{number_of, number_of_list};
 use gs_tree::Signals;
 use indexmap::IndexSet;
 use std::alloc::{AllocError, Global};

@@ -1,11 +1,10 @@
 //! The classes of one round.
 
 ghost use Rattle.std.specs.Prelude.{◌≡◌, ◌+◌, ◌≤◌, ◌<◌, ◌^◌, All, IfOk, IfSome, [], length};
-ghost use Rattle.gs_numbers.specs.Numbers.{HasClassOf, IsKeyClasses};
-ghost use Rattle.gs_iso.specs.Numbers.{class_key};
+ghost use Rattle.gs_iso.specs.{KeyNumbers.{HasClassOf, IsKeyClasses}, Numbers.{class_key}};
 
 use crate::nodes::ClassKey;
-use gs_numbers::number_of;
+use crate::numbers::number_of;
 use indexmap::IndexSet;
 use std::alloc::{AllocError, Global};
 use std::mem;

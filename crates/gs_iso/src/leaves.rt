@@ -6,8 +6,8 @@ ghost use Rattle.gs_tree.specs.{Trees.{rules_of}, Walk.{last_count}};
 ghost use Rattle.gs_iso.specs.{Orders.{leaf_mark, leaf_of}, Numbers.{IsLeafSignature, IsNumbering}};
 
 use crate::nodes::Leaf;
-use gs_alike::stand_ins;
-use gs_numbers::number_of_list;
+use crate::numbers::number_of_list;
+use gs_lossless::stand_ins;
 use gs_tree::{Deal, Deals, Signals};
 use indexmap::IndexSet;
 use std::alloc::{AllocError, Global};

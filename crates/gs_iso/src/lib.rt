@@ -1,4 +1,4 @@
-//! The signal classes of ordered game isomorphism, as the algorithm GameShrink finds them.
+//! Ordered game isomorphism of signals, and numbers in order of first occurrence: equal keys get equal numbers, from 1 on.
 #![tactic(auto)]
 
 mod children;
@@ -6,8 +6,10 @@ mod classes;
 mod equals;
 mod leaves;
 mod nodes;
+mod numbers;
 mod pairings;
 mod signal_classes;
 
+pub use numbers::{number_of, number_of_list};
 pub use pairings::pairing;
 pub use signal_classes::shrink;

@@ -3,11 +3,11 @@ use Rattle.std.proofs.Common.{◌≡◌, ◌+◌, ◌-◌, ◌<◌, ◌==◌, �
 use Rattle.std.proofs.{lemmas.Bool.Decides.{Decides-eqb}, lemmas.List.{append-nil}, lemmas.List.FromFn.{get_or-map-range_with_len}}
 use Rattle.std.proofs.lemmas.List.Sorted.{IsPermutation-map, sum_by-IsPermutation}
 use Rattle.std.specs.{Prelude.{flat_map}, List.{filter, range_with_len}, List.Sorted.{IsPermutation}}
-use Rattle.gs_alike.specs.Alike.{AreAlike, AreStandIns, seen, seen_by}
 use Rattle.gs_model.specs.{Classes.{ClassLists, class_of}, Deals.{Deal, deals}, Frame.{at_round, frame_of, last_round, signal_count}}
 use Rattle.gs_model.specs.Game.{Game, IsPlayable, round_count}
 use Rattle.gs_model.proofs.Walked.{last_round_of}
 use Rattle.gs_tree.specs.Walk.{last_count}
+use Rattle.gs_lossless.specs.Alike.{AreAlike, AreStandIns, seen, seen_by}
 use Rattle.gs_lossless.specs.{Amounts.{HaveEqualAmounts, AreSideFirsts, HasSide, amount, deal_part, key_count, keys_of}, Sums.{sum_at, weight_at}}
 use Rattle.gs_lossless.specs.{declared.parts.Part.{Part}, declared.sides.Side.{Side}, declared.sides.Side.TheVariants.{Deals, Children}}
 use Rattle.gs_lossless.proofs.{Descent.{count_last, run_start, tabled}, Weighed.{deals_amount}}

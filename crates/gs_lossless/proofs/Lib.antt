@@ -1,3 +1,13 @@
+pub mod Filled
+pub mod Seats
+pub mod Taken
+pub mod Chain
+pub mod Ranks
+pub mod Ranked
+pub mod Places
+pub mod Marked
+pub mod Items
+pub mod Kept
 pub mod Merge
 pub mod Descent
 pub mod Weighed

@@ -1,10 +1,16 @@
 //! The check whether classes of signals are lossless: members of one class see the same weights of deals and have the same children, class by class.
+//! And last-round signals that see the same deals, so that one may stand for the others.
 #![tactic(auto)]
 
+mod board;
+mod boards;
 mod checking;
+mod firsts;
 mod grouped;
 mod keys;
+mod kinds;
 mod lists;
+mod marks;
 mod parts;
 mod runs;
 mod scan;
@@ -13,6 +19,7 @@ mod standing;
 mod stop;
 mod stopped;
 
+pub use boards::{Boards, stand_ins};
 pub use checking::{Lossless, check};
 pub use grouped::Grouped;
 pub use keys::side_keys;

@@ -6,7 +6,7 @@ ghost use Rattle.gs_tree.specs.{Trees.{rules_of}, Walk.{last_count}};
 ghost use Rattle.gs_lossless.specs.{Amounts.{HasSide, keys_of}, Scans.{StandFor}};
 ghost use Rattle.gs_lossless.specs.declared.sides.Side.{Side};
 
-use gs_alike::stand_ins;
+use crate::boards::stand_ins;
 use gs_tree::Signals;
 use std::alloc::{AllocError, Global};
 

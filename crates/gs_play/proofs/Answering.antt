@@ -4,10 +4,8 @@ use Rattle.std.specs.{Prelude.{ℤ}, declared.alloc.Global.{Global}}
 use Rattle.gs_model.specs.{BestAnswers.{IsFirstBestPlan, Values}, Classes.{ClassLists, IsClasses}, Frame.{Frame, point_count}, FrameFacts.{InRange, IsWalked}}
 use Rattle.gs_model.specs.{Lossless.{IsLossless}, Plans.{Plan, lift}}
 use Rattle.gs_seq.specs.{Slots.{IsPlan, plan_of, slot_count}, declared.plan.Plan.{Plan as KeptPlan}}
-use Rattle.gs_values.specs.{Tables.{moves_of}, ClassTotals.{AreBestTotals}, Places.{AreEndSums, totals_of}}
-use Rattle.gs_values.proofs.TotalAnswers.{chosen_is_best}
-use Rattle.gs_best.specs.Puts.{ArePutBefore}
-use Rattle.gs_best.proofs.AllOn.{put_is_plan}
+use Rattle.gs_best.specs.{Tables.{moves_of}, ClassTotals.{AreBestTotals}, Places.{AreEndSums, totals_of}, Puts.{ArePutBefore}}
+use Rattle.gs_best.proofs.{TotalAnswers.{chosen_is_best}, AllOn.{put_is_plan}}
 use Rattle.gs_play.specs.{Seats.{HasAnswered}, declared.seats.Seat.{Seat}}
 
 pub put_best : (f : Frame) → InRange f → (lists : ClassLists) → IsClasses f.parents lists → IsLossless f lists → (player : ℕ) → IsWalked f player

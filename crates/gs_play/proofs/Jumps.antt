@@ -4,11 +4,10 @@ use Rattle.std.specs.Prelude.{◌==◌, if◌then◌else◌}
 use Rattle.gs_model.specs.{BestAnswers.{Values}, Classes.{ClassLists, IsClass, IsClasses, first_member}}
 use Rattle.gs_model.specs.{Frame.{Frame, last_step, move_count, other_player, player_at, point_count, round_of}, FrameFacts.{InRange, IsWalked}}
 use Rattle.gs_model.specs.{Lossless.{IsLossless}, Plans.{Plan, lift, number_before}, Play.{IsFictitiousPlay, IsPlanSum}, Positions.{at_point}}
-use Rattle.gs_values.specs.ClassTotals.{AreBestTotals, IsFollowed}
-use Rattle.gs_values.proofs.TotalAnswers.{chosen_is_best}
-use Rattle.gs_totals.specs.{Jumps.{AreBeforeChange, tables_after}, PlanSums.{ArePlansAlike, plus_times}}
-use Rattle.gs_totals.proofs.JumpLaws.{best_alike, choices_stay}
-use Rattle.gs_play.specs.Staying.{AnswerStays}
+use Rattle.gs_best.specs.ClassTotals.{AreBestTotals, IsFollowed}
+use Rattle.gs_best.proofs.TotalAnswers.{chosen_is_best}
+use Rattle.gs_play.proofs.JumpLaws.{best_alike, choices_stay}
+use Rattle.gs_play.specs.{Jumps.{AreBeforeChange, tables_after}, PlanSums.{ArePlansAlike, plus_times}, Staying.{AnswerStays}}
 
 alike_itself : (f : Frame) (lists : ClassLists) (player : ℕ) (x : Plan) → ArePlansAlike f lists player x x
 alike_itself f lists player x = record { total = refl; numbers = λ q c m l own h lm. refl }

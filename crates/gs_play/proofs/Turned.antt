@@ -6,12 +6,10 @@ use Rattle.gs_model.specs.Frame.{Frame, last_step, move_count, other_player, pay
 use Rattle.gs_model.specs.{FrameFacts.{InRange, IsInside, IsWalked}, Lossless.{IsLossless}, Plans.{Plan, lift, number_before}}
 use Rattle.gs_model.specs.Positions.{Target, at_end, at_point}
 use Rattle.gs_seq.specs.{Payoffs.{end_sum}, Slots.{plan_of, slot_of}}
-use Rattle.gs_values.specs.{ClassTotals.{AreBestTotals, IsFollowed}, Places.{AreEndSums, end_start, totals_of}}
-use Rattle.gs_best.specs.Puts.{ArePutBefore}
-use Rattle.gs_totals.specs.{Jumps.{AreBeforeChange, tables_after}, PlanSums.{ArePlansAlike, plus_times}, Places.{AreEndLines, ArePointLines}}
-use Rattle.gs_totals.proofs.{JumpLaws.{best_alike, best_same, choices_stay}, SumLaws.{end_plus, kept_alike}}
+use Rattle.gs_best.specs.{ClassTotals.{AreBestTotals, IsFollowed}, Places.{AreEndSums, end_start, totals_of}, Puts.{ArePutBefore}}
+use Rattle.gs_play.specs.{Jumps.{AreBeforeChange, tables_after}, PlanSums.{ArePlansAlike, plus_times}, Places.{AreEndLines, ArePointLines}}
 use Rattle.gs_play.specs.Staying.{AnswerStays}
-use Rattle.gs_play.proofs.Jumps.{answer_stays, answer_stays_once}
+use Rattle.gs_play.proofs.{JumpLaws.{best_alike, best_same, choices_stay}, SumLaws.{end_plus, kept_alike}, Jumps.{answer_stays, answer_stays_once}}
 
 -- the lesser of two numbers
 pub record IsLeast (a b least : ℕ) : Type 0 where

@@ -1,9 +1,8 @@
 -- Room to take turns in. For private functions.
 use Rattle.gs_model.specs.{Classes.{ClassLists}, Frame.{Frame}}
 use Rattle.gs_seq.specs.Plans.{class_plan}
-use Rattle.gs_values.specs.Places.{AreEndSums}
-use Rattle.gs_totals.specs.Room.{HasRows, HasScratch, IsPlaced}
-use Rattle.gs_play.specs.{declared.seats.Seat.{Seat}, declared.turns.Desk.{Desk}}
+use Rattle.gs_best.specs.Places.{AreEndSums}
+use Rattle.gs_play.specs.{Room.{HasRows, HasScratch, IsPlaced}, declared.seats.Seat.{Seat}, declared.turns.Desk.{Desk}}
 
 -- the places and rooms of a desk are those of a game
 pub record IsDesk (f : Frame) (lists : ClassLists) (d : Desk) : Type 0 where

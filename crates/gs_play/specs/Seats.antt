@@ -2,10 +2,8 @@
 use Rattle.std.specs.Prelude.{ℕ, ◌-◌, ◌≤◌, ◌≡◌, IsTrue, false, List, length}
 use Rattle.gs_model.specs.{Classes.{ClassLists}, Frame.{Frame, point_count}, Plans.{Plan as ModelPlan}, Play.{IsFictitiousPlay, IsFirstMoves}}
 use Rattle.gs_seq.specs.{Plans.{IsPlanOf, class_plan}, Slots.{slot_count}}
-use Rattle.gs_values.specs.{Tables.{moves_of, start_of}, ClassTotals.{AreBestTotals, IsFollowed}, Places.{AreEndSums, totals_of}}
-use Rattle.gs_best.specs.Puts.{ArePutBefore}
-use Rattle.gs_totals.specs.{Room.{HasRows}, declared.places.Totals.{Totals}}
-use Rattle.gs_play.specs.declared.seats.Seat.{Seat}
+use Rattle.gs_best.specs.{Tables.{moves_of, start_of}, ClassTotals.{AreBestTotals, IsFollowed}, Places.{AreEndSums, totals_of}, Puts.{ArePutBefore}}
+use Rattle.gs_play.specs.{Room.{HasRows}, declared.places.Totals.{Totals}, declared.seats.Seat.{Seat}}
 
 -- there is room for a player's totals and choices, and the player has an answer of total 1
 pub record HasSeatRoom (f : Frame) (lists : ClassLists) (player : ℕ) (s : Seat) : Type 0 where

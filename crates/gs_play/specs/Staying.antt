@@ -1,9 +1,8 @@
 -- An answer that stays for some turns. For private functions.
 use Rattle.std.specs.Prelude.{ℕ, ◌<◌}
 use Rattle.gs_model.specs.{BestAnswers.{IsFirstBestPlan}, Classes.{ClassLists}, Frame.{Frame, other_player}, Plans.{Plan, lift}}
-use Rattle.gs_totals.specs.{Jumps.{AreBeforeChange}, PlanSums.{ArePlansAlike, plus_times}, declared.places.Totals.{Totals}}
-use Rattle.gs_totals.specs.{Roles.{role_frame, role_lists, moves_in, totals_in}, declared.role.Role.{Role}}
-use Rattle.gs_play.specs.declared.seats.Seat.{Seat}
+use Rattle.gs_play.specs.{Jumps.{AreBeforeChange}, PlanSums.{ArePlansAlike, plus_times}, declared.places.Totals.{Totals}}
+use Rattle.gs_play.specs.{Roles.{role_frame, role_lists, moves_in, totals_in}, declared.role.Role.{Role}, declared.seats.Seat.{Seat}}
 
 -- after fewer than `times` turns, each of which adds `more` to the other's plan y, the answer is still the first best one
 abbrev pub AnswerStays : Frame → ClassLists → ℕ → Plan → Plan → Plan → ℕ → Type 0

@@ -3,18 +3,24 @@
 ghost use Rattle.std.specs.Prelude.{◌≡◌, ◌↔◌, IsTrue, false, ◌+◌, ◌<◌, ◌≤◌, ◌^◌, IfOk, length};
 ghost use Rattle.gs_model.specs.Frame.{other_player, point_count};
 ghost use Rattle.gs_seq.specs.{Abstracts.{abstract_frame, lists_of}, Plans.{IsPlanOf, class_plan}, Slots.{plan_of, slot_count}};
-ghost use Rattle.gs_values.specs.{Tables.{AreInMoves, start_of}, ClassTotals.{AreBestTotals}, Places.{AreEndSums}};
-ghost use Rattle.gs_best.specs.Puts.{ArePutBefore};
-ghost use Rattle.gs_totals.specs.{PlanSums.{ArePlansAlike, plus_times}, Places.{AreEndLines, ArePointLines, AreSmallPoints, AreSmallRows}};
-ghost use Rattle.gs_totals.specs.{Room.{HasRows, HasScratch}, Roles.{ArePaid, IsOthers, role_frame, role_lists, moves_in, role_plan, totals_in}};
+ghost use Rattle.gs_best.specs.{Tables.{AreInMoves, start_of}, ClassTotals.{AreBestTotals}, Places.{AreEndSums}, Puts.{ArePutBefore}};
+ghost use Rattle.gs_play.specs.{PlanSums.{ArePlansAlike, plus_times}, Places.{AreEndLines, ArePointLines, AreSmallPoints, AreSmallRows}};
+ghost use Rattle.gs_play.specs.{Room.{HasRows, HasScratch}, Roles.{ArePaid, IsOthers, role_frame, role_lists, moves_in, role_plan, totals_in}};
 ghost use Rattle.gs_play.specs.{Seats.{HasAnswered, HasRises, HasSeatRoom, IsAtStart, IsSeat}, Staying.{AnswerStays, ChoicesStay}};
 
 use crate::adding::add_times;
+use crate::advancing::advance;
+use crate::course::Course;
+use crate::ends::read_ends;
+use crate::filling::fill;
+use crate::following::follow;
+use crate::ledger::Ledger;
+use crate::places::{Scratch, Totals, picks_for};
+use crate::putting::put_all;
+use crate::renewing::renew_ends;
+use crate::role::Role;
+use crate::staying::lasting;
 use gs_seq::{Abstract, Plan};
-use gs_totals::{
-    Course, Ledger, Role, Scratch, Totals, advance, fill, follow, lasting, picks_for, put_all,
-    read_ends, renew_ends,
-};
 use std::alloc::{AllocError, Global};
 use std::mem::swap;
 

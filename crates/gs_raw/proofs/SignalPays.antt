@@ -13,8 +13,7 @@ use Rattle.gs_model.proofs.{Tables.{is_table}, Total.{mul_assoc_z, sum_z-mul, su
 use Rattle.gs_seq.specs.{Abstracts.{abstract_frame, lists_of}, Plans.{IsPlanOf, class_plan, lifted}, declared.form.Abstract.{Abstract}}
 use Rattle.gs_seq.specs.declared.plan.Plan.{Plan as StoredPlan}
 use Rattle.gs_seq.proofs.{Forms.{form_in_range, form_walked, form_signals}, Ends.{number_few}, RowFacts.{abs_all, sum-times}}
-use Rattle.gs_values.proofs.Chips.{IsModest, form_modest}
-use Rattle.gs_best.proofs.Rooms.{pos-product}
+use Rattle.gs_best.proofs.{Chips.{IsModest, form_modest}, Rooms.{pos-product}}
 use Rattle.gs_frac.specs.declared.value.Fraction.{Fraction}
 use Rattle.gs_raw.specs.{Answers.{IsHandValueOf}, Hands.{deal_pays, hand_pays_at, plan_number_at_end, signal_pays, signal_weighs, signals_pay, signals_weigh}}
 use Rattle.gs_raw.proofs.{Numbers.{abs_scaled}, Spread.{single_class, single_member}, Sums.{IsInRun, filter_le, filter_sum, run_sum, run_weight_le}}

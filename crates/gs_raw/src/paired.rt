@@ -7,10 +7,10 @@ ghost use Rattle.gs_seq.specs.{Abstracts.{abstract_frame, lists_of}, Plans.{IsPl
 ghost use Rattle.gs_raw.specs.{Answers.{AreHandValuesOf, IsHandValueOf}, Hands.{hand_pays_at, signal_pays, signal_weighs, signals_pay}};
 
 use crate::hands::{hand_weight, paid_over};
+use gs_best::{Side, end_value, run_below};
 use gs_frac::Fraction;
 use gs_lossless::{Run, descendants};
 use gs_seq::{Abstract, Plan, plus, scaled};
-use gs_values::{Side, end_value, run_below};
 use std::alloc::{AllocError, Global};
 
 /// A plan of player 1 and a plan of player 2 of a game in sequence form over single signals.

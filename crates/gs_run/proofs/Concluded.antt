@@ -1,28 +1,27 @@
 -- How each command ends over bytes that it accepts, from the reply that its definition says of them.
 use Rattle.std.proofs.Common.{◌≡◌, inl, inr, ℕ, ◌++◌, false, true, Bool, List, Err, sym, ap, ◌∙◌, subst}
-use Rattle.gs_answer.specs.Asking.{Asks}
 use Rattle.gs_certificate.specs.{TextLaws.{IsStated}, Texts.{Stated, certificate_text}, Views.{certificate_view}}
 use Rattle.gs_certificate.specs.declared.certificate.Certificate.{Certificate}
 use Rattle.gs_certificate.proofs.{OneText.{one_certificate}, Only.{only as certificate_only, stated}}
-use Rattle.gs_certify.proofs.Lines.{lines_verified}
-use Rattle.gs_certify.specs.{Certificates.{SaysCertified}, Verifying.{SaysChecked, SaysVerified, Verifies}}
-use Rattle.gs_compare.specs.Commands.{Duels, SaysDuel, SaysJudged}
+use Rattle.gs_confirm.proofs.Lines.{lines_verified}
+use Rattle.gs_confirm.specs.{Certificates.{SaysCertified}, Verifying.{SaysChecked, SaysVerified, Verifies}}
 use Rattle.gs_confirm.specs.Commands.{OfConfirmed, OfStrategy, SaysNumbers, SaysQueried, SaysUpgraded}
+use Rattle.gs_compare.specs.Commands.{Duels, SaysDuel, SaysJudged}
 use Rattle.gs_file.proofs.States.{states_is}
 use Rattle.gs_file.specs.{Reading.{FileGame, read_at}, States.{FileStates}, declared.version.Version.{Version}, declared.version.Version.TheVariants.{Two}}
-use Rattle.gs_group.specs.{Checking.{ChecksGame, SaysNotLossless}, Shrinking.{ShrinksGame}}
+use Rattle.gs_group.specs.{Checking.{ChecksGame, SaysNotLossless}, Shrinking.{ShrinksGame}, Paths.{ShowsPath}, Playing.{Plays}, Settling.{OfGrouping}}
+use Rattle.gs_group.specs.Solving.{Solves}
 use Rattle.gs_json.proofs.Feeds.{line_parted}
 use Rattle.gs_json.specs.FirstLine.{first_line}
-use Rattle.gs_laws.proofs.Confirming.{no_trouble}
-use Rattle.gs_made.specs.{Made.{made_game}, declared.kind.Kind.{Kind}}
-use Rattle.gs_reply.specs.{Refusals.{Refusal, Unlike_pair}, Replies.{OfFile, OfRead, OfReading, Reply, Prints, Refuses}}
-use Rattle.gs_reply.specs.{declared.refusals.Which.{Which}, declared.refusals.Which.TheVariants.{Only, First, Second}}
-use Rattle.gs_settle.specs.{Paths.{ShowsPath}, Playing.{Plays}, Settling.{OfGrouping}, Solving.{Solves}}
-use Rattle.gs_strategy.proofs.{Only.{only}, Shape.{has_line}}
-use Rattle.gs_strategy.specs.{Checks.{ReadResult}, Confirmed.{IsConfirmed}, Laws.{IsStrategy}, Texts.{strategy_data, strategy_text}, Values.{Strategy}}
+use Rattle.gs_run.proofs.Confirming.{no_trouble}
+use Rattle.gs_words.specs.{Made.{made_game}, declared.kind.Kind.{Kind}}
 use Rattle.gs_words.specs.Tasks.{Task, Shrink, Check, Make, Evaluate, Query, Upgrade, Judge, Duel, Certify, Verify, Solve, Play, Path}
 use Rattle.gs_words.specs.declared.request.Grouping.{Grouping}
-use Rattle.gs_run.specs.{Endings.{Concludes, EndsChecked, EndsSo, EndsWell, OverCertificate}, Meanings.{Means}, Statuses.{status_of}}
+use Rattle.gs_reply.specs.{Refusals.{Refusal, Unlike_pair}, Replies.{OfFile, OfRead, OfReading, Reply, Prints, Refuses}}
+use Rattle.gs_reply.specs.{declared.refusals.Which.{Which}, declared.refusals.Which.TheVariants.{Only, First, Second}}
+use Rattle.gs_strategy.proofs.{Only.{only}, Shape.{has_line}}
+use Rattle.gs_strategy.specs.{Checks.{ReadResult}, Confirmed.{IsConfirmed}, Laws.{IsStrategy}, Texts.{strategy_data, strategy_text}, Values.{Strategy}}
+use Rattle.gs_run.specs.{Asking.{Asks}, Endings.{Concludes, EndsChecked, EndsSo, EndsWell, OverCertificate}, Meanings.{Means}, Statuses.{status_of}}
 use Rattle.gs_run.specs.declared.status.Status.{Status}
 
 -- what is said otherwise ends otherwise

@@ -1,12 +1,10 @@
 -- What words and bytes decide of a run.
 use Rattle.std.proofs.Common.{◌≡◌, ◌⊎◌, inl, inr, ℕ, ◌<◌, List, Bool, length, Some, None, true, refl, sym, ap, ◌∙◌, subst, arith}
-use Rattle.gs_answer.specs.Asking.{Asks, reads}
 use Rattle.gs_io.specs.Causes.{Rose}
-use Rattle.gs_laws.proofs.Answering.{answers_one}
 use Rattle.gs_reply.specs.Replies.{Reply, Prints, Refuses}
 use Rattle.gs_words.specs.{Requests.{request_of}, Tasks.{Task}}
-use Rattle.gs_run.proofs.Answered.{answer_of, not_long, one_task, read_is_held, replied, said}
-use Rattle.gs_run.specs.{Deciding.{DoesReply, Holds, IsDecided, OneReply}, Endings.{EndsSo}}
+use Rattle.gs_run.proofs.{Answering.{answers_one}, Answered.{answer_of, not_long, one_task, read_is_held, replied, said}}
+use Rattle.gs_run.specs.{Asking.{Asks, reads}, Deciding.{DoesReply, Holds, IsDecided, OneReply}, Endings.{EndsSo}}
 use Rattle.gs_run.specs.{Running.{Asked, Ends, Inputs, IsAnswered, IsRefused, NothingFailed, ReadsWhole, RunsTo, most_bytes}, declared.status.Status.{Status}}
 use Rattle.gs_run.specs.declared.status.Status.TheVariants as status
 

@@ -1,29 +1,29 @@
 -- What a task says is printed is what its command means.
 use Rattle.std.proofs.Common.{◌≡◌, inl, inr, ℕ, ◌++◌, [], ◌∷◌, ◌==◌, List, true, false, Result, Ok, Err, pos, refl, sym, ap, ◌∙◌, subst}
 use Rattle.std.proofs.lemmas.Bool.{cases_Bool}
-use Rattle.gs_answer.specs.{Asking.{Asks}, Making.{Makes}}
 use Rattle.gs_certificate.specs.{Texts.{certificate_text}, Views.{certificate_view}}
-use Rattle.gs_certify.specs.{Certificates.{IsCertified, SaysCertified}, Verifying.{SaysVerified}}
-use Rattle.gs_compare.specs.{Commands.{OnRawCards, SaysDuel, SaysHands, SaysJudged}, Judging.{AreHandValues, hands_text, plan_in}}
+use Rattle.gs_confirm.specs.{Certificates.{IsCertified, SaysCertified}, Verifying.{SaysVerified}}
 use Rattle.gs_confirm.specs.{Commands.{OfConfirmed, OfStrategy, SaysNumbers, SaysQueried, SaysUpgraded}, Queries.{IsQueried}}
+use Rattle.gs_compare.specs.{Commands.{OnRawCards, SaysDuel, SaysHands, SaysJudged}, Judging.{AreHandValues, hands_text, plan_in}}
 use Rattle.gs_file.proofs.States.{states_ok}
 use Rattle.gs_file.specs.{Faults.{Fault}, Reading.{FileGame, read_at, file_rules}, declared.version.Version.{Version}}
 use Rattle.gs_file.specs.declared.version.Version.TheVariants.{Two}
-use Rattle.gs_group.specs.{Checking.{ChecksGame, IsChecked, IsGrouping}, Shrinking.{IsShrunk, ShrinksGame}}
+use Rattle.gs_group.specs.{Checking.{ChecksGame, IsChecked, IsGrouping}, Shrinking.{IsShrunk, ShrinksGame}, Paths.{IsPathShown, ShowsPath}}
+use Rattle.gs_group.specs.{Playing.{IsPlayed, Plays}, Settling.{OfGrouping}, Solving.{IsSolved, Solves}, Texts.{IsSettledText}}
 use Rattle.gs_json.specs.FirstLine.{first_line}
 use Rattle.gs_compare.proofs.RawGames.{hands_weigh}
-use Rattle.gs_settle.proofs.Printed.{printed_raw, printed_strategy}
+use Rattle.gs_group.proofs.Printed.{printed_raw, printed_strategy}
 use Rattle.gs_strategy.proofs.Strategies.{reads_strategy, strategies_raw}
-use Rattle.gs_made.specs.{Made.{made_game}, declared.kind.Kind.{Kind}}
+use Rattle.gs_words.specs.{Made.{made_game}, declared.kind.Kind.{Kind}}
+use Rattle.gs_words.specs.Tasks.{Task, Shrink, Check, Make, Evaluate, Query, Upgrade, Judge, Duel, Certify, Verify, Solve, Play, Path}
+use Rattle.gs_words.specs.declared.request.Grouping.{Grouping}
 use Rattle.gs_model.specs.{Classes.{ClassLists}, Plans.{lift}, Play.{IsFictitiousPlay}, Verdict.{IsVerdict}}
 use Rattle.gs_reply.specs.{Replies.{OfFile, OfRead, OfReading, Reply, Prints}, declared.refusals.Which.TheVariants.{Only, First, Second}}
 use Rattle.gs_reply.specs.VerdictText.{verdict_text}
 use Rattle.gs_seq.specs.{Slots.{plan_of}, declared.plan.Plan.{Plan}}
-use Rattle.gs_settle.specs.{Paths.{IsPathShown, ShowsPath}, Playing.{IsPlayed, Plays}, Settling.{OfGrouping}, Solving.{IsSolved, Solves}, Texts.{IsSettledText}}
 use Rattle.gs_strategy.specs.{Checks.{ReadResult, Reads}, Confirmed.{IsConfirmed, over, raw_plan}, Laws.{IsStrategy}, Texts.{strategy_text}}
 use Rattle.gs_strategy.specs.{Values.{FractionParts, Numbers, Strategy, Weights, file_frame}, Views.{weights_of}}
-use Rattle.gs_words.specs.Tasks.{Task, Shrink, Check, Make, Evaluate, Query, Upgrade, Judge, Duel, Certify, Verify, Solve, Play, Path}
-use Rattle.gs_words.specs.declared.request.Grouping.{Grouping}
+use Rattle.gs_run.specs.{Asking.{Asks}, Making.{Makes}}
 use Rattle.gs_run.specs.Meanings.{AreOnRawCards, IsDuelled, IsJudgedText, IsPlayedOut, IsStrategyFile, Means, OfCertifiedFile, OfGameFile, OfStrategyFile}
 use Rattle.gs_run.specs.Meanings.{OfTwoFiles, OverLossless, ShowsSolution}
 

@@ -1,11 +1,10 @@
 -- What a run does, from what each status says.
 use Rattle.std.proofs.Common.{◌≡◌, ◌≢◌, ℕ, List, Some, refl, ap, ◌∙◌, subst}
-use Rattle.gs_answer.specs.Asking.{Asks, reads}
 use Rattle.gs_reply.specs.Replies.{Prints}
 use Rattle.gs_words.proofs.Plain.{plain_meant}
 use Rattle.gs_words.specs.{Requests.{request_of}, Tasks.{Task, Solve}}
 use Rattle.gs_run.proofs.{Answered.{answer_of, replied}, Concluded.{concludes}, Decided.{decided}, Meant.{means_of, solution_of}}
-use Rattle.gs_run.specs.{Meanings.{AskFor, Means, ShowsSolution}, Running.{Ends, Quiet, RunsTo}, Theorem.{CutShort, Does, Printed, Run}}
+use Rattle.gs_run.specs.{Asking.{Asks, reads}, Meanings.{AskFor, Means, ShowsSolution}, Running.{Ends, Quiet, RunsTo}, Theorem.{CutShort, Does, Printed, Run}}
 use Rattle.gs_run.specs.declared.status.Status.{Status}
 use Rattle.gs_run.specs.declared.status.Status.TheVariants as status
 

@@ -1,10 +1,10 @@
 -- A command has one reply to an input. The run gives this reply if no read or write fails and memory does not run out.
 use Rattle.std.specs.{Prelude.{◌≡◌, ◌⊎◌, ℕ, ◌<◌, ◌≤◌, List, Bool, length, Some, None, true, false}, Io.KnownBytes.{Appends}}
-use Rattle.gs_answer.specs.Asking.{Asks, reads}
 use Rattle.gs_io.specs.Causes.{Rose}
 use Rattle.gs_reply.specs.{Refusals.{line_of}, Replies.{Reply, Prints, Refuses}}
 use Rattle.gs_words.specs.{Requests.{request_of}, Tasks.{Task}}
-use Rattle.gs_run.specs.{Running.{Ends, NothingFailed, Quiet, Silent, TellsLine, most_bytes}, Statuses.{status_of}, declared.status.Status.{Status}}
+use Rattle.gs_run.specs.{Asking.{Asks, reads}, Running.{Ends, NothingFailed, Quiet, Silent, TellsLine, most_bytes}, Statuses.{status_of}}
+use Rattle.gs_run.specs.declared.status.Status.{Status}
 use Rattle.gs_run.specs.declared.status.Status.TheVariants as status
 
 -- the source holds these bytes, within the limit; for a task that reads no input this says nothing

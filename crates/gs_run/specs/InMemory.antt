@@ -1,10 +1,9 @@
 -- What the program does with words and bytes in memory. This is what `Does` says of a run, without a source and sinks.
 use Rattle.std.specs.Prelude.{◌≡◌, ◌≢◌, ◌⊎◌, ℕ, ◌<◌, ◌≤◌, List, [], Bool, length, Some, None, true, false}
-use Rattle.gs_answer.specs.Asking.{Asks, reads}
 use Rattle.gs_reply.specs.{Refusals.{line_of}, Replies.{Reply, Prints, Refuses}}
 use Rattle.gs_words.specs.{Requests.{request_of}, Tasks.{Task, Solve}, declared.request.Grouping.{Grouping}}
-use Rattle.gs_run.specs.{Endings.{Concludes}, Meanings.{AskFor, Means, ShowsSolution}, Running.{Asked, long_line, most_bytes, usage_line}, Statuses.{status_of}}
-use Rattle.gs_run.specs.declared.status.Status.{Status}
+use Rattle.gs_run.specs.{Asking.{Asks, reads}, Endings.{Concludes}, Meanings.{AskFor, Means, ShowsSolution}, Running.{Asked, long_line, most_bytes, usage_line}}
+use Rattle.gs_run.specs.{Statuses.{status_of}, declared.status.Status.{Status}}
 use Rattle.gs_run.specs.declared.status.Status.TheVariants as status
 
 -- the input is within the limit, if the task reads one

@@ -7,3 +7,7 @@ pub mod Deciding
 pub mod Theorem
 pub mod InMemory
 pub mod Starting
+pub mod Asking
+pub mod Making
+pub mod Confirming
+pub mod Answers

@@ -1,24 +1,21 @@
 -- What each command prints for the bytes that it reads, in terms of games and strategies. No order of checks is fixed here.
 use Rattle.std.specs.Prelude.{◌≡◌, ℕ, ◌<◌, ◌≤◌, ◌++◌, ◌∷◌, List, pos, Some, false, true, IsTrue}
 use Rattle.gs_certificate.specs.{Texts.{certificate_text}, Views.{certificate_view}, declared.certificate.Certificate.{Certificate}}
-use Rattle.gs_certify.specs.{Certificates.{IsCertified}, Verifying.{IsVerified}}
+use Rattle.gs_confirm.specs.{Certificates.{IsCertified}, Verifying.{IsVerified}, Queries.{IsQueried}}
 use Rattle.gs_compare.specs.Judging.{AreHandValues, hands_text}
-use Rattle.gs_confirm.specs.Queries.{IsQueried}
 use Rattle.gs_file.specs.{Reading.{FileGame, file_rules}, States.{FileStates}, declared.version.Version.{Version}, declared.version.Version.TheVariants.{Two}}
-use Rattle.gs_group.specs.{Checking.{IsChecked, IsGrouping}, Shrinking.{IsShrunk}}
+use Rattle.gs_group.specs.{Checking.{IsChecked, IsGrouping}, Shrinking.{IsShrunk}, Paths.{IsPathShown}, Solving.{IsSolved}}
 use Rattle.gs_strategy.specs.RawPlans.{AreRawPlans}
-use Rattle.gs_made.specs.Made.{made_game}
+use Rattle.gs_words.specs.{Made.{made_game}, Commands.{entry_of}, Plain.{Given, are_plain, given_for, option_words}, Requests.{task_for}}
+use Rattle.gs_words.specs.Tasks.{Task, Shrink, Check, Make, Evaluate, Query, Upgrade, Judge, Duel, Certify, Verify, Solve, Play, Path}
+use Rattle.gs_words.specs.{declared.names.CommandName.{CommandName}, declared.request.Grouping.{Grouping}}
 use Rattle.gs_model.specs.{Classes.{ClassLists}, Frame.{signal_count}, Lossless.{IsLossless}, Payoff.{hand_weight}, Play.{IsFictitiousPlay}}
 use Rattle.gs_model.specs.Verdict.{IsVerdict}
 use Rattle.gs_raw.specs.Cells.{raw_cell_count}
 use Rattle.gs_seq.specs.{Slots.{plan_of}, Stops.{IsSmall}}
-use Rattle.gs_settle.specs.{Paths.{IsPathShown}, Solving.{IsSolved}}
 use Rattle.gs_strategy.specs.{Confirmed.{IsConfirmed, over, raw_plan}, Values.{AreFractions}, Laws.{IsStrategy}, Texts.{strategy_text}}
 use Rattle.gs_strategy.specs.Values.{FractionParts, Numbers, Strategy, file_frame}
 use Rattle.gs_reply.specs.VerdictText.{verdict_text}
-use Rattle.gs_words.specs.{Commands.{entry_of}, Plain.{Given, are_plain, given_for, option_words}, Requests.{task_for}}
-use Rattle.gs_words.specs.Tasks.{Task, Shrink, Check, Make, Evaluate, Query, Upgrade, Judge, Duel, Certify, Verify, Solve, Play, Path}
-use Rattle.gs_words.specs.{declared.names.CommandName.{CommandName}, declared.request.Grouping.{Grouping}}
 
 -- ---- words
 

@@ -1,11 +1,10 @@
 -- What a run does to the source, to stdout and to stderr, for each status.
 use Rattle.std.specs.Prelude.{◌≡◌, ◌⊎◌, ℕ, ◌+◌, ◌<◌, ◌≤◌, List, [], length, take, codes, Bool, true, false, Some, None, Result, Ok, Err}
 use Rattle.std.specs.{declared.option.Option.{Option}, declared.alloc.Global.{Global}, Prelude.{Vec}, Io.KnownBytes.{Consumes, Appends, IsAtEnd}}
-use Rattle.gs_answer.specs.Asking.{Asks, reads}
 use Rattle.gs_io.specs.{Causes.{Rose}, Moves.{ReadsAll, TookPrefix}, declared.ReadStop.{ReadStop}}
 use Rattle.gs_reply.specs.{Refusals.{Refusal, line_of}, Replies.{Reply, Prints, Refuses}}
 use Rattle.gs_words.specs.{Requests.{request_of}, Tasks.{Task}}
-use Rattle.gs_run.specs.{Told.{TellsTo}, Statuses.{status_of}, declared.status.Status.{Status}}
+use Rattle.gs_run.specs.{Asking.{Asks, reads}, Told.{TellsTo}, Statuses.{status_of}, declared.status.Status.{Status}}
 use Rattle.gs_run.specs.declared.status.Status.TheVariants as status
 
 -- the source, stdout and stderr: the bytes of each, if it tells them, and its count of faults

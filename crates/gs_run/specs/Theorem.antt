@@ -1,8 +1,7 @@
 -- What a run of the program does, over any source and any two sinks.
 use Rattle.std.specs.{Prelude.{◌≡◌, ◌≢◌, ℕ, ◌<◌, List, Bool, length, take, true}, Io.KnownBytes.{Appends}}
-use Rattle.gs_answer.specs.Asking.{reads}
 use Rattle.gs_words.specs.{Tasks.{Task, Solve}, declared.request.Grouping.{Grouping}}
-use Rattle.gs_run.specs.{Deciding.{Holds, IsDecided}, Endings.{Concludes}, Meanings.{AskFor, Means, ShowsSolution}}
+use Rattle.gs_run.specs.{Asking.{reads}, Deciding.{Holds, IsDecided}, Endings.{Concludes}, Meanings.{AskFor, Means, ShowsSolution}}
 use Rattle.gs_run.specs.{Running.{Ends, Inputs, NothingFailed, Quiet, Silent}, declared.status.Status.{Status}}
 use Rattle.gs_run.specs.declared.status.Status.TheVariants as status
 

@@ -1,13 +1,12 @@
 //! The program over words and bytes in memory.
 
 ghost use Rattle.std.specs.Prelude.{◌≡◌, [], IfOk, map, string_bytes};
-ghost use Rattle.gs_answer.specs.Asking.{Asks};
 ghost use Rattle.gs_words.specs.Tasks.{IsInRange, task_of};
-ghost use Rattle.gs_run.specs.InMemory.{DoesInMemory, GivesAnswer, GivesOutcome};
+ghost use Rattle.gs_run.specs.{Asking.{Asks}, InMemory.{DoesInMemory, GivesAnswer, GivesOutcome}};
 
+use crate::asking::{answer, reads_input};
 use crate::runs::{LONG_LINE, MOST_BYTES, USAGE_LINE};
 use crate::status::Status;
-use gs_answer::{answer, reads_input};
 use gs_reply::{Stop, refusal_line};
 use gs_words::{Request, WordsStop, read_words};
 use std::alloc::{AllocError, Global};

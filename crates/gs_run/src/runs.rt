@@ -1,15 +1,12 @@
 //! The whole program, over any source and any two sinks.
 
 ghost use Rattle.std.specs.Prelude.{◌≡◌, map, string_bytes};
-ghost use Rattle.gs_answer.specs.Asking.{reads};
 ghost use Rattle.gs_words.specs.Tasks.{task_of};
-ghost use Rattle.gs_run.specs.Running.{ReadsInput, RunsTo, ends, memory_line, usage_line};
-ghost use Rattle.gs_run.specs.Theorem.{Does};
-ghost use Rattle.gs_run.specs.Told.{TellsTo};
+ghost use Rattle.gs_run.specs.{Asking.{reads}, Running.{ReadsInput, RunsTo, ends, memory_line, usage_line}, Theorem.{Does}, Told.{TellsTo}};
 ghost use Rattle.gs_run.specs.declared.status.Status.TheVariants as status;
 
+use crate::asking::{answer, reads_input};
 use crate::status::Status;
-use gs_answer::{answer, reads_input};
 use gs_io::{ReadStop, Sink, Source, read_all, write_all};
 use gs_reply::{Stop, refusal_line};
 use gs_words::{Request, WordsStop, read_words};

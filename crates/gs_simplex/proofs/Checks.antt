@@ -1,13 +1,12 @@
 -- An opening whose pairs were checked one after another, and whose right sides are feasible, is an opening of the program.
 use Rattle.std.proofs.Common.{◌≡◌, ◌≢◌, inl, inr, ℕ, zero, suc, ◌+◌, ◌<◌, ◌≤◌, List, [], ◌∷◌, ◌++◌, length, take, slice_index_or, ℤ, pos, neg_ℤ, ◌+ℤ◌, ◌*ℤ◌, refl, sym, ap, subst, ◌∙◌, arith}
 use Rattle.std.proofs.{lemmas.Bool.{cases_eq}, lemmas.List.{length-take-le, get_or-take, take_more}, Math.Seq.{take-length}}
-use Rattle.gs_rows.specs.{declared.Program.{Program}, Sums.{sum_to}}
-use Rattle.gs_rows.specs.Program.{number, IsFree, Listing, IsListed, RowListed, ColListed, IsPairList, IsRowsOf, CanTake, IsTakenInTurn, IsOpening}
-use Rattle.gs_rows.proofs.{Ring.{ring, linear}, Steps.{take_rows}, Solutions.{basic_exists}, Laws.{end_feasible}}
-use Rattle.gs_rows.proofs.{Bases.{IsFull, from_cols, table_of, state_of}, Opening.{IsOpened}}
-use Rattle.gs_rows.proofs.PairLists.{less_one, place_of, listed_at, whole_opened, opened_pair_list}
+use Rattle.gs_simplex.specs.{declared.program.Program.{Program}, Sums.{sum_to}}
+use Rattle.gs_simplex.specs.Program.{number, IsFree, Listing, IsListed, RowListed, ColListed, IsPairList, IsRowsOf, CanTake, IsTakenInTurn, IsOpening}
 use Rattle.gs_simplex.specs.{Table.{table_rows, IsTableOf, IsTableAfter}, Conditions.{IsNewPair, CanTakeAt, IsTaken, HasFeasibleSides}}
-use Rattle.gs_simplex.proofs.{Multiples.{down_nonneg}, Kept.{row_zero_kept}}
+use Rattle.gs_simplex.proofs.{Ring.{ring, linear}, Steps.{take_rows}, Solutions.{basic_exists}, RowLaws.{end_feasible}}
+use Rattle.gs_simplex.proofs.{Bases.{IsFull, from_cols, table_of, state_of}, Opening.{IsOpened}}
+use Rattle.gs_simplex.proofs.{PairLists.{less_one, place_of, listed_at, whole_opened, opened_pair_list}, Multiples.{down_nonneg}, Kept.{row_zero_kept}}
 
 -- the front of a front
 take_take : {X : Type 0} (xs : List X) (k t : ℕ) → k ≤ t → take k (take t xs) ≡ take k xs

@@ -1,8 +1,7 @@
 -- The least ratio, found place by place, tells the row that leaves; where no place has a ratio, no row leaves.
 use Rattle.std.proofs.Common.{◌≡◌, ℕ, ◌+◌, ◌<◌, ◌≤◌, ◌⊎◌, inl, inr, Option, Some, None, length, slice_index_or, ℤ, pos, ◌+ℤ◌, ◌-ℤ◌, ◌*ℤ◌, ◌≤ℤ◌, ◌<ℤ◌, refl, sym, ap, subst, ◌∙◌, arith, below_more}
-use Rattle.gs_rows.specs.{declared.Program.{Program}, Program.{Listing, IsListed, IsFree}, Path.{NoneLeaves}}
-use Rattle.gs_rows.proofs.{Ring.{ring, linear, times_pos, cancel, cancel_pos}, Circle.{cross_trans}, PairLists.{less_one, place_of, listed_at}}
-use Rattle.gs_simplex.specs.declared.choice.Ratio.{Ratio}
+use Rattle.gs_simplex.proofs.{Ring.{ring, linear, times_pos, cancel, cancel_pos}, Circle.{cross_trans}, PairLists.{less_one, place_of, listed_at}}
+use Rattle.gs_simplex.specs.{declared.program.Program.{Program}, Program.{Listing, IsListed, IsFree}, Path.{NoneLeaves}, declared.choice.Ratio.{Ratio}}
 use Rattle.gs_simplex.specs.Choice.{Before, NotAfter, IsRatio, IsNoRatio, IsRatioAt, IsBetter, IsLeast, IsLeastSoFar, IsLeaving}
 
 -- ---- the order of ratios
@@ -10,7 +9,7 @@ use Rattle.gs_simplex.specs.Choice.{Before, NotAfter, IsRatio, IsNoRatio, IsRati
 cross_less : (a b c d x y : ℤ) → pos 0 <ℤ b → pos 0 <ℤ d → pos 0 <ℤ y → (a *ℤ d) <ℤ (c *ℤ b) → (c *ℤ y) ≤ℤ (x *ℤ d) → (a *ℤ y) <ℤ (x *ℤ b)
 cross_less a b c d x y bp dp yp f g =
     let h : pos 0 <ℤ (y *ℤ (c *ℤ b -ℤ a *ℤ d)) = times_pos y (c *ℤ b -ℤ a *ℤ d) yp (omega (arith, linear)) in
-    let k : pos 0 ≤ℤ (b *ℤ (x *ℤ d -ℤ c *ℤ y)) = Rattle.gs_rows.proofs.Ring.times_nonneg b (x *ℤ d -ℤ c *ℤ y) (omega (arith, linear))
+    let k : pos 0 ≤ℤ (b *ℤ (x *ℤ d -ℤ c *ℤ y)) = Rattle.gs_simplex.proofs.Ring.times_nonneg b (x *ℤ d -ℤ c *ℤ y) (omega (arith, linear))
     (omega (arith, linear)) in
     let e : y *ℤ (c *ℤ b -ℤ a *ℤ d) +ℤ b *ℤ (x *ℤ d -ℤ c *ℤ y) ≡ d *ℤ (x *ℤ b -ℤ a *ℤ y) = simp ring (omega (arith, linear)) in
     let s : pos 0 <ℤ (d *ℤ (x *ℤ b -ℤ a *ℤ y)) = omega (arith, linear) in

@@ -1,14 +1,13 @@
 -- Where a path ends its values are feasible and its prices have multipliers; where it is unbounded the aim has no bound.
 use Rattle.std.proofs.Common.{◌≡◌, ℕ, suc, ◌+◌, ◌-◌, ◌<◌, List, inl, inr, slice_index_or, ℤ, pos, neg_ℤ, ◌+ℤ◌, ◌-ℤ◌, ◌*ℤ◌, ◌≤ℤ◌, ◌<ℤ◌, sym, ap, subst, ◌∙◌, arith}
-use Rattle.gs_rows.specs.{declared.Program.{Program}, Sums.{sum_to}}
-use Rattle.gs_rows.specs.Program.{number, aim_of, IsFree, Listing, IsListed, ColListed, IsRowsOf, IsSolution, IsFeasible, IsOpening}
-use Rattle.gs_rows.specs.Path.{NoneEnters, ends, unbounded, PathStops}
-use Rattle.gs_rows.proofs.Ring.{ring, linear, times_times, zero_times, times_nonneg, times_pos, cancel, cancel_nonneg}
-use Rattle.gs_rows.proofs.{Solutions.{IsKilled, IsBasic, find_col, row_at_basic, basic_exists, aim_at_basic}, Turns.{IsState}}
-use Rattle.gs_rows.proofs.{Bases.{IsFull, RowsFeasible, col_of, col_listed, in_cols, from_cols, state_of}, Opening.{trail_at}, Agree.{Agree, rows_agree}}
-use Rattle.gs_rows.proofs.{Laws.{IsUnboundedAt, end_feasible, no_bound}, Pairing.{price_from_multipliers}}
+use Rattle.gs_simplex.proofs.Ring.{ring, linear, times_times, zero_times, times_nonneg, times_pos, cancel, cancel_nonneg}
+use Rattle.gs_simplex.proofs.{Solutions.{IsKilled, IsBasic, find_col, row_at_basic, basic_exists, aim_at_basic}, Turns.{IsState}}
+use Rattle.gs_simplex.proofs.{Bases.{IsFull, RowsFeasible, col_of, col_listed, in_cols, from_cols, state_of}, Opening.{trail_at}, Agree.{Agree, rows_agree}}
+use Rattle.gs_simplex.proofs.{RowLaws.{IsUnboundedAt, end_feasible, no_bound}, Pairing.{price_from_multipliers}}
 use Rattle.gs_frac.specs.declared.value.Fraction.{Fraction}
-use Rattle.gs_simplex.specs.{declared.answer.Best.{Best}, Answer.{IsBestAt, IsBest}, Laws.{AreOver}}
+use Rattle.gs_simplex.specs.{declared.program.Program.{Program}, Sums.{sum_to}}
+use Rattle.gs_simplex.specs.Program.{number, aim_of, IsFree, Listing, IsListed, ColListed, IsRowsOf, IsSolution, IsFeasible, IsOpening}
+use Rattle.gs_simplex.specs.{Path.{NoneEnters, ends, unbounded, PathStops}, declared.answer.Best.{Best}, Answer.{IsBestAt, IsBest}, Laws.{AreOver}}
 use lib.IntN.{*ℤ_comm}
 
 -- ---- the end of a path

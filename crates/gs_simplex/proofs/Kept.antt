@@ -1,9 +1,9 @@
 -- What holds of a table's rows holds of the rows that they are multiples of.
 use Rattle.std.proofs.Common.{◌≡◌, ◌≢◌, ℕ, suc, ◌+◌, ◌*◌, ◌<◌, ◌≤◌, List, ℤ, pos, ◌*ℤ◌, ◌<ℤ◌, ◌≤ℤ◌, refl, sym, ap, subst, ◌∙◌, arith}
-use Rattle.gs_rows.specs.{declared.Program.{Program}, Rows.{IsNarrow}, Program.{Listing, IsPairList, IsRowsOf}}
-use Rattle.gs_rows.specs.Path.{Enters, NoneEnters, Leaves, NoneLeaves, AllNarrow}
-use Rattle.gs_rows.proofs.PairLists.{pair_list_is_list}
-use Rattle.gs_simplex.specs.{Numbers.{cell}, Table.{table_rows, table_aim, IsTable, IsKept, IsTableOf}}
+use Rattle.gs_simplex.specs.{declared.program.Program.{Program}, Rows.{IsNarrow}, Program.{Listing, IsPairList, IsRowsOf}}
+use Rattle.gs_simplex.specs.{Path.{Enters, NoneEnters, Leaves, NoneLeaves, AllNarrow}, Numbers.{cell}}
+use Rattle.gs_simplex.specs.Table.{table_rows, table_aim, IsTable, IsKept, IsTableOf}
+use Rattle.gs_simplex.proofs.PairLists.{pair_list_is_list}
 use Rattle.gs_simplex.proofs.Multiples.{multiple_of_equal, down_narrow, down_pos, down_nonpos, down_zero, up_pos, up_zero, down_ratio, up_tie}
 use Rattle.gs_simplex.proofs.{Places.{row_inside}, Tables.{flipped_abs}}
 

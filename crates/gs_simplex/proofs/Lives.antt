@@ -1,11 +1,10 @@
 -- Rows that are 0 outside some places.
 use Rattle.std.proofs.Common.{◌≡◌, ◌≢◌, ℕ, ◌+◌, ◌<◌, ◌≤◌, ◌⊎◌, inl, inr, List, length, slice_index, slice_set, ℤ, pos, ◌-ℤ◌, ◌*ℤ◌, sym, ap, subst, ◌∙◌, arith, get_or-set_other, get_or-set_same}
 use Rattle.std.proofs.{lemmas.Bool.{cases_eq, cases_lt, cases_order}, lemmas.List.{length-set}}
-use Rattle.gs_rows.specs.{declared.Program.{Program}, Program.{Listing, IsListed, IsPairList, IsRowsOf}}
-use Rattle.gs_rows.proofs.{Ring.{linear, one_times, times_zero, cancel_zero}, Solutions.{find_col}, PairLists.{pair_list_is_list, row_decided, column_decided}}
-use Rattle.gs_simplex.specs.{Numbers.{at, cell, IsDivided}, Table.{IsTable, IsKept}}
-use Rattle.gs_simplex.specs.Live.{IsOutside, AreColumnPlaces, AreFoundPlaces, IsSupport, IsChange, IsLive}
-use Rattle.gs_simplex.proofs.{Tables.{flipped_other}, Kept.{row_zero_kept, aim_zero_kept}}
+use Rattle.gs_simplex.specs.{declared.program.Program.{Program}, Program.{Listing, IsListed, IsPairList, IsRowsOf}, Numbers.{at, cell, IsDivided}}
+use Rattle.gs_simplex.specs.{Table.{IsTable, IsKept}, Live.{IsOutside, AreColumnPlaces, AreFoundPlaces, IsSupport, IsChange, IsLive}}
+use Rattle.gs_simplex.proofs.{Ring.{linear, one_times, times_zero, cancel_zero}, Solutions.{find_col}}
+use Rattle.gs_simplex.proofs.{PairLists.{pair_list_is_list, row_decided, column_decided}, Tables.{flipped_other}, Kept.{row_zero_kept, aim_zero_kept}}
 
 -- a column at one of the places, or at none
 pub place_or_none : (places : List ℕ) (found j : ℕ) → ((k : ℕ) × (k < found) × (slice_index places k ≡ j)) ⊎ ((k : ℕ) → k < found → slice_index places k ≢ j)

@@ -1,11 +1,9 @@
 -- Rows that are a primitive row times a number above 0: signs, ratios and zeros are those of the primitive row.
 use Rattle.std.proofs.Common.{◌≡◌, ℕ, ◌+◌, ◌<◌, ◌≤◌, ◌^◌, ◌⊎◌, inl, inr, ℤ, pos, negsuc, ◌-ℤ◌, ◌*ℤ◌, neg_ℤ, ◌≤ℤ◌, ◌<ℤ◌, unsigned_abs, refl, sym, ap, ◌∙◌, arith}
 use Rattle.std.proofs.lemmas.Int.{ints}
-use Rattle.gs_rows.specs.Rows.{IsPrimitive}
-use Rattle.gs_rows.proofs.Ring.{ring, linear, times_zero, times_neg, times_times, times_left, one_times, times_pos, cancel, cancel_zero, cancel_pos, cancel_nonneg}
-use Rattle.gs_rows.proofs.{Pivot.{primitive_same}, Primitive.{primitive_exists}}
-use Rattle.gs_simplex.specs.Numbers.{IsMultiple}
-use Rattle.gs_simplex.proofs.Guesses.{quotient_narrow}
+use Rattle.gs_simplex.specs.{Rows.{IsPrimitive}, Numbers.{IsMultiple}}
+use Rattle.gs_simplex.proofs.Ring.{ring, linear, times_zero, times_neg, times_times, times_left, one_times, times_pos, cancel, cancel_zero, cancel_pos}
+use Rattle.gs_simplex.proofs.{Ring.{cancel_nonneg}, Pivot.{primitive_same}, Primitive.{primitive_exists}, Guesses.{quotient_narrow}}
 
 -- a row that is a primitive row but for factors is a multiple of it
 pub multiple_of_same : (n : ℕ) (g h : ℤ) → pos 0 <ℤ g → pos 0 <ℤ h → (N Q : ℕ → ℤ) → ((j : ℕ) → j ≤ n → g *ℤ N j ≡ h *ℤ Q j) → IsPrimitive n Q

@@ -1,15 +1,15 @@
 -- The path up to a table: its first state, one more step of the opening or one more pivot, and each way in which it stops.
 use Rattle.std.proofs.Common.{◌≡◌, ◌≢◌, ℕ, suc, ◌+◌, ◌-◌, ◌*◌, ◌<◌, ◌≤◌, inl, inr, List, [], ◌∷◌, ◌++◌, length, take, drop, slice_index_or, slice_set, ℤ, pos, neg_ℤ, ◌<ℤ◌, ◌≤ℤ◌, Option, Some, None, IfNone, MatchOption, refl, sym, ap, subst, ◌∙◌, arith}
 use Rattle.std.proofs.{lemmas.List.{take_more, length-take-le, length-drop}, Math.Seq.{take-length}}
-use Rattle.gs_rows.specs.{declared.Program.{Program}, Rows.{IsPrimitive}, Elimination.{IsEliminated}}
-use Rattle.gs_rows.specs.Program.{Listing, IsPairList, IsRowsOf, CanTake, IsTakenInTurn, IsOpening}
-use Rattle.gs_rows.specs.Path.{States, IsPath, IsWhole, IsPivot, Enters, NoneEnters, Leaves, NoneLeaves, AllNarrow, IsFirstWide, ends, wide, pivots, unbounded, PathStops}
-use Rattle.gs_rows.proofs.{Ring.{linear}, Steps.{IsList, take_rows}, Pivots.{IsPlace, turn_rows}, Opening.{opened}}
-use Rattle.gs_rows.proofs.{Extend.{longer, last_step, path_longer}, Agree.{Agree, enters_same, leaves_same, lists_same, paths_agree}}
-use Rattle.gs_rows.proofs.{Exists.{take_nonzero}, PairLists.{less_one, pair_list_is_list, opened_pair_list, place_in, changed_pair_list}}
-use Rattle.gs_simplex.specs.{Numbers.{at, cell}, Table.{table_rows, table_aim, IsTable, IsKept, IsTableOf, IsTableAfter, stated, IsWideAfter}}
+use Rattle.gs_simplex.specs.{declared.program.Program.{Program}, Rows.{IsPrimitive}, Elimination.{IsEliminated}}
+use Rattle.gs_simplex.specs.Program.{Listing, IsPairList, IsRowsOf, CanTake, IsTakenInTurn, IsOpening}
+use Rattle.gs_simplex.specs.Path.{States, IsPath, IsWhole, IsPivot, Enters, NoneEnters, Leaves, NoneLeaves, AllNarrow, IsFirstWide, ends, wide, pivots}
+use Rattle.gs_simplex.specs.{Path.{unbounded, PathStops}, Numbers.{at, cell}}
+use Rattle.gs_simplex.specs.Table.{table_rows, table_aim, IsTable, IsKept, IsTableOf, IsTableAfter, stated, IsWideAfter}
 use Rattle.gs_simplex.specs.{State.{IsSoFar, IsPivoted, IsWidePivot}, Choice.{IsLeaving}}
-use Rattle.gs_simplex.proofs.{Places.{at_part}, Tables.{flipped_other}}
+use Rattle.gs_simplex.proofs.{Ring.{linear}, Steps.{IsList, take_rows}, Pivots.{IsPlace, turn_rows}, Opening.{opened}, Extend.{longer, last_step, path_longer}}
+use Rattle.gs_simplex.proofs.{Agree.{Agree, enters_same, leaves_same, lists_same, paths_agree}, Exists.{take_nonzero}}
+use Rattle.gs_simplex.proofs.{PairLists.{less_one, pair_list_is_list, opened_pair_list, place_in, changed_pair_list}, Places.{at_part}, Tables.{flipped_other}}
 use Rattle.gs_simplex.proofs.Kept.{narrow_kept, aim_zero_kept, nonzero_kept, enters_kept, none_enters_kept, leaves_kept, none_leaves_kept}
 
 module _ {p : Program} {o l : Listing} {xs : List ℤ} {t : ℕ} where

@@ -5,11 +5,10 @@ use Rattle.std.proofs.lemmas.List.{get_or_append_left, get_or-append_right, get_
 use Rattle.std.proofs.Math.ListN.{get_or-map}
 use Prim.Native.Nat.{◌∣◌}
 use borrow.Rule.Slice.PartMut.{put_mid}
-use Rattle.gs_rows.specs.Rows.{IsNarrow, IsPrimitive}
+use Rattle.gs_simplex.specs.Rows.{IsNarrow, IsPrimitive}
 use Rattle.gs_simplex.specs.Numbers.{at, cell, AreNarrowNumbers, IsAtMost, IsMultiple, IsDivided, cleared_by, IsMixed, IsReduced, IsReducedTo, IsTurned}
 use Rattle.gs_simplex.specs.Numbers.{IsLeadOf}
-use Rattle.gs_rows.proofs.Ring.{linear}
-use Rattle.gs_simplex.proofs.Multiples.{down_nonneg}
+use Rattle.gs_simplex.proofs.{Ring.{linear}, Multiples.{down_nonneg}}
 
 -- the numbers of a row of a list of rows
 pub vec_at : (rows : List (Vec ℤ Global)) (i : ℕ) (v : Vec ℤ Global) → i < length rows → v ≡ get_or rows i v

@@ -4,9 +4,9 @@ use Rattle.std.proofs.{lemmas.Bool.{cases_eq}, lemmas.Int.{ints, unsigned_abs-mu
 use Rattle.std.proofs.Math.Nat.{eq-one_of_dvd-one, one-dvd, eq-zero_of_zero-dvd, mul-dvd-mul_left, dvd_of_mul-dvd-mul_left, le_of_dvd, le-div_iff_mul-le}
 use Prim.Native.Nat.{◌∣◌}
 use Rattle.std.specs.Int.{IsGcd}
-use Rattle.gs_rows.specs.Rows.{IsNarrow, IsPrimitive}
-use Rattle.gs_rows.proofs.{Ring.{ring, linear, one_times, times_pos, times_times, cancel, cancel_zero}, Sums.{cases_last}}
-use Rattle.gs_rows.proofs.Primitive.{over, over_times, zero_abs}
+use Rattle.gs_simplex.proofs.{Ring.{ring, linear, one_times, times_pos, times_times, cancel, cancel_zero}, Sums.{cases_last}}
+use Rattle.gs_simplex.proofs.Primitive.{over, over_times, zero_abs}
+use Rattle.gs_simplex.specs.Rows.{IsNarrow, IsPrimitive}
 use Rattle.gs_simplex.specs.Numbers.{at, AreNarrowNumbers, AllAtMost, IsAtMost, IsDivisor, IsShared, IsQuotient, IsWideQuotient, IsMultiple, IsDivided, IsMixed}
 use Rattle.gs_simplex.specs.Numbers.{IsReduced, IsReducedTo}
 
@@ -158,7 +158,7 @@ kept_mixed lead row c width own z = record {
   by = (
     lead c,
     own,
-    λ j l. (let s : row c *ℤ lead j ≡ pos 0 = ap (λ t. t *ℤ lead j) z ∙ Rattle.gs_rows.proofs.Ring.zero_times (lead j) in
+    λ j l. (let s : row c *ℤ lead j ≡ pos 0 = ap (λ t. t *ℤ lead j) z ∙ Rattle.gs_simplex.proofs.Ring.zero_times (lead j) in
         omega (arith, linear)),
   );
 }

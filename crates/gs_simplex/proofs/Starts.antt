@@ -1,10 +1,9 @@
 -- The program's rows, each divided, are the table that a path starts from.
 use Rattle.std.proofs.Common.{◌≡◌, inl, inr, ℕ, zero, suc, ◌+◌, ◌-◌, ◌*◌, ◌<◌, ◌^◌, List, [], length, slice_index, ℤ, pos, neg_ℤ, unsigned_abs, sym, ap, subst, ◌∙◌, arith}
 use Rattle.std.proofs.lemmas.Bool.{cases_eq, cases_lt}
-use Rattle.gs_rows.specs.{declared.Program.{Program}, Rows.{IsNarrow, IsPrimitive}, Program.{IsShaped, IsRowsOf}}
-use Rattle.gs_rows.proofs.{Exists.{empty_rows_from}, Ring.{cancel_zero}}
+use Rattle.gs_simplex.specs.{declared.program.Program.{Program}, Rows.{IsNarrow, IsPrimitive}, Program.{IsShaped, IsRowsOf}}
 use Rattle.gs_simplex.specs.{Numbers.{at, cell, AreNarrowNumbers, IsDivided}, Table.{table_rows, table_aim, IsTable, HasTops}, State.{IsRaw}}
-use Rattle.gs_simplex.proofs.{Places.{row_inside}, Tables.{flipped_at, flipped_other, primitive_shorter}}
+use Rattle.gs_simplex.proofs.{Exists.{empty_rows_from}, Ring.{cancel_zero}, Places.{row_inside}, Tables.{flipped_at, flipped_other, primitive_shorter}}
 
 -- each place of rows that stand one after the other
 pub rows_cover : (w n : ℕ) (P : ℕ → Type 0) → ((i j : ℕ) → i < n → j < w → P (i * w + j)) → (k : ℕ) → k < n * w → P k

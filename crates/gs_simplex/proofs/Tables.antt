@@ -2,12 +2,11 @@
 use Rattle.std.proofs.Common.{◌≡◌, ◌≢◌, ℕ, suc, ◌+◌, ◌-◌, ◌*◌, ◌<◌, ◌≤◌, ◌^◌, ◌⊎◌, inl, inr, cond, nat_eq, List, length, ℤ, pos, ◌+ℤ◌, ◌-ℤ◌, ◌*ℤ◌, neg_ℤ, ◌≤ℤ◌, ◌<ℤ◌, unsigned_abs, refl, sym, ap, subst, ◌∙◌, arith}
 use Rattle.std.proofs.{lemmas.Bool.{cases_eq, cases_lt}, lemmas.Int.{ints}, lemmas.Nat.Gcd.{dvd-zero}}
 use Prim.Native.Nat.{◌∣◌}
-use Rattle.gs_rows.specs.{declared.Program.{Program}, Rows.{IsNarrow, IsPrimitive}, Elimination.{IsEliminated}, Path.{IsFirstWide}}
-use Rattle.gs_rows.proofs.{Ring.{linear, times_zero, times_neg, times_pos, cancel_zero}, Pivot.{primitive_same}, Exists.{elimination_exists}}
-use Rattle.gs_rows.proofs.Primitive.{zero_abs}
+use Rattle.gs_simplex.specs.{declared.program.Program.{Program}, Rows.{IsNarrow, IsPrimitive}, Elimination.{IsEliminated}, Path.{IsFirstWide}}
 use Rattle.gs_simplex.specs.Numbers.{at, cell, IsMultiple, IsReduced, IsMixed, IsLeadOf, IsCleared, IsClearedTo}
 use Rattle.gs_simplex.specs.Table.{table_rows, IsTable, IsKept, IsTableAfter, stated, IsWideAfter}
-use Rattle.gs_simplex.proofs.Multiples.{multiple_of_same, multiple_of_equal, mixed_along, down_narrow, up_zero, same_turn}
+use Rattle.gs_simplex.proofs.{Ring.{linear, times_zero, times_neg, times_pos, cancel_zero}, Pivot.{primitive_same}, Exists.{elimination_exists}}
+use Rattle.gs_simplex.proofs.{Primitive.{zero_abs}, Multiples.{multiple_of_same, multiple_of_equal, mixed_along, down_narrow, up_zero, same_turn}}
 use Rattle.gs_simplex.proofs.Places.{reduced_same, mixed_same, row_apart, lead_by}
 
 -- ---- a row with 0 at its end

@@ -2,12 +2,12 @@
 use Rattle.std.proofs.Common.{◌≡◌, ℕ, ◌+◌, ◌<◌, ◌≤◌, List, Vec, Global, inl, inr, [], ◌∷◌, ◌++◌, length, slice_index, slice_index_or, ℤ, ◌*ℤ◌, refl, sym, ap, subst, ◌∙◌, arith}
 use Rattle.std.proofs.{lemmas.Bool.{cases_lt}, lemmas.List.{length_push, get_or_append_left, get_or_push, get_or_default}}
 use Rattle.std.specs.{Prelude.{Contains}, List.{HoldsAt}}
-use Rattle.gs_rows.specs.{declared.Program.{Program}, Program.{Listing, ColListed, IsPairList, IsOpening}}
-use Rattle.gs_rows.specs.Path.{States, IsPath, NoneEnters, ends, Stops, PathStops}
-use Rattle.gs_rows.proofs.{Opening.{path_trail, bases_differ}, PairLists.{pair_list_is_list}, Agree.{Agree, lists_same, paths_agree}}
 use Rattle.gs_frac.specs.declared.value.Fraction.{Fraction}
-use Rattle.gs_simplex.specs.{declared.answer.Turn.{Turn}, declared.answer.PathTrace.{PathTrace}, Table.{table_aim, IsTable}, State.{IsSoFar, IsTurnAt}}
-use Rattle.gs_simplex.specs.{Answer.{IsSmallTable}, Trace.{IsBasis, IsBasisBelow, IsBasisAt, IsAimValue, IsTurnOf, IsTrace, IsNoted}}
+use Rattle.gs_simplex.specs.{declared.program.Program.{Program}, Program.{Listing, ColListed, IsPairList, IsOpening}}
+use Rattle.gs_simplex.specs.{Path.{States, IsPath, NoneEnters, ends, Stops, PathStops}, declared.answer.Turn.{Turn}, declared.answer.PathTrace.{PathTrace}}
+use Rattle.gs_simplex.specs.{Table.{table_aim, IsTable}, State.{IsSoFar, IsTurnAt}, Answer.{IsSmallTable}}
+use Rattle.gs_simplex.specs.Trace.{IsBasis, IsBasisBelow, IsBasisAt, IsAimValue, IsTurnOf, IsTrace, IsNoted}
+use Rattle.gs_simplex.proofs.{Opening.{path_trail, bases_differ}, PairLists.{pair_list_is_list}, Agree.{Agree, lists_same, paths_agree}}
 use Rattle.gs_simplex.proofs.{Multiples.{down_fraction}, Paths.{turn_same_as, ends_stops}}
 
 -- what holds of each element after a push

@@ -1,8 +1,8 @@
 -- What the simplex method answers.
 use Rattle.std.specs.{Prelude.{◌≡◌, ℕ, ◌+◌, ◌*◌, ◌<◌, ◌≤◌, Result, Ok, Err, List, ℤ, pos, neg_ℤ, ◌*ℤ◌, length}, List.{HoldsAt}}
-use Rattle.gs_rows.specs.{declared.Program.{Program}, Program.{Listing, IsListed, ColListed, IsRowsOf}, Path.{ends, wide, pivots, unbounded, PathStops}}
 use Rattle.gs_frac.specs.declared.value.Fraction.{Fraction}
-use Rattle.gs_simplex.specs.{declared.answer.Best.{Best}, declared.answer.Stop.{Stop}}
+use Rattle.gs_simplex.specs.{declared.program.Program.{Program}, Program.{Listing, IsListed, ColListed, IsRowsOf}}
+use Rattle.gs_simplex.specs.{Path.{ends, wide, pivots, unbounded, PathStops}, declared.answer.Best.{Best}, declared.answer.Stop.{Stop}}
 use Rattle.gs_simplex.specs.declared.answer.Stop.TheVariants.{TableTooLarge, Wide, Pivots, Unbounded, Memory}
 
 -- the table is within the limit of 1,048,576 numbers

@@ -1,6 +1,6 @@
 -- The choice of the entering column and of the leaving row as the code finds it, place by place.
 use Rattle.std.specs.Prelude.{◌≡◌, ℕ, ◌+◌, ◌<◌, ◌≤◌, ◌⊎◌, Option, Some, None, length, slice_index_or, ℤ, pos, ◌*ℤ◌, ◌≤ℤ◌, ◌<ℤ◌}
-use Rattle.gs_rows.specs.{declared.Program.{Program}, Rows.{IsNarrow}, Program.{Listing, IsFree}, Path.{Leaves, NoneLeaves}}
+use Rattle.gs_simplex.specs.{declared.program.Program.{Program}, Rows.{IsNarrow}, Program.{Listing, IsFree}, Path.{Leaves, NoneLeaves}}
 use Rattle.gs_simplex.specs.declared.choice.Ratio.{Ratio}
 
 -- the place of the first of `count` numbers that is above 0, or none if no number is

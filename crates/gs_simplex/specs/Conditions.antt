@@ -1,7 +1,7 @@
 -- What the tests check of a program and an opening before they call `run`.
 use Rattle.std.specs.Prelude.{◌≡◌, ◌≢◌, ℕ, ◌+◌, ◌<◌, List, length, take, slice_index_or, ℤ, pos, ◌≤ℤ◌}
-use Rattle.gs_rows.specs.{declared.Program.{Program}, Program.{Listing, IsListed, IsFree, CanTake}}
-use Rattle.gs_simplex.specs.{Numbers.{AreNarrowNumbers}, Table.{IsTable, IsTableOf}}
+use Rattle.gs_simplex.specs.{declared.program.Program.{Program}, Program.{Listing, IsListed, IsFree, CanTake}, Numbers.{AreNarrowNumbers}}
+use Rattle.gs_simplex.specs.Table.{IsTable, IsTableOf}
 
 -- a row has this width and narrow numbers
 pub record IsWideRow (width : ℕ) (row : List ℤ) : Type 0 where

@@ -1,8 +1,8 @@
 -- Laws of the end of a path, and of an unbounded path, for every program.
 use Rattle.std.specs.{Prelude.{ℕ, ◌<◌, ◌≡◌, List, ℤ, pos, ◌-ℤ◌, ◌*ℤ◌, ◌≤ℤ◌, ◌<ℤ◌}, List.{HoldsAt}}
-use Rattle.gs_rows.specs.{declared.Program.{Program}, Sums.{sum_to}, Program.{number, aim_of, Listing, IsOpening, IsFeasible}, Path.{unbounded, PathStops}}
 use Rattle.gs_frac.specs.declared.value.Fraction.{Fraction}
-use Rattle.gs_simplex.specs.{declared.answer.Best.{Best}, Answer.{IsBest}}
+use Rattle.gs_simplex.specs.{declared.program.Program.{Program}, Sums.{sum_to}, Program.{number, aim_of, Listing, IsOpening, IsFeasible}}
+use Rattle.gs_simplex.specs.{Path.{unbounded, PathStops}, declared.answer.Best.{Best}, Answer.{IsBest}}
 
 -- the first `count` fractions are the numbers v over d
 abbrev pub AreOver : ℕ → List Fraction → ℤ → (ℕ → ℤ) → Type 0

@@ -1,3 +1,9 @@
+pub mod Sums
+pub mod Rows
+pub mod Program
+pub mod Elimination
+pub mod Path
+pub mod PathLaws
 pub mod Numbers
 pub mod Table
 pub mod Choice

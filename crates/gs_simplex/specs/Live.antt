@@ -1,7 +1,6 @@
 -- The columns that a pivot looks at. Place 0 is for the own column of the row at hand, which changes from row to row.
 use Rattle.std.specs.Prelude.{◌≡◌, ◌≢◌, ℕ, ◌+◌, ◌<◌, ◌≤◌, ◌⊎◌, List, length, slice_index, slice_index_or, vec_len, ℤ, pos, ◌-ℤ◌, ◌*ℤ◌}
-use Rattle.gs_rows.specs.{declared.Program.{Program}, Program.{Listing, IsListed, RowListed}}
-use Rattle.gs_simplex.specs.declared.live.Live.{Live}
+use Rattle.gs_simplex.specs.{declared.program.Program.{Program}, Program.{Listing, IsListed, RowListed}, declared.live.Live.{Live}}
 
 -- there is room for each column and row of a program, and for a row's own column
 pub record HasPlaces (p : Program) (v : Live) : Type 0 where

@@ -2,7 +2,7 @@
 use Rattle.std.specs.Prelude.{◌≡◌, ◌≢◌, ℕ, ◌+◌, ◌-◌, ◌*◌, ◌<◌, ◌≤◌, ◌^◌, ◌⊎◌, ℤ, pos, neg_ℤ, ◌≤ℤ◌, ◌-ℤ◌, ◌*ℤ◌, ◌<ℤ◌, unsigned_abs}
 use Rattle.std.specs.Prelude.{List, slice_index, slice_index_or, length}
 use Prim.Native.Nat.{◌∣◌}
-use Rattle.gs_rows.specs.Rows.{IsNarrow, IsPrimitive}
+use Rattle.gs_simplex.specs.Rows.{IsNarrow, IsPrimitive}
 
 -- the number at a place, 0 past the end
 abbrev pub at : List ℤ → ℕ → ℤ

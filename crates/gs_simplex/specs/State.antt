@@ -1,8 +1,8 @@
 -- The state of the method after some steps, and what comes next: the path ends, is unbounded, or goes on with a pivot.
 use Rattle.std.specs.Prelude.{◌≡◌, ℕ, ◌+◌, ◌*◌, ◌<◌, ◌≤◌, [], List, ℤ, pos, length, vec_len, slice_index_or, slice_set, Some}
-use Rattle.gs_rows.specs.{declared.Program.{Program}, Program.{number, aim_of, Listing, IsPairList}, Path.{States, IsPath, Enters, NoneEnters, NoneLeaves}}
-use Rattle.gs_simplex.specs.{Choice.{IsLeaving}, declared.answer.Turn.{Turn}, declared.path.Choice.{Choice}}
-use Rattle.gs_simplex.specs.{declared.path.Choice.TheVariants.{Ends, Unbounded, Leaves}, Numbers.{cell}}
+use Rattle.gs_simplex.specs.{declared.program.Program.{Program}, Program.{number, aim_of, Listing, IsPairList}}
+use Rattle.gs_simplex.specs.{Path.{States, IsPath, Enters, NoneEnters, NoneLeaves}, Choice.{IsLeaving}, declared.answer.Turn.{Turn}}
+use Rattle.gs_simplex.specs.{declared.path.Choice.{Choice}, declared.path.Choice.TheVariants.{Ends, Unbounded, Leaves}, Numbers.{cell}}
 use Rattle.gs_simplex.specs.{Table.{table_aim, IsTable, IsKept, IsTableOf, HasTops, IsTableAfter, IsWideAfter}, declared.table.Table.{Table}, Live.{HasPlaces}}
 
 -- the lists beside the table have the lengths that the program needs

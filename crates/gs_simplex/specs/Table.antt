@@ -2,8 +2,8 @@
 -- program row. The aim's row comes last, with its multiple in the further place and its last number negated, so that a pivot treats all rows alike.
 -- The table holds a positive multiple of each row, which need not be divided by its greatest common divisor.
 use Rattle.std.specs.Prelude.{◌≡◌, ℕ, ◌+◌, ◌*◌, ◌^◌, ◌<◌, ◌≤◌, ℤ, pos, neg_ℤ, List, length, unsigned_abs, nat_eq, ◌&&◌, if◌then◌else◌}
-use Rattle.gs_rows.specs.{declared.Program.{Program}, Rows.{IsPrimitive}, Elimination.{IsEliminated}, Path.{IsFirstWide}, Program.{Listing, IsRowsOf}}
-use Rattle.gs_simplex.specs.Numbers.{cell, AreNarrowNumbers, AreTops, IsMultiple}
+use Rattle.gs_simplex.specs.{declared.program.Program.{Program}, Rows.{IsPrimitive}, Elimination.{IsEliminated}, Path.{IsFirstWide}}
+use Rattle.gs_simplex.specs.{Program.{Listing, IsRowsOf}, Numbers.{cell, AreNarrowNumbers, AreTops, IsMultiple}}
 
 -- the number in row i and column j of the table
 abbrev pub table_rows : Program → List ℤ → ℕ → ℕ → ℤ

@@ -1,8 +1,8 @@
 -- The trace of a path: its pivots, its bases, and the aim's value at both ends.
 use Rattle.std.specs.{Prelude.{◌≡◌, ℕ, ◌+◌, ◌<◌, ◌≤◌, ◌^◌, Result, Ok, Err, List, length, slice_index, ℤ, ◌*ℤ◌, Contains, Vec}, List.{HoldsAt}}
 use Rattle.std.specs.declared.alloc.Global.{Global}
-use Rattle.gs_rows.specs.{declared.Program.{Program}, Program.{Listing, ColListed, IsShaped, IsOpening}, Path.{States, IsPath, ends, Stops}}
 use Rattle.gs_frac.specs.declared.value.Fraction.{Fraction}
+use Rattle.gs_simplex.specs.{declared.program.Program.{Program}, Program.{Listing, ColListed, IsShaped, IsOpening}, Path.{States, IsPath, ends, Stops}}
 use Rattle.gs_simplex.specs.{declared.answer.Turn.{Turn}, declared.answer.PathTrace.{PathTrace}, declared.answer.Stop.{Stop}, declared.tracing.Log.{Log}}
 use Rattle.gs_simplex.specs.{declared.path.Position.{Position}, declared.table.Table.{Table}, State.{IsState, IsTurnAt}, Answer.{IsSmallTable, IsStop}}
 

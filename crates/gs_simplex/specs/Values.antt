@@ -1,6 +1,6 @@
 -- Values column by column.
 use Rattle.std.specs.Prelude.{◌≡◌, ℕ, ◌+◌, ◌<◌, List, length, slice_index, slice_index_or, ℤ, pos, ◌*ℤ◌, ◌<ℤ◌}
-use Rattle.gs_rows.specs.{declared.Program.{Program}, Program.{Listing, IsListed, ColListed}}
+use Rattle.gs_simplex.specs.{declared.program.Program.{Program}, Program.{Listing, IsListed, ColListed}}
 use Rattle.gs_frac.specs.declared.value.Fraction.{Fraction}
 
 -- for each column the row that it is listed with, counted from 1, or 0 if it is unlisted

@@ -2,14 +2,13 @@
 
 ghost use Rattle.std.specs.Prelude.{◌≡◌, ℕ, ◌+◌, ◌-◌, ◌*◌, ◌^◌, ◌<◌, ℤ, pos, neg_ℤ, ◌*ℤ◌, ◌<ℤ◌, length, slice_index, IfOk};
 ghost use Rattle.std.specs.List.{HoldsAt};
-ghost use Rattle.gs_rows.specs.Program.{IsPairList, IsListed, ColListed};
-ghost use Rattle.gs_simplex.specs.{Table.{table_rows, table_aim, IsTable, IsTableOf}, Values.{IsRowIndex, IsColumnValue, CanValue}};
-ghost use Rattle.gs_simplex.specs.Answer.{IsBestTable};
+ghost use Rattle.gs_simplex.specs.{Program.{IsPairList, IsListed, ColListed}, Table.{table_rows, table_aim, IsTable, IsTableOf}};
+ghost use Rattle.gs_simplex.specs.{Values.{IsRowIndex, IsColumnValue, CanValue}, Answer.{IsBestTable}};
 
 use crate::answer::Best;
 use crate::choice::{number_at, pair_at};
+use crate::program::Program;
 use gs_frac::Fraction;
-use gs_rows::Program;
 use std::alloc::{AllocError, Global};
 
 // Writes the number of its row, from 1, for each listed column.

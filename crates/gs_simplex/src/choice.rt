@@ -3,11 +3,10 @@
 ghost use Rattle.std.specs.Prelude.{◌≡◌, ◌+◌, ◌-◌, ◌*◌, ◌<◌, ◌≤◌, ◌^◌, ◌↔◌, IsTrue, ℤ, ◌*ℤ◌, unsigned_abs};
 ghost use Rattle.std.specs.Prelude.{length, slice_index_or, MatchBool};
 ghost use Rattle.std.specs.Option.{ForSome};
-ghost use Rattle.gs_rows.specs.{Rows.{IsNarrow}, Program.{IsShaped, IsPairList, IsFree}};
-ghost use Rattle.gs_simplex.specs.{Numbers.{at, cell, AreNarrowNumbers}, Table.{table_rows, IsTable}};
+ghost use Rattle.gs_simplex.specs.{Rows.{IsNarrow}, Program.{IsShaped, IsPairList, IsFree}, Numbers.{at, cell, AreNarrowNumbers}, Table.{table_rows, IsTable}};
 ghost use Rattle.gs_simplex.specs.Choice.{IsEntering, Before, NotAfter, IsNarrowRatio, IsRatioAt, IsBetter, IsLeaving};
 
-use gs_rows::Program;
+use crate::program::Program;
 
 /// A row that may leave: its place in the list, its listed column, counted from 0, its right side, and its number in the entering column.
 #[derive(Clone, Copy)]

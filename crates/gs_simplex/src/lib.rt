@@ -1,8 +1,8 @@
-//! The simplex method on whole-number rows, by Bland's rule.
+//! Linear programs in whole numbers, the rows of a list of basic pairs and Bland's path, with their laws; and the simplex method by Bland's rule.
 //!
 //! [`run`] follows the path of a program from an opening: it lists the opening's pairs one by one and then makes pivots. Each step's rows are
-//! whole numbers without a common divisor. The crate `gs_rows` defines these rows and proves that no basis comes twice. The simplex table here holds a
-//! positive multiple of each row, since signs and ratios do not change by it.
+//! whole numbers without a common divisor. `specs/` defines them by multipliers of the program's rows, and no pivot is part of that definition. The
+//! simplex table here holds a positive multiple of each row, since signs and ratios do not change by it. By the law `bases_differ` no basis comes twice.
 //! Aim, price and opening are called objective, reduced cost and starting basis in the literature.
 //! Sources: Bland 1977, "New finite pivoting rules for the simplex method"; Edmonds 1967 for elimination in whole numbers.
 #![tactic(auto)]
@@ -14,19 +14,19 @@ mod exact;
 pub mod laws;
 mod live;
 mod path;
+mod program;
 mod row;
 mod start;
 mod table;
 mod tracing;
 
 ghost use Rattle.std.specs.Prelude.{◌<◌, ◌^◌};
-ghost use Rattle.gs_rows.specs.Program.{IsShaped, IsOpening};
-ghost use Rattle.gs_simplex.specs.{Answer.{IsAnswer}, Trace.{IsTraceAnswer}};
+ghost use Rattle.gs_simplex.specs.{Program.{IsShaped, IsOpening}, Answer.{IsAnswer}, Trace.{IsTraceAnswer}};
 
 pub use answer::{Best, PathTrace, Stop, Turn};
 use best::best;
-pub use gs_rows::Program;
 use path::{Position, begin, follow};
+pub use program::Program;
 use std::alloc::Global;
 use tracing::{Log, aim_value};
 

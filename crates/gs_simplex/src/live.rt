@@ -1,12 +1,12 @@
 //! The columns that a pivot looks at: the unlisted ones, the one listed with the row that is taken, the right side, and each row's own column.
 
 ghost use Rattle.std.specs.Prelude.{◌≡◌, ℕ, ◌+◌, ◌<◌, ◌≤◌, ◌^◌, ◌↔◌, IsTrue, IfOk, length, slice_index};
-ghost use Rattle.gs_rows.specs.Program.{IsPairList, IsListed, RowListed, ColListed};
+ghost use Rattle.gs_simplex.specs.Program.{IsPairList, IsListed, RowListed, ColListed};
 ghost use Rattle.gs_simplex.specs.{Live.{HasPlaces, IsLiveRow, AreColumnPlaces, AreFoundPlaces, IsSupport}, Numbers.{at, AreNarrowNumbers}};
 
 use crate::best::mark_rows;
 use crate::choice::pair_at;
-use gs_rows::Program;
+use crate::program::Program;
 use std::alloc::{AllocError, Global};
 
 /// Scratch lists for the columns of a pivot.

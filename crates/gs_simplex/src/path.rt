@@ -2,16 +2,15 @@
 
 ghost use Rattle.std.specs.Prelude.{◌≡◌, ◌≢◌, IfNone, MatchOption, MatchResult, ℕ, ◌+◌, ◌*◌, ◌<◌, ◌≤◌, ◌^◌, pos, length, slice_index_or};
 ghost use Rattle.std.specs.Prelude.{unsigned_abs, Some};
-ghost use Rattle.gs_rows.specs.Program.{IsShaped, IsPairList, IsOpening};
-ghost use Rattle.gs_simplex.specs.Table.{table_rows, table_aim, stated, IsTable, IsTableOf, HasTops};
+ghost use Rattle.gs_simplex.specs.{Program.{IsShaped, IsPairList, IsOpening}, Table.{table_rows, table_aim, stated, IsTable, IsTableOf, HasTops}};
 ghost use Rattle.gs_simplex.specs.{State.{HasRoom, IsStart, IsState, IsChoice, IsPivoted, IsWidePivot, IsEnd, IsTurnedState}, Answer.{IsSmallTable, IsStop}};
 ghost use Rattle.gs_simplex.specs.Trace.{IsBegun, CanFollow};
 
 use crate::MOST_NUMBERS;
 use crate::answer::{Stop, Turn};
 use crate::choice::{entering, leaving, pair_at};
+use crate::program::Program;
 use crate::table::{Table, WideCell};
-use gs_rows::Program;
 use std::alloc::Global;
 
 /// What Bland's rule chooses.

@@ -5,10 +5,9 @@ ghost use Rattle.std.specs.Prelude.{◌≡◌, ◌≢◌, MatchOption, MatchResu
 ghost use Rattle.std.specs.Prelude.{length, slice_index, unsigned_abs};
 ghost use Prim.Native.Nat.{◌∣◌};
 ghost use Rattle.std.specs.Int.{IsGcd};
-ghost use Rattle.gs_rows.specs.Rows.{IsNarrow};
-ghost use Rattle.gs_simplex.specs.Numbers.{at, AreNarrowNumbers, AllWithin, AllAtMost, IsDivisor, IsShared, IsQuotient, IsWideQuotient};
-ghost use Rattle.gs_simplex.specs.Numbers.{IsMultiple, IsDivided, IsMixed, IsReducedTo};
-ghost use Rattle.gs_simplex.specs.Live.{IsSupport, IsChange};
+ghost use Rattle.gs_simplex.specs.Rows.{IsNarrow};
+ghost use Rattle.gs_simplex.specs.Numbers.{at, AreNarrowNumbers, AllWithin, AllAtMost, IsDivisor, IsShared, IsQuotient, IsWideQuotient, IsMultiple, IsDivided};
+ghost use Rattle.gs_simplex.specs.{Numbers.{IsMixed, IsReducedTo}, Live.{IsSupport, IsChange}};
 
 use crate::exact::{Divisor, short_gcd};
 use gs_frac::gcd;

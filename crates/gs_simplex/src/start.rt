@@ -1,13 +1,12 @@
 //! The table of the empty list: the program's rows, each divided by its greatest common divisor.
 
 ghost use Rattle.std.specs.Prelude.{◌≡◌, ℕ, ◌+◌, ◌-◌, ◌*◌, ◌^◌, ◌<◌, ◌≤◌, ◌++◌, [], ◌∷◌, ◌⊎◌, length, OnOk, IfOk};
-ghost use Rattle.gs_rows.specs.Program.{IsShaped};
-ghost use Rattle.gs_simplex.specs.{Numbers.{at, cell, AreNarrowNumbers, IsDivided}, State.{IsRaw, IsStart}};
+ghost use Rattle.gs_simplex.specs.{Program.{IsShaped}, Numbers.{at, cell, AreNarrowNumbers, IsDivided}, State.{IsRaw, IsStart}};
 
 use crate::live::{Live, fill};
+use crate::program::Program;
 use crate::row::{WIDE, divide_row};
 use crate::table::Table;
-use gs_rows::Program;
 use std::alloc::{AllocError, Global};
 
 // Adds a row and one more number.

@@ -1,13 +1,12 @@
 //! The simplex table: all rows in one piece of memory, and the pivot, which clears a column in every row but one.
 
 ghost use Rattle.std.specs.Prelude.{◌≡◌, ◌≢◌, IfNone, MatchOption, MatchResult, ℕ, ◌+◌, ◌*◌, ◌<◌, ◌≤◌, ◌^◌, ◌⊎◌, pos, neg_ℤ, length, slice_index};
-ghost use Rattle.gs_rows.specs.Program.{IsPairList};
-ghost use Rattle.gs_simplex.specs.{Live.{IsSupport, IsLive}, Table.{table_rows, IsTable, IsTableOf, HasTops, IsTableAfter, IsWideAfter}};
+ghost use Rattle.gs_simplex.specs.{Program.{IsPairList}, Live.{IsSupport, IsLive}, Table.{table_rows, IsTable, IsTableOf, HasTops, IsTableAfter, IsWideAfter}};
 ghost use Rattle.gs_simplex.specs.Numbers.{at, cell, AreNarrowNumbers, IsAtMost, AreTops, IsMixed, IsReducedTo, IsTurned, IsLeadOf, IsCleared, IsClearedTo};
 
 use crate::live::{Live, fill};
+use crate::program::Program;
 use crate::row::{Lead, WideNumber, divide_row, greatest, reduce_row};
-use gs_rows::Program;
 
 /// A number that is not narrow, with its row and column, from 0.
 #[derive(Clone, Copy)]

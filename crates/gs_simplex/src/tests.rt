@@ -1,8 +1,7 @@
 ghost use Rattle.std.specs.Prelude.{◌≡◌, ℕ, ◌+◌, ◌-◌, ◌*◌, ◌<◌, ◌≤◌, ◌^◌, IsTrue, IfOk, [], length, map, take, slice_index_or};
 ghost use Rattle.std.specs.Vec.{vec_items};
-ghost use Rattle.gs_rows.specs.Program.{IsShaped, IsOpening, IsPairList, IsFree};
-ghost use Rattle.gs_simplex.specs.{Numbers.{AreNarrowNumbers}, Table.{table_rows, IsTable, IsTableOf}, State.{IsStart}, Answer.{IsSmallTable}};
-ghost use Rattle.gs_simplex.specs.Conditions.{IsWideRow, IsNewPair, CanTakeAt, IsTaken, HasFeasibleSides};
+ghost use Rattle.gs_simplex.specs.{Program.{IsShaped, IsOpening, IsPairList, IsFree}, Numbers.{AreNarrowNumbers}, Table.{table_rows, IsTable, IsTableOf}};
+ghost use Rattle.gs_simplex.specs.{State.{IsStart}, Answer.{IsSmallTable}, Conditions.{IsWideRow, IsNewPair, CanTakeAt, IsTaken, HasFeasibleSides}};
 
 use super::*;
 use crate::choice::{is_free, number_at, pair_at};

@@ -1,17 +1,16 @@
 //! The log of a path: its pivots, its bases, and the aim's value.
 
 ghost use Rattle.std.specs.Prelude.{MatchResult, IfOk, OnOk, ℕ, ◌+◌, ◌<◌, ◌^◌, ℤ, pos, ◌<ℤ◌, List, length};
-ghost use Rattle.gs_rows.specs.Program.{IsPairList};
-ghost use Rattle.gs_simplex.specs.{Table.{table_aim, IsTable}, State.{IsEnd, IsTurnAt}, Answer.{IsStop}, Values.{IsRowIndex}};
+ghost use Rattle.gs_simplex.specs.{Program.{IsPairList}, Table.{table_aim, IsTable}, State.{IsEnd, IsTurnAt}, Answer.{IsStop}, Values.{IsRowIndex}};
 ghost use Rattle.gs_simplex.specs.Trace.{IsAimValue, IsBasis, IsBasisAt, IsLog, CanFollow};
 
 use crate::answer::{Stop, Turn};
 use crate::best::listed_rows;
 use crate::choice::number_at;
 use crate::path::step;
+use crate::program::Program;
 use crate::table::Table;
 use gs_frac::Fraction;
-use gs_rows::Program;
 use std::alloc::{AllocError, Global};
 
 /// The pivots and the bases so far.

@@ -10,8 +10,8 @@ use Rattle.gs_model.proofs.Ranges.{in_range, parents_at}
 use Rattle.gs_filter.proofs.RowLaws.{length-rows, row_read}
 use Rattle.gs_tree.specs.{Trees.{rules_of}, declared.signals.Signals.{Signals}}
 use Rattle.gs_lossless.proofs.Descent.{playable}
-use Rattle.gs_numbers.specs.Numbers.{IsKeyClasses}
-use Rattle.gs_numbers.proofs.FirstSeen.{classes_like}
+use Rattle.gs_iso.specs.KeyNumbers.{IsKeyClasses}
+use Rattle.gs_iso.proofs.FirstSeen.{classes_like}
 use Rattle.gs_split.specs.Turns.{AreExact, AreParted, AreTurnNumbers, HaveNumbers, IsRoundParted, StayInRound, last_class_list, turn_key}
 use Rattle.gs_split.proofs.Agreed.{triples}
 

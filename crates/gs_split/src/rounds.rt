@@ -1,10 +1,10 @@
 //! The new classes of one round.
 
 ghost use Rattle.std.specs.Prelude.{◌≡◌, ◌+◌, ◌≤◌, ◌<◌, ◌^◌, All, IfOk, IfSome, length};
-ghost use Rattle.gs_numbers.specs.Numbers.{HasClassOf, IsKeyClasses};
+ghost use Rattle.gs_iso.specs.KeyNumbers.{HasClassOf, IsKeyClasses};
 ghost use Rattle.gs_split.specs.Turns.{turn_key};
 
-use gs_numbers::number_of;
+use gs_iso::number_of;
 use indexmap::IndexSet;
 use std::alloc::{AllocError, Global};
 use std::marker::Model;

@@ -6,10 +6,9 @@ ghost use Rattle.gs_tree.specs.Trees.{rules_of};
 ghost use Rattle.gs_lossless.specs.Amounts.{AreSideFirsts, HasSide, key_count, keys_of};
 ghost use Rattle.gs_split.specs.Turns.{AreSettled, AreSideNumbers, AreTurnNumbers};
 
-use gs_alike::Boards;
 use gs_filter::Classes;
-use gs_lossless::{Grouped, Side, side_keys, side_sums};
-use gs_numbers::number_of_list;
+use gs_iso::number_of_list;
+use gs_lossless::{Boards, Grouped, Side, side_keys, side_sums};
 use gs_tree::Signals;
 use indexmap::IndexSet;
 use std::alloc::{AllocError, Global};

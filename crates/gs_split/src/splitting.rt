@@ -7,9 +7,8 @@ ghost use Rattle.gs_tree.specs.Trees.{rules_of};
 use crate::proposal::proposal;
 use crate::stays::known_rounds;
 use crate::turns::turn;
-use gs_alike::Boards;
 use gs_filter::Classes;
-use gs_lossless::Grouped;
+use gs_lossless::{Boards, Grouped};
 use gs_tree::Signals;
 use std::alloc::{AllocError, Global};
 

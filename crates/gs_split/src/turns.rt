@@ -7,9 +7,8 @@ ghost use Rattle.gs_split.specs.Turns.{AreExact, AreKnown, AreTurnNumbers, HaveS
 
 use crate::parting::parted;
 use crate::sides::side_numbers;
-use gs_alike::Boards;
 use gs_filter::Classes;
-use gs_lossless::Grouped;
+use gs_lossless::{Boards, Grouped};
 use gs_tree::Signals;
 use std::alloc::{AllocError, Global};
 

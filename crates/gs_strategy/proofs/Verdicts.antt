@@ -5,7 +5,7 @@ use Rattle.gs_frac.proofs.OneForm.{lower_of, one_form}
 use Rattle.gs_model.proofs.Basics.{product_positive}
 use Rattle.gs_model.specs.{Frame.{Frame, total_weight}, Payoff.{IsHandValue, hand_payoff, hand_weight, raw_payoff}, Plans.{Plan}}
 use Rattle.gs_model.specs.Verdict.{IsFirstGap, IsSecondGap, IsValue, IsVerdict}
-use Rattle.gs_rows.proofs.Ring.{cancel, cancel_nonneg, linear, ring, times_nonneg, times_pos}
+use Rattle.gs_simplex.proofs.Ring.{cancel, cancel_nonneg, linear, ring, times_nonneg, times_pos}
 use Rattle.gs_strategy.specs.{Confirmed.{over}, Values.{AreFractions, FractionParts, IsFractionOf, Numbers}}
 
 -- ---- crosswise

@@ -1,11 +1,24 @@
-//! Tests of sequence forms, of verdicts and of best responses (here called best answers), through the public calls of `gs_seq`, `gs_best` and `gs_raw`.
+//! Tests of sequence forms, of verdicts and of best responses (here called best answers), of fractions and exact solutions, of sources and sinks, and of the
+//! lines of limits, through the public calls of `gs_seq`, `gs_best`, `gs_raw`, `gs_frac`, `gs_solve`, `gs_simplex`, `gs_io` and `gs_reply`.
 #![tactic(auto)]
 
 #[cfg(test)]
+mod ends;
+#[cfg(test)]
 mod forms;
+#[cfg(test)]
+mod fractions;
+#[cfg(test)]
+mod leduc;
+#[cfg(test)]
+mod limits;
+#[cfg(test)]
+mod programs;
 #[cfg(test)]
 mod raw;
 #[cfg(test)]
 mod rows;
+#[cfg(test)]
+mod stops;
 #[cfg(test)]
 mod verdicts;

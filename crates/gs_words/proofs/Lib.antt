@@ -1,3 +1,4 @@
+pub mod Ascii
 pub mod Simple
 pub mod Added
 pub mod Numbers

@@ -6,9 +6,8 @@ use Rattle.clap.specs.{Words.{Row, Text, built, first_of}, Takes.{is_given}, Wal
 use Rattle.gs_words.specs.{Commands.{OptionOf, command_word, options_of}, Plain.{Given, are_plain, given_for, name_of, option_words, stand_once}}
 use Rattle.gs_words.specs.{Program.{program}, Requests.{grouping_in, is_set, make_with, play_with, query_with, request_of, task_for, task_in}, Tasks.{Task}}
 use Rattle.gs_words.specs.{Values.{grouping_of, kind_of, number_in}, declared.names.CommandName.{CommandName}}
-use Rattle.gs_words.specs.declared.names.CommandName.TheVariants.{Shrink, Check, Solve, Play, Evaluate, Query, Make, Upgrade, Judge, Duel, Certify, Verify, Path}
-use Rattle.gs_words.specs.declared.request.Grouping.{Grouping}
-use Rattle.gs_made.specs.declared.kind.Kind.{Kind}
+use Rattle.gs_words.specs.declared.names.CommandName.TheVariants.{Shrink, Check, Solve, Play, Evaluate, Query, Make, Upgrade, Judge, Duel, Certify, Verify}
+use Rattle.gs_words.specs.{declared.names.CommandName.TheVariants.{Path}, declared.request.Grouping.{Grouping}, declared.kind.Kind.{Kind}}
 use Rattle.gs_words.proofs.{AnyOrder.{AreGiven, all_rows, taken_in_any_order}, Rows.{is_there, same_flag, same_value}}
 use Rattle.gs_words.proofs.{Obeyed.{RuleIs, absent, all_given, are_given_as, passed}, Levels.{asked, is_command, opens, rows, shape_of, taken}}
 

@@ -1,3 +1,4 @@
+pub mod Made
 pub mod Values
 pub mod Commands
 pub mod Program

@@ -3,8 +3,7 @@ use Rattle.std.specs.Prelude.{◌≡◌, ℕ, Bool, true, false, List, Option, S
 use Rattle.std.specs.Str.{bytes_eq}
 use Rattle.clap.specs.{Words.{Row, Text, fault_of, first_of, subcommand_of, subcommand_rows_of}, Walk.{is_empty}, declared.error.kind.ErrorKind.{ErrorKind}}
 use Rattle.clap.specs.{declared.error.kind.ErrorKind.TheVariants.{OutOfMemory}, declared.parser.matches.ArgMatches.{ArgMatches}}
-use Rattle.gs_made.specs.declared.kind.Kind.{Kind}
-use Rattle.gs_words.specs.{Commands.{command_of}, Program.{program}}
+use Rattle.gs_words.specs.{declared.kind.Kind.{Kind}, Commands.{command_of}, Program.{program}}
 use Rattle.gs_words.specs.Tasks.{Task, task_of, Shrink, Check, Solve, Play, Evaluate, Query, Make, Upgrade, Judge, Duel, Certify, Verify, Path}
 use Rattle.gs_words.specs.{Values.{grouping_of, kind_of, number_in}, declared.names.CommandName.{CommandName}, declared.request.Grouping.{Grouping}}
 use Rattle.gs_words.specs.{declared.request.Grouping.TheVariants.{Coarsest}, declared.request.Request.{Request}, declared.request.WordsStop.{WordsStop}}

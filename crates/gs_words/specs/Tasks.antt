@@ -1,7 +1,6 @@
 -- What the program is asked to do: a request with its texts.
 use Rattle.std.specs.Prelude.{ℕ, ◌≤◌, Bool, List}
-use Rattle.gs_made.specs.declared.kind.Kind.{Kind}
-use Rattle.gs_words.specs.{declared.request.Grouping.{Grouping}, declared.request.Request.{Request}}
+use Rattle.gs_words.specs.{declared.kind.Kind.{Kind}, declared.request.Grouping.{Grouping}, declared.request.Request.{Request}}
 use Rattle.gs_words.specs.declared.request.Request.TheVariants as request
 
 -- what the program is asked to do: a request with its texts

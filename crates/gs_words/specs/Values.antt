@@ -1,8 +1,8 @@
 -- The values that options take.
 use Rattle.std.specs.{Prelude.{ℕ, ◌&&◌, nat_le, if◌then◌else◌, List, Option, Some, None, codes}, Str.{bytes_eq}, Str.Parse.{digits_value}}
 use Rattle.gs_frac.specs.Texts.{is_numeral}
-use Rattle.gs_made.specs.{declared.kind.Kind.{Kind}, declared.kind.Kind.TheVariants.{Kuhn, Leduc, Rhode}}
-use Rattle.gs_words.specs.{declared.request.Grouping.{Grouping}, declared.request.Grouping.TheVariants.{Isomorphism, Coarsest, Single}}
+use Rattle.gs_words.specs.{declared.kind.Kind.{Kind}, declared.kind.Kind.TheVariants.{Kuhn, Leduc, Rhode}, declared.request.Grouping.{Grouping}}
+use Rattle.gs_words.specs.declared.request.Grouping.TheVariants.{Isomorphism, Coarsest, Single}
 
 -- the classes that a word names: `ogi` for those of ordered game isomorphism, `split` for the coarsest lossless ones, `raw` for each signal by itself
 abbrev pub grouping_of : List ℕ → Option Grouping

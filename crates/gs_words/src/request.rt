@@ -1,6 +1,6 @@
 //! What the words of the command line ask for.
 
-use gs_made::Kind;
+use crate::kind::Kind;
 
 /// A grouping of the signals into classes.
 #[derive(Clone, Copy, Debug, PartialEq, Eq, Hash)]

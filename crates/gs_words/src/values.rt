@@ -3,9 +3,9 @@
 ghost use Rattle.std.specs.Prelude.{◌≡◌, ◌≤◌, IfSome};
 ghost use Rattle.gs_words.specs.Values.{grouping_of, kind_of, number_in};
 
+use crate::kind::Kind;
 use crate::request::Grouping;
 use gs_frac::is_number;
-use gs_made::Kind;
 
 /// Returns the grouping that a word names.
 pub(crate) fn grouping(word: &str) -> Option<Grouping>

@@ -2,3 +2,4 @@ pub mod Decks
 pub mod Puts
 pub mod Kuhn
 pub mod Pivots
+pub mod MadeGames

@@ -1,7 +1,7 @@
 -- Worked values of Bland's rule: a linear program in three rows whose path has one pivot. Source: worked by hand, and by an independent implementation that
 -- solves each step's rows from the program.
 use Rattle.std.specs.Prelude.{◌≡◌, ℕ, ◌<◌, [], ◌∷◌, false, pos}
-use Rattle.gs_rows.specs.{declared.Program.{Program}, Path.{IsPath, PathStops, States, ends}, Program.{IsOpening, Listing, rows_of}}
+use Rattle.gs_simplex.specs.{declared.program.Program.{Program}, Path.{IsPath, PathStops, States, ends}, Program.{IsOpening, Listing, rows_of}}
 
 -- x1 + x4 + x5 = 2, x2 + x4 + 2 x5 = 2 and x3 + 2 x4 + x5 = 4; no column is free; the aim is 3 x4 + 2 x5
 pub record IsTied (p : Program) : Type 0 where

@@ -1,10 +1,14 @@
-//! Worked values of the definitions, as laws: two decks whose classes are known by hand, Kuhn's game after one turn of play, the chips put in at ends,
-//! and the path of a linear program. More values of cards and of Kuhn's game stand in `proofs/`.
+//! Laws that nothing stands on. Worked values of the definitions: two decks whose classes are known by hand, Kuhn's game after one turn of play, the chips
+//! put in at ends, and the path of a linear program. More values of cards and of Kuhn's game stand in `proofs/`. And made game files are read back.
 //!
 //! The crate runs nothing: a function here is a law, and its contract names the values.
 #![tactic(auto)]
 
+mod readback;
+
 ghost use Rattle.gs_worked.specs.{Decks.{OneRank, TwoSuits}, Kuhn.{KuhnPlay, KuhnVerdict}, Pivots.{TiedPath, TiedPivot}, Puts.{PutsAreChips}};
+
+pub use readback::made_files_are_read_back;
 
 /// Kuhn poker with two suits: hands of one rank are in one class, and hands of different ranks are not.
 pub fn two_suits()

@@ -1,7 +1,6 @@
 use Rattle.std.proofs.Common.{Result, Ok, Err, ◌≡◌, ℕ, ◌+◌, List, ℤ, pos, ◌<ℤ◌, length, sym, subst}
-use Rattle.gs_rows.specs.{declared.Program.{Program}, Program.{Listing}, Path.{NoneEnters}}
-use Rattle.gs_simplex.specs.{declared.answer.PathTrace.{PathTrace}, declared.answer.Stop.{Stop}, Table.{table_aim, IsTable}, State.{IsSoFar}, Answer.{IsStop}}
-use Rattle.gs_simplex.specs.Trace.{IsTraceAnswer}
+use Rattle.gs_simplex.specs.{declared.program.Program.{Program}, Program.{Listing}, Path.{NoneEnters}, declared.answer.PathTrace.{PathTrace}}
+use Rattle.gs_simplex.specs.{declared.answer.Stop.{Stop}, Table.{table_aim, IsTable}, State.{IsSoFar}, Answer.{IsStop}, Trace.{IsTraceAnswer}}
 use Rattle.std.specs.Result.{IsErrAnd}
 use Rattle.gs_simplex.proofs.{Paths.{rows_at}, Kept.{multiple_kept}, Traces.{trace_of}}
 use Rattle.gs_simplex.proofs.trace.Goals as goal

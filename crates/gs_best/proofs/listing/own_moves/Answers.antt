@@ -1,10 +1,8 @@
 use Rattle.std.proofs.{Common.{◌≡◌, ◌+◌, ◌<◌, ◌≤◌, ◌++◌, ℕ, List, drop, take, length, ap, sym, ◌∙◌, subst, arith, Vec}, lemmas.List.{get_or_read}}
 use Rattle.std.specs.declared.alloc.Global.{Global}
 use Rattle.gs_model.specs.{Classes.{class_count}, Frame.{player_at, point_count}}
-use Rattle.gs_values.specs.Tables.{classes_at, moves_of, start_of}
-use Rattle.gs_values.proofs.{MemberValues.{filled_best, filled_values}, PointStarts.{starts_le, starts_more}}
-use Rattle.gs_values.specs.Sides.{frame_at, lists_at}
-use Rattle.gs_best.specs.Answers.{choices_before}
+use Rattle.gs_best.specs.{Tables.{classes_at, moves_of, start_of}, Sides.{frame_at, lists_at}, Answers.{choices_before}}
+use Rattle.gs_best.proofs.{MemberValues.{filled_best, filled_values}, PointStarts.{starts_le, starts_more}}
 use Rattle.gs_best.proofs.Listed.{AreListed, choices_none, listed_more, listed_same, longer}
 use Rattle.gs_best.proofs.listing.own_moves.Goals.{then-chooser-side+in_ok-push_row, else-chooser-side}
 use Rattle.gs_best.proofs.listing.own_moves.Goals as goal

@@ -1,8 +1,7 @@
 use Rattle.std.proofs.Common.{◌≡◌, ℕ, ◌+◌, ◌-◌, ◌<◌, length, get_or}
 use Rattle.gs_model.specs.{Classes.{IsClass}, Frame.{player_at, round_of}, Positions.{at_point}}
 use Rattle.gs_seq.specs.Abstracts.{abstract_frame, lists_of}
-use Rattle.gs_values.specs.Tables.{moves_of}
-use Rattle.gs_best.specs.Answers.{choices_before}
+use Rattle.gs_best.specs.{Tables.{moves_of}, Answers.{choices_before}}
 use Rattle.gs_best.proofs.listing.own_moves.Given as goal
 
 abbrev pub invariant-loop-point : goal.invariant-loop-point

@@ -1,9 +1,7 @@
 use Rattle.std.proofs.Common.{◌≡◌, ℕ, List, length, drop, sym, ap, subst, arith}
 use Rattle.gs_model.specs.Frame.{point_count}
-use Rattle.gs_values.specs.Tables.{moves_of}
-use Rattle.gs_values.proofs.Written.{written}
-use Rattle.gs_values.specs.Sides.{frame_at, lists_at}
-use Rattle.gs_best.specs.Puts.{ArePutBefore}
+use Rattle.gs_best.proofs.Written.{written}
+use Rattle.gs_best.specs.{Tables.{moves_of}, Sides.{frame_at, lists_at}, Puts.{ArePutBefore}}
 use Rattle.gs_best.proofs.putting.best_weights.Goals as goal
 
 pub returns-clause-puts : goal.returns-clause-puts

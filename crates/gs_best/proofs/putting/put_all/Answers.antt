@@ -2,9 +2,8 @@ use Rattle.std.proofs.Common.{refl}
 use Rattle.gs_model.specs.BestAnswers.{IsFirstBestPlan}
 use Rattle.gs_seq.specs.{Plans.{lifted}, Slots.{plan_of}}
 use Rattle.gs_seq.proofs.Forms.{form_classes, form_in_range}
-use Rattle.gs_values.specs.Sides.{frame_at, lists_at, moves_at}
-use Rattle.gs_values.proofs.{MemberValues.{filled_best, filled_values}, Players.{walked}}
-use Rattle.gs_best.proofs.{AllOn.{put_is_best, put_is_plan}, putting.put_all.Goals.{In_ok-weights}}
+use Rattle.gs_best.specs.Sides.{frame_at, lists_at, moves_at}
+use Rattle.gs_best.proofs.{MemberValues.{filled_best, filled_values}, Players.{walked}, AllOn.{put_is_best, put_is_plan}, putting.put_all.Goals.{In_ok-weights}}
 use Rattle.gs_best.proofs.putting.put_all.Goals as goal
 
 best : (c : In_ok-weights) → let s = c.args.side.now in

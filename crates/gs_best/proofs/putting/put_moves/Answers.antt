@@ -2,8 +2,7 @@ use Rattle.std.proofs.Common.{◌≡◌, ◌+◌, ◌<◌, length, ap, sym, ◌�
 use Rattle.gs_model.specs.Frame.{player_at, point_count}
 use Rattle.gs_seq.specs.{Abstracts.{abstract_frame, lists_of}, Firsts.{IsClear}, Slots.{slots_before}}
 use Rattle.gs_seq.proofs.{Leaks.{slots_none}, Forms.{form_classes, form_in_range, form_walked}}
-use Rattle.gs_values.specs.Tables.{moves_of}
-use Rattle.gs_best.specs.Puts.{ArePutBefore}
+use Rattle.gs_best.specs.{Tables.{moves_of}, Puts.{ArePutBefore}}
 use Rattle.gs_best.proofs.{AllOn.{puts_more, puts_same}, putting.put_moves.Goals.{then-chooser-player, else-chooser-player}}
 use Rattle.gs_best.proofs.putting.put_moves.Goals as goal
 

@@ -1,7 +1,6 @@
 use Rattle.std.proofs.Common.{◌≡◌, length}
 use Rattle.gs_seq.specs.{Abstracts.{abstract_frame, lists_of}, Firsts.{IsClear}, Slots.{slot_count, slots_before}}
-use Rattle.gs_values.specs.Tables.{moves_of}
-use Rattle.gs_best.specs.Puts.{ArePutBefore}
+use Rattle.gs_best.specs.{Tables.{moves_of}, Puts.{ArePutBefore}}
 use Rattle.gs_best.proofs.putting.put_moves.Given as goal
 
 abbrev pub invariant-loop-point : goal.invariant-loop-point

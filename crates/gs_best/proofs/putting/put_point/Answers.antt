@@ -4,10 +4,8 @@ use Rattle.gs_model.specs.{Classes.{IsClass, class_count, first_member}, Frame.{
 use Rattle.gs_model.specs.Positions.{at_point}
 use Rattle.gs_seq.specs.{Abstracts.{abstract_frame, lists_of}, Firsts.{AgreeBefore, IsClear}, Slots.{plan_of, slot_of, slots_before}}
 use Rattle.gs_seq.proofs.{Firsts.{slots_own}, SlotLaws.{slots_le}, Forms.{form_classes, form_in_range, form_walked}}
-use Rattle.gs_values.specs.Tables.{moves_of, start_of}
-use Rattle.gs_values.proofs.PointStarts.{place_before}
-use Rattle.gs_best.specs.Puts.{IsPutAt}
-use Rattle.gs_best.proofs.{AllOn.{put_here, put_kept}, putting.put_point.Goals.{After-class_total-before-end, In-loop-before}}
+use Rattle.gs_best.specs.{Tables.{moves_of, start_of}, Puts.{IsPutAt}}
+use Rattle.gs_best.proofs.{PointStarts.{place_before}, AllOn.{put_here, put_kept}, putting.put_point.Goals.{After-class_total-before-end, In-loop-before}}
 use Rattle.gs_best.proofs.putting.put_point.Goals as goal
 
 -- the round's classes, and the one at hand

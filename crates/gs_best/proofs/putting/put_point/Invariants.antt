@@ -1,8 +1,7 @@
 use Rattle.std.proofs.Common.{ℕ, ◌+◌, ◌*◌, ◌<◌, ◌≤◌}
 use Rattle.gs_model.specs.Frame.{move_count}
 use Rattle.gs_seq.specs.{Abstracts.{abstract_frame, lists_of}, Firsts.{AgreeBefore, IsClear}, Slots.{slots_before}}
-use Rattle.gs_values.specs.Tables.{moves_of}
-use Rattle.gs_best.specs.Puts.{IsPutAt}
+use Rattle.gs_best.specs.{Tables.{moves_of}, Puts.{IsPutAt}}
 use Rattle.gs_best.proofs.putting.put_point.Given as goal
 
 abbrev pub invariant-loop-before : goal.invariant-loop-before

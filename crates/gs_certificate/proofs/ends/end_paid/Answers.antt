@@ -3,7 +3,7 @@ use Rattle.std.specs.{Int.{w128}, List.{range_with_len}, Prelude.{◌+ℤ◌}}
 use Rattle.gs_model.specs.{Classes.{IsClass, class_count}, Frame.{round_of}, Pairs.{class_number}, Positions.{at_end}, Sums.{sum_z}}
 use Rattle.gs_seq.specs.{Payoffs.{end_sum}, Plans.{class_plan}}
 use Rattle.gs_seq.proofs.{EndTotals.{class_term, classes_within, range_put, term_fits, term_is, term_within}, Signed.{read_back}}
-use Rattle.gs_values.specs.Sides.{frame_at, lists_at}
+use Rattle.gs_best.specs.Sides.{frame_at, lists_at}
 use Rattle.gs_certificate.proofs.Kept.{other_plan, side_given}
 use Rattle.gs_certificate.proofs.ends.end_paid.Goals.{After-class_total-before-end, After-kept_at, After-number_at_end-number, After-scaled, In-loop-before}
 use Rattle.gs_certificate.proofs.ends.end_paid.Goals as goal

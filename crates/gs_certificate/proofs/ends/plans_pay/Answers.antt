@@ -3,7 +3,7 @@ use Rattle.std.specs.{Int.{w128}, List.{range_with_len}, Prelude.{◌+ℤ◌}}
 use Rattle.gs_model.specs.{Frame.{end_count}, Sums.{sum_z}}
 use Rattle.gs_seq.specs.{Payoffs.{payoff_at}, Plans.{class_plan}}
 use Rattle.gs_seq.proofs.{EndTotals.{ends_are_all, ends_within, from_zero, range_put}, Signed.{read_back}}
-use Rattle.gs_values.specs.Sides.{frame_at, lists_at}
+use Rattle.gs_best.specs.Sides.{frame_at, lists_at}
 use Rattle.gs_certificate.proofs.{Kept.{other_plan, side_given}, ends.plans_pay.Goals.{After-end_paid}}
 use Rattle.gs_certificate.proofs.ends.plans_pay.Goals as goal
 

@@ -3,8 +3,8 @@ use Rattle.std.proofs.lemmas.List.{get_or-take, length-take-le}
 use Rattle.std.specs.Prelude.{pos}
 use Rattle.gs_model.specs.{Classes.{class_count}, Frame.{end_count, round_of}, Positions.{at_end}}
 use Rattle.gs_seq.specs.Plans.{class_plan}
-use Rattle.gs_values.specs.{Rooms.{IsWide}, Sides.{frame_at, lists_at}}
-use Rattle.gs_values.proofs.Players.{walked}
+use Rattle.gs_best.specs.{Rooms.{IsWide}, Sides.{frame_at, lists_at}}
+use Rattle.gs_best.proofs.Players.{walked}
 use Rattle.gs_certificate.specs.Paid.{AreKept}
 use Rattle.gs_certificate.proofs.{Kept.{kept_more, none_kept}, ends.sums_in.Goals.{In-loop-end}}
 use Rattle.gs_certificate.proofs.ends.sums_in.Goals as goal

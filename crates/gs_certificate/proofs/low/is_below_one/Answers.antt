@@ -2,7 +2,7 @@ use Rattle.std.proofs.{Common.{◌≡◌, ◌<◌, Bool, of_z, to_z, sym, subst,
 use Rattle.std.specs.{Int.{w128}, Int.Signed.{lt_z}, Prelude.{◌≤ℤ◌, ◌<ℤ◌}}
 use Rattle.gs_model.specs.{BestAnswers.{class_worth}, Frame.{move_count}, Positions.{at_point}}
 use Rattle.gs_seq.proofs.Signed.{read_back}
-use Rattle.gs_values.specs.Sides.{frame_at, lists_at}
+use Rattle.gs_best.specs.Sides.{frame_at, lists_at}
 use Rattle.gs_certificate.specs.{Claims.{claimed}, Numbers.{TellsWhether}}
 use Rattle.gs_certificate.proofs.{Compared.{both_tell}, Together.{here_is, here_way, size, some_size, worth_is}, low.is_below_one.Goals.{After-worth_of}}
 use Rattle.gs_certificate.proofs.low.is_below_one.Goals as goal

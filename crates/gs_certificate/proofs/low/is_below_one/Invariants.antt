@@ -1,7 +1,7 @@
 use Rattle.std.proofs.Common.{ℕ, ◌<◌}
 use Rattle.std.specs.Prelude.{◌≤ℤ◌}
 use Rattle.gs_model.specs.{BestAnswers.{class_worth}, Positions.{at_point}}
-use Rattle.gs_values.specs.Sides.{frame_at, lists_at}
+use Rattle.gs_best.specs.Sides.{frame_at, lists_at}
 use Rattle.gs_certificate.specs.Claims.{claimed}
 use Rattle.gs_certificate.proofs.low.is_below_one.Given as goal
 

@@ -1,7 +1,7 @@
 use Rattle.std.proofs.Common.{◌∙◌}
 use Rattle.gs_model.specs.{BestAnswers.{class_worth}, Frame.{choices_at}, Positions.{at_point}, Sums.{sum_z}}
 use Rattle.gs_seq.proofs.Signed.{read_back}
-use Rattle.gs_values.specs.Sides.{frame_at, lists_at}
+use Rattle.gs_best.specs.Sides.{frame_at, lists_at}
 use Rattle.gs_certificate.specs.Claims.{claimed}
 use Rattle.gs_certificate.proofs.{Compared.{both_tell}, Together.{here_is, here_way, size, some_size, worths_are}}
 use Rattle.gs_certificate.proofs.low.is_below_sum.Goals as goal

@@ -1,5 +1,5 @@
 use Rattle.std.proofs.Common.{sym, ◌∙◌}
-use Rattle.gs_values.specs.Sides.{frame_at, lists_at}
+use Rattle.gs_best.specs.Sides.{frame_at, lists_at}
 use Rattle.gs_certificate.specs.Claims.{claimed}
 use Rattle.gs_certificate.proofs.Holding.{others_told, own_told}
 use Rattle.gs_certificate.proofs.low.is_low.Goals as goal

@@ -1,7 +1,7 @@
 use Rattle.std.proofs.Common.{sym, subst, arith}
 use Rattle.gs_model.specs.{Frame.{leads_to}, FrameFacts.{IsFrom, IsInside}}
-use Rattle.gs_values.specs.Sides.{frame_at}
-use Rattle.gs_values.proofs.Players.{walked}
+use Rattle.gs_best.specs.Sides.{frame_at}
+use Rattle.gs_best.proofs.Players.{walked}
 use Rattle.gs_certificate.proofs.Together.{not_before}
 use Rattle.gs_certificate.proofs.spot.ways_of.Goals as goal
 

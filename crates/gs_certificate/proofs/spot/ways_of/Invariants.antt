@@ -1,7 +1,7 @@
 use Rattle.std.proofs.Common.{◌≡◌, ℕ, ◌<◌, length, get_or}
 use Rattle.gs_game.specs.Seen.{target_of}
 use Rattle.gs_model.specs.Frame.{leads_to}
-use Rattle.gs_values.specs.Sides.{frame_at, lists_at}
+use Rattle.gs_best.specs.Sides.{frame_at, lists_at}
 use Rattle.gs_certificate.specs.{Claims.{IsWay}, declared.way.Way.{Way}}
 use Rattle.gs_certificate.proofs.spot.ways_of.Given as goal
 

@@ -1,8 +1,8 @@
 use Rattle.std.proofs.Common.{◌≡◌, ◌+◌, ap, ◌∙◌, arith}
 use Rattle.gs_model.specs.Classes.{class_count}
 use Rattle.gs_seq.specs.Abstracts.{abstract_frame, lists_of}
-use Rattle.gs_values.specs.Tables.{start_of}
-use Rattle.gs_values.proofs.PointStarts.{starts_few, starts_more}
+use Rattle.gs_best.specs.Tables.{start_of}
+use Rattle.gs_best.proofs.PointStarts.{starts_few, starts_more}
 use Rattle.gs_certificate.proofs.way.place_from.Goals.{After-class_total-place}
 use Rattle.gs_certificate.proofs.way.place_from.Goals as goal
 

@@ -1,6 +1,6 @@
 use Rattle.std.proofs.Common.{◌≡◌}
 use Rattle.gs_seq.specs.Abstracts.{abstract_frame, lists_of}
-use Rattle.gs_values.specs.Tables.{start_of}
+use Rattle.gs_best.specs.Tables.{start_of}
 use Rattle.gs_certificate.proofs.way.place_from.Given as goal
 
 abbrev pub invariant-loop-point : goal.invariant-loop-point

@@ -1,7 +1,7 @@
 use Rattle.gs_seq.proofs.Forms.{form_classes}
-use Rattle.gs_values.specs.Sides.{frame_at, lists_at}
+use Rattle.gs_best.specs.Sides.{frame_at, lists_at}
 use Rattle.gs_certificate.specs.Claims.{first_place_of}
-use Rattle.gs_values.proofs.Shares.{some_member}
+use Rattle.gs_best.proofs.Shares.{some_member}
 use Rattle.gs_certificate.proofs.{Compared.{kept}, Together.{end_small, place_in, size_few, way_round}}
 use Rattle.gs_certificate.proofs.worths.total_at.Goals.{In-Point}
 use Rattle.std.proofs.Common.{◌≡◌, ◌+◌, ◌-◌, ◌^◌, ◌<◌, ◌≤◌, length, get_or, ap, ◌∙◌, subst, arith, of_z, ◌*◌}

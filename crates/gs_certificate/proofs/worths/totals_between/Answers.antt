@@ -8,8 +8,8 @@ use mir.Val.{to_z}
 use Rattle.gs_game.specs.Seen.{target_of}
 use Rattle.gs_model.specs.Classes.{class_size}
 use Rattle.gs_model.proofs.Sparse.{abs_sum}
-use Rattle.gs_values.specs.Sides.{lists_at}
-use Rattle.gs_values.proofs.Ranges.{run_step}
+use Rattle.gs_best.specs.Sides.{lists_at}
+use Rattle.gs_best.proofs.Ranges.{run_step}
 use Rattle.gs_certificate.specs.Claims.{together}
 use Rattle.gs_certificate.proofs.{Sizes.{sizes_few, sum_more}, Together.{size_few, way_round}}
 use Rattle.gs_certificate.proofs.worths.totals_between.Goals as goal

@@ -4,7 +4,7 @@ use Rattle.std.specs.List.{range_with_len}
 use Rattle.gs_game.specs.Seen.{target_of}
 use Rattle.gs_model.specs.Classes.{class_size}
 use Rattle.gs_model.specs.Sums.{sum_z}
-use Rattle.gs_values.specs.Sides.{lists_at}
+use Rattle.gs_best.specs.Sides.{lists_at}
 use Rattle.gs_certificate.specs.Claims.{together}
 use Rattle.gs_certificate.proofs.worths.totals_between.Given as goal
 

@@ -3,8 +3,8 @@ use Rattle.std.specs.Prelude.{unsigned_abs}
 use Rattle.gs_game.specs.{Seen.{target_of}, declared.positions.Target.TheVariants.{Point}}
 use Rattle.gs_model.specs.Frame.{leads_to, move_count}
 use Rattle.gs_seq.proofs.Signed.{read_back}
-use Rattle.gs_values.specs.Sides.{frame_at, lists_at}
-use Rattle.gs_values.proofs.Gathered.{gathered_run}
+use Rattle.gs_best.specs.Sides.{frame_at, lists_at}
+use Rattle.gs_best.proofs.Gathered.{gathered_run}
 use Rattle.gs_certificate.specs.{Claims.{IsWay, together}, declared.way.Way.{Way}}
 use Rattle.gs_certificate.proofs.{Together.{here_way, onward, way_round, worth_at}, worths.worth_below.Goals.{After-from}}
 use Rattle.gs_certificate.proofs.worths.worth_below.Goals as goal

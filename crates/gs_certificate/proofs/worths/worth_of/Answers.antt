@@ -4,8 +4,8 @@ use Rattle.std.proofs.Math.Nat.{mul-le-mul_right}
 use Rattle.gs_game.specs.{Seen.{target_of}, declared.positions.Target.TheVariants.{Point}}
 use Rattle.gs_model.specs.{Classes.{IsClass}, Frame.{leads_to, move_count}}
 use Rattle.gs_seq.proofs.{Forms.{form_classes, form_in_range}, Signed.{read_back}}
-use Rattle.gs_values.specs.{ClassTotals.{gathered_below}, Sides.{frame_at, lists_at}}
-use Rattle.gs_values.proofs.Itself.{gathered_itself}
+use Rattle.gs_best.specs.{ClassTotals.{gathered_below}, Sides.{frame_at, lists_at}}
+use Rattle.gs_best.proofs.Itself.{gathered_itself}
 use Rattle.gs_certificate.specs.{Claims.{IsWay, together}, declared.way.Way.{Way}}
 use Rattle.gs_certificate.proofs.{Together.{here_way, size_few, way_round, worth_at}, worths.worth_of.Goals.{After-from}}
 use Rattle.gs_certificate.proofs.worths.worth_of.Goals as goal

@@ -3,7 +3,7 @@ use Rattle.std.specs.{Int.{w128}, List.{range_with_len}, Prelude.{◌+ℤ◌, un
 use Rattle.gs_model.specs.{Frame.{move_count}, Sums.{sum_z}}
 use Rattle.gs_model.proofs.Sparse.{abs_sum}
 use Rattle.gs_seq.proofs.{EndTotals.{range_begun}, Signed.{read_back}}
-use Rattle.gs_values.specs.{ClassTotals.{total_worth}, Sides.{frame_at, lists_at}}
+use Rattle.gs_best.specs.{ClassTotals.{total_worth}, Sides.{frame_at, lists_at}}
 use Rattle.gs_certificate.specs.Claims.{together}
 use Rattle.gs_certificate.proofs.worths.worths_of.Goals as goal
 

@@ -1,7 +1,7 @@
 use Rattle.std.proofs.Common.{◌≡◌, ◌*◌, ◌^◌, ◌≤◌}
 use Rattle.std.specs.{Prelude.{unsigned_abs}, List.{range_with_len}}
 use Rattle.gs_model.specs.Sums.{sum_z}
-use Rattle.gs_values.specs.{ClassTotals.{total_worth}, Sides.{frame_at, lists_at}}
+use Rattle.gs_best.specs.{ClassTotals.{total_worth}, Sides.{frame_at, lists_at}}
 use Rattle.gs_certificate.specs.Claims.{together}
 use Rattle.gs_certificate.proofs.worths.worths_of.Given as goal
 

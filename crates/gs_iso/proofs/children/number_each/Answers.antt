@@ -1,10 +1,9 @@
 use Rattle.std.proofs.{Common.{◌≡◌, ◌+◌, ℕ, List, arith, length, subst, sym}, lemmas.Bool.Decides.{Decides-eqb}}
 use Rattle.std.specs.Prelude.{nat_eq}
 use Rattle.gs_model.specs.{Isomorphism.{Isomorphic}, Signals.{signal_at, signals}, Signatures.{IsSignature}}
-use Rattle.gs_numbers.proofs.Numbered.{numbered_more, numbered_none, numbers_are}
 use Rattle.gs_tree.specs.Trees.{rules_of}
 use Rattle.gs_iso.specs.{Numbers.{marks_under}, Orders.{mark_lt}}
-use Rattle.gs_iso.proofs.Below.{mark_law_at}
+use Rattle.gs_iso.proofs.{Numbered.{numbered_more, numbered_none, numbers_are}, Below.{mark_law_at}}
 use Rattle.gs_iso.proofs.children.number_each.Goals as goal
 
 pub sign_children-requires-clause-marks : goal.sign_children-requires-clause-marks

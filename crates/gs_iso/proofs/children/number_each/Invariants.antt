@@ -1,7 +1,7 @@
 use Rattle.std.specs.Prelude.{nat_eq}
 use Rattle.std.proofs.lemmas.Bool.Decides.{Decides-eqb}
 use Rattle.gs_model.specs.Signatures.{IsSignature}
-use Rattle.gs_numbers.proofs.Numbered.{AreNumbered}
+use Rattle.gs_iso.proofs.Numbered.{AreNumbered}
 use Rattle.gs_tree.specs.Trees.{rules_of}
 use Rattle.gs_iso.specs.{Numbers.{marks_under}, Orders.{mark_lt}}
 use Rattle.gs_iso.proofs.children.number_each.Given as goal

@@ -1,12 +1,12 @@
 use Rattle.std.proofs.{Common.{◌≡◌, ◌<◌, ◌∙◌, ◌↔◌, List, ℕ, ap, arith, get_or, length, subst, sym, take}, lemmas.Bool.Decides.{Decides-eqb}}
 use Rattle.std.proofs.lemmas.List.{get_or-take, get_or_read, take_all}
 use Rattle.std.specs.Prelude.{nat_eq}
-use Rattle.gs_alike.specs.Alike.{AreAlike, AreStandIns}
+use Rattle.gs_lossless.specs.Alike.{AreAlike, AreStandIns}
 use Rattle.gs_model.specs.{Game.{round_count}, Isomorphism.{Isomorphic}, Signals.{signal_at, signals}}
-use Rattle.gs_numbers.proofs.Numbered.{AreNumbered, numbered_again, numbered_more, numbers_are}
 use Rattle.gs_tree.specs.Trees.{rules_of}
 use Rattle.gs_iso.specs.Numbers.{IsLeafSignature}
-use Rattle.gs_iso.proofs.{Alike.{leaf_law, signature_like}, Becoming.{becoming_more, becoming_none}, Rounds.{isomorphic_last}}
+use Rattle.gs_iso.proofs.{Numbered.{AreNumbered, numbered_again, numbered_more, numbers_are}, Alike.{leaf_law, signature_like}}
+use Rattle.gs_iso.proofs.{Becoming.{becoming_more, becoming_none}, Rounds.{isomorphic_last}}
 use Rattle.gs_iso.proofs.leaves.leaf_numbers.Goals as goal
 
 pub loop-signal-init : goal.loop-signal-init

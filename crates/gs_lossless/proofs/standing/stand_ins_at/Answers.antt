@@ -1,6 +1,6 @@
 use Rattle.std.proofs.{Common.{◌∙◌}, lemmas.Result.{IfOk-weaker}}
 use Rattle.gs_tree.specs.Trees.{rules_of}
-use Rattle.gs_alike.specs.Alike.{AreStandIns}
+use Rattle.gs_lossless.specs.Alike.{AreStandIns}
 use Rattle.gs_lossless.proofs.{Alike.{firsts_of_deals}, Descent.{playable}}
 use Rattle.gs_lossless.proofs.standing.stand_ins_at.Goals as goal
 

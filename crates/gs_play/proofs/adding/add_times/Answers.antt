@@ -3,8 +3,7 @@ use Rattle.std.proofs.lemmas.List.{with_items_is}
 use Rattle.std.specs.Vec.{with_items}
 use Rattle.gs_seq.specs.{Abstracts.{abstract_frame, lists_of}, Slots.{plan_of}}
 use Rattle.gs_seq.proofs.Forms.{form_classes, form_in_range, form_walked}
-use Rattle.gs_totals.specs.PlanSums.{ArePlansAlike, plus_times}
-use Rattle.gs_play.specs.Added.{AreWeightsAdded}
+use Rattle.gs_play.specs.{PlanSums.{ArePlansAlike, plus_times}, Added.{AreWeightsAdded}}
 use Rattle.gs_play.proofs.Within.{added_alike, weight_within}
 use Rattle.gs_play.proofs.adding.add_times.Goals as goal
 

@@ -3,10 +3,9 @@ use Rattle.std.specs.{Prelude.{ℤ}, declared.alloc.Global.{Global}}
 use Rattle.gs_model.specs.Frame.{point_count}
 use Rattle.gs_seq.specs.Slots.{IsPlan, slot_count}
 use Rattle.gs_seq.proofs.Forms.{form_classes, form_in_range, form_lossless, form_walked}
-use Rattle.gs_values.specs.{Tables.{start_of}, ClassTotals.{AreBestTotals}, Places.{AreEndSums}}
-use Rattle.gs_values.proofs.Slices.{through}
-use Rattle.gs_best.specs.Puts.{ArePutBefore}
-use Rattle.gs_totals.specs.Roles.{role_frame, role_lists, moves_in, role_plan, totals_in}
+use Rattle.gs_best.specs.{Tables.{start_of}, ClassTotals.{AreBestTotals}, Places.{AreEndSums}, Puts.{ArePutBefore}}
+use Rattle.gs_best.proofs.Slices.{through}
+use Rattle.gs_play.specs.Roles.{role_frame, role_lists, moves_in, role_plan, totals_in}
 use Rattle.gs_play.proofs.{Answering.{put_plan}, seats.answer_anew.Goals.{After-find, After-swap}}
 use Rattle.gs_play.proofs.seats.answer_anew.Goals as goal
 

@@ -1,7 +1,7 @@
 use Rattle.std.proofs.Common.{◌≤◌, List, ℕ, length, sym, subst}
 use Rattle.gs_model.specs.Frame.{point_count}
-use Rattle.gs_values.specs.{Tables.{start_of}, ClassTotals.{AreBestTotals, IsFollowed}}
-use Rattle.gs_totals.specs.{Jumps.{AreBeforeChange}, Roles.{role_frame, role_lists, moves_in, role_plan, totals_in}}
+use Rattle.gs_best.specs.{Tables.{start_of}, ClassTotals.{AreBestTotals, IsFollowed}}
+use Rattle.gs_play.specs.{Jumps.{AreBeforeChange}, Roles.{role_frame, role_lists, moves_in, role_plan, totals_in}}
 use Rattle.gs_play.proofs.seats.lasts.Goals as goal
 
 pub invariant_of-course : goal.invariant_of-course

@@ -1,7 +1,6 @@
 use Rattle.gs_seq.proofs.Forms.{form_classes, form_in_range, form_lossless}
-use Rattle.gs_totals.specs.Roles.{role_frame, role_lists}
-use Rattle.gs_totals.proofs.Sides.{other_walked, walked}
-use Rattle.gs_play.proofs.Turned.{put_stays, put_stays_once}
+use Rattle.gs_play.specs.Roles.{role_frame, role_lists}
+use Rattle.gs_play.proofs.{Sides.{other_walked, walked}, Turned.{put_stays, put_stays_once}}
 use Rattle.gs_play.proofs.seats.look_ahead.Goals as goal
 
 pub returns-then-times-eq1-clause-stays : goal.returns-then-times-eq1-clause-stays

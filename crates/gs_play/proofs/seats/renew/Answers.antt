@@ -1,7 +1,7 @@
 use Rattle.std.proofs.Common.{List, ℕ, length, sym, ap, ◌∙◌, subst}
 use Rattle.gs_seq.specs.Slots.{plan_of}
-use Rattle.gs_values.specs.Places.{AreEndSums}
-use Rattle.gs_totals.specs.Roles.{role_frame, role_lists}
+use Rattle.gs_best.specs.Places.{AreEndSums}
+use Rattle.gs_play.specs.Roles.{role_frame, role_lists}
 use Rattle.gs_play.proofs.seats.renew.Goals as goal
 
 pub renew_ends-requires-clause-before : goal.renew_ends-requires-clause-before

@@ -1,8 +1,8 @@
 use Rattle.std.proofs.Common.{◌≤◌, List, ℕ, length, sym, subst, Vec}
 use Rattle.std.specs.{Prelude.{ℤ}, declared.alloc.Global.{Global}}
 use Rattle.gs_model.specs.Frame.{point_count}
-use Rattle.gs_values.specs.{Tables.{start_of}, ClassTotals.{IsFollowed}, Places.{AreEndSums}}
-use Rattle.gs_totals.specs.Roles.{role_frame, role_lists, moves_in, role_plan, totals_in}
+use Rattle.gs_best.specs.{Tables.{start_of}, ClassTotals.{IsFollowed}, Places.{AreEndSums}}
+use Rattle.gs_play.specs.Roles.{role_frame, role_lists, moves_in, role_plan, totals_in}
 use Rattle.gs_play.proofs.seats.rise.Goals as goal
 
 pub follow-requires-clause-ready : goal.follow-requires-clause-ready

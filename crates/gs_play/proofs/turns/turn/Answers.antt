@@ -3,11 +3,9 @@ use Rattle.gs_model.specs.Play.{IsFictitiousPlay}
 use Rattle.gs_model.proofs.PlanLaws.{played_are_plans}
 use Rattle.gs_seq.specs.{Abstracts.{abstract_frame, lists_of}, Plans.{IsPlanOf, class_plan}, declared.plan.Plan.{Plan}}
 use Rattle.gs_seq.proofs.Forms.{form_classes, form_in_range, form_walked}
-use Rattle.gs_values.specs.{Tables.{moves_of}, Places.{AreEndSums, totals_of}}
-use Rattle.gs_totals.specs.{Jumps.{AreBeforeChange}, PlanSums.{ArePlansAlike, plus_times}}
-use Rattle.gs_totals.proofs.SmallEnds.{small_ends, small_points}
-use Rattle.gs_play.specs.{Seats.{HasAnswered}, Staying.{AnswerStays}}
-use Rattle.gs_play.proofs.{Answering.{known_on, paid_same}, Jumps.{jump}, Turned.{best_on, least_of, paid_on, stays_less}}
+use Rattle.gs_best.specs.{Tables.{moves_of}, Places.{AreEndSums, totals_of}}
+use Rattle.gs_play.specs.{Jumps.{AreBeforeChange}, PlanSums.{ArePlansAlike, plus_times}, Seats.{HasAnswered}, Staying.{AnswerStays}}
+use Rattle.gs_play.proofs.{SmallEnds.{small_ends, small_points}, Answering.{known_on, paid_same}, Jumps.{jump}, Turned.{best_on, least_of, paid_on, stays_less}}
 use Rattle.gs_play.proofs.turns.turn.Goals as goal
 
 pub look_ahead-first-requires-clause-answered : goal.look_ahead-first-requires-clause-answered

@@ -3,7 +3,7 @@ use Rattle.std.specs.List.{range_with_len}
 use mir.Syntax.{w128}
 use mir.Val.{to_z}
 use Rattle.gs_seq.specs.{Abstracts.{abstract_frame, lists_of}, Plans.{lifted}}
-use Rattle.gs_values.proofs.Chips.{form_modest}
+use Rattle.gs_best.proofs.Chips.{form_modest}
 use Rattle.gs_model.specs.{Frame.{end_count}, Sums.{sum_z}}
 use Rattle.gs_raw.specs.Hands.{hand_pays_at}
 use Rattle.gs_raw.proofs.{HandDeals.{all_ends}, Running.{IsAdded, ends_added}, paired.all_gain.Goals.{After-end_gain}}

@@ -3,7 +3,7 @@ use Rattle.std.specs.Prelude.{unsigned_abs, ◌*ℤ◌}
 use mir.Syntax.{w128}
 use mir.Val.{to_z}
 use Rattle.gs_seq.specs.{Abstracts.{abstract_frame, lists_of}, Plans.{IsPlanOf, class_plan, lifted}}
-use Rattle.gs_values.proofs.Chips.{form_modest}
+use Rattle.gs_best.proofs.Chips.{form_modest}
 use Rattle.gs_model.specs.{BestAnswers.{end_worth}, Pairs.{class_number}, Payoff.{number_at_end}}
 use Rattle.gs_raw.specs.Hands.{signal_pays}
 use Rattle.gs_raw.proofs.{Numbers.{abs_scaled}, SignalPays.{signal_share, signal_weighs_le, single_end, small_of}, paired.signal_gain.Goals.{After-end_value}}

@@ -1,9 +1,8 @@
 use Rattle.std.proofs.Common.{◌≡◌, ◌∙◌, List, ℕ, Some, map, string_bytes, refl, rules, subst, sym}
-use Rattle.gs_answer.specs.Asking.{Asks, reads}
 use Rattle.gs_reply.specs.{Refusals.{line_of}, Replies.{Refuses}}
 use Rattle.gs_words.specs.{Requests.{request_of}, Tasks.{task_of}}
 use Rattle.gs_run.proofs.Answered.{inputs, refuses}
-use Rattle.gs_run.specs.Running.{Ends, IsAnswered, RunsTo, TellsLine, ends}
+use Rattle.gs_run.specs.{Asking.{Asks, reads}, Running.{Ends, IsAnswered, RunsTo, TellsLine, ends}}
 use Rattle.gs_run.proofs.runs.run_words.Goals as goal
 
 pub returns-in-Ok-refusal_line : goal.returns-in-Ok-refusal_line

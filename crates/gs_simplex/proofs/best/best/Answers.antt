@@ -1,10 +1,9 @@
 use Rattle.std.proofs.Common.{◌≡◌, inl, inr, ℕ, ◌+◌, ◌<◌, List, slice_index, slice_index_or, ℤ, pos, neg_ℤ, ◌*ℤ◌, ◌<ℤ◌, refl, sym, ap, subst, ◌∙◌, arith}
 use Rattle.std.specs.List.{HoldsAt}
-use Rattle.gs_rows.specs.{declared.Program.{Program}, Program.{Listing, IsPairList, IsRowsOf}}
-use Rattle.gs_rows.proofs.{PairLists.{pair_list_is_list, column_decided}, Ring.{times_neg}}
 use Rattle.gs_frac.specs.declared.value.Fraction.{Fraction}
-use Rattle.gs_simplex.specs.{Table.{table_rows, table_aim, IsKept, IsTableOf}, Values.{IsRowIndex, IsColumnValue, CanValue}, Answer.{IsBestAt}}
-use Rattle.gs_simplex.proofs.{Multiples.{down_fraction}, Kept.{row_pos_kept, multiple_kept}}
+use Rattle.gs_simplex.specs.{declared.program.Program.{Program}, Program.{Listing, IsPairList, IsRowsOf}, Table.{table_rows, table_aim, IsKept, IsTableOf}}
+use Rattle.gs_simplex.specs.{Values.{IsRowIndex, IsColumnValue, CanValue}, Answer.{IsBestAt}}
+use Rattle.gs_simplex.proofs.{PairLists.{pair_list_is_list, column_decided}, Ring.{times_neg}, Multiples.{down_fraction}, Kept.{row_pos_kept, multiple_kept}}
 use Rattle.gs_simplex.proofs.best.best.Goals as goal
 
 module _ (p : Program) (l : Listing) (xs : List ℤ) (rows rows' : List ℕ) (pairs : IsPairList p l) (held : IsTableOf p l xs) (index : IsRowIndex p l rows') (same : rows ≡ rows') where

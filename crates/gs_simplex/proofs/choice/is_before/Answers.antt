@@ -3,9 +3,8 @@ use Rattle.std.proofs.lemmas.Bool.{ltb-true, ltb-false}
 use mir.Syntax.{w128}
 use Rattle.std.specs.Int.Signed.{lt_z}
 use lib.Dec.{ltb}
-use Rattle.gs_rows.proofs.Ring.{linear}
 use Rattle.gs_simplex.specs.{declared.choice.Ratio.{Ratio}, Choice.{Before, NotAfter}}
-use Rattle.gs_simplex.proofs.{Fits.{kept_64, narrow_passed, kept_128, lt_true, lt_false}, choice.is_before.Goals.{After-product-right}}
+use Rattle.gs_simplex.proofs.{Ring.{linear}, Fits.{kept_64, narrow_passed, kept_128, lt_true, lt_false}, choice.is_before.Goals.{After-product-right}}
 use Rattle.gs_simplex.proofs.choice.is_before.Goals as goal
 
 not_equal : (x y : ℕ) → (x ≡ y → ⊥) → nat_eq x y ≡ false

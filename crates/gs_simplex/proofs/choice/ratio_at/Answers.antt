@@ -1,6 +1,6 @@
 use Rattle.std.proofs.Common.{◌≡◌, Bool, true, false, inl, inr, ℤ, pos, ◌<ℤ◌, ◌≤ℤ◌, to_z, of_z, w64, refl, sym, ap, subst, ◌∙◌}
 use Rattle.std.specs.Int.Signed.{le_z}
-use Rattle.gs_rows.specs.Rows.{IsNarrow}
+use Rattle.gs_simplex.specs.Rows.{IsNarrow}
 use Rattle.gs_simplex.proofs.Fits.{kept_64, le_true, le_false}
 use Rattle.gs_simplex.proofs.choice.ratio_at.Goals as goal
 

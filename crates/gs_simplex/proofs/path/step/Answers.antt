@@ -1,7 +1,6 @@
 use Rattle.std.proofs.Common.{◌≡◌, ℕ, ◌+◌, ℤ, List, length, Some, sym, subst, arith}
-use Rattle.gs_rows.specs.Path.{Enters, NoneLeaves, PathStops, wide}
-use Rattle.gs_simplex.specs.{declared.answer.Stop.{Stop}, Table.{table_rows, table_aim, IsTableOf, HasTops, stated}, Choice.{IsLeaving}}
-use Rattle.gs_simplex.specs.{State.{IsSoFar, IsPivoted, IsWidePivot}, Answer.{IsStop}}
+use Rattle.gs_simplex.specs.{Path.{Enters, NoneLeaves, PathStops, wide}, declared.answer.Stop.{Stop}, Table.{table_rows, table_aim, IsTableOf, HasTops, stated}}
+use Rattle.gs_simplex.specs.{Choice.{IsLeaving}, State.{IsSoFar, IsPivoted, IsWidePivot}, Answer.{IsStop}}
 use Rattle.gs_simplex.proofs.Paths.{rows_of_so_far, turn_at, none_of, if_none, pivots_stops, unbounded_stops, pivot_next, pivot_wide}
 use Rattle.gs_simplex.proofs.path.step.Goals as goal
 

@@ -1,8 +1,7 @@
 use Rattle.std.proofs.Common.{◌≡◌, ℕ, ◌<◌, ◌^◌, length, slice_index, ℤ, pos, ◌*ℤ◌, unsigned_abs, to_z, of_z, w64, sym, ap, subst, ◌∙◌, arith}
 use Prim.Native.Nat.{◌∣◌}
-use Rattle.gs_rows.proofs.Ring.{times_zero}
 use Rattle.gs_simplex.specs.Numbers.{at}
-use Rattle.gs_simplex.proofs.{Fits.{kept_64}, Lives.{columns_of, still_old, left_more, done_more, all_written}}
+use Rattle.gs_simplex.proofs.{Ring.{times_zero}, Fits.{kept_64}, Lives.{columns_of, still_old, left_more, done_more, all_written}}
 use Rattle.gs_simplex.proofs.row.divide_all.Goals as goal
 
 pub guessed_quotient-requires-clause-divides : goal.guessed_quotient-requires-clause-divides

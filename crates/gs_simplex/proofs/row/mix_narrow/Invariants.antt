@@ -1,6 +1,5 @@
 use Rattle.std.proofs.Common.{◌≡◌, ◌≢◌, ℕ, ◌<◌, slice_index, ◌*ℤ◌, ◌-ℤ◌}
-use Rattle.gs_rows.specs.Rows.{IsNarrow}
-use Rattle.gs_simplex.specs.Numbers.{at}
+use Rattle.gs_simplex.specs.{Rows.{IsNarrow}, Numbers.{at}}
 use Rattle.gs_simplex.proofs.row.mix_narrow.Given as goal
 
 abbrev pub invariant-loop-k : goal.invariant-loop-k

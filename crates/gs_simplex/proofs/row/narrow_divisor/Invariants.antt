@@ -1,6 +1,5 @@
 use Rattle.std.proofs.Common.{◌-◌, slice_index, unsigned_abs}
-use Rattle.gs_rows.specs.Rows.{IsNarrow}
-use Rattle.gs_simplex.specs.Numbers.{at, IsDivisor}
+use Rattle.gs_simplex.specs.{Rows.{IsNarrow}, Numbers.{at, IsDivisor}}
 use Rattle.gs_simplex.proofs.row.narrow_divisor.Given as goal
 
 abbrev pub invariant-loop-k : goal.invariant-loop-k

@@ -1,7 +1,6 @@
 use Rattle.std.proofs.Common.{◌≡◌, ℕ, ◌+◌, ◌*◌, ◌<◌, ◌≤◌, ◌^◌, ℤ, pos, ◌-ℤ◌, ◌*ℤ◌, ◌<ℤ◌, unsigned_abs, length, slice_index, to_z, of_z, w64, sym, ap, subst, ◌∙◌, arith}
 use Rattle.std.proofs.lemmas.Nat.{mul-le}
-use Rattle.gs_rows.specs.Rows.{IsNarrow}
-use Rattle.gs_simplex.specs.{Numbers.{at, IsShared, IsMultiple}, Live.{IsSupport, IsChange}}
+use Rattle.gs_simplex.specs.{Rows.{IsNarrow}, Numbers.{at, IsShared, IsMultiple}, Live.{IsSupport, IsChange}}
 use Rattle.gs_simplex.proofs.{Fits.{kept_64, narrow_passed, difference_bound}, Lives.{support_mixed, support_row}}
 use Rattle.gs_simplex.proofs.Reduce.{kept_mixed, divisor_small, by_divides, mixed_times, reduced_from, reduced_wide}
 use Rattle.gs_simplex.proofs.row.reduce_row.Goals.{After-touched-count}

@@ -1,7 +1,6 @@
 use Rattle.std.proofs.Common.{◌≡◌, inl, inr, ℕ, ◌+◌, ◌-◌, ◌*◌, ◌<◌, ◌≤◌, List, [], ◌∷◌, ◌++◌, ℤ, pos, length, map, Vec, vec_items, Global, slice_index_or, sym, ap, subst, ◌∙◌, arith}
 use Rattle.std.proofs.{lemmas.Bool.{cases_eq}, lemmas.List.{get_or_append_left, get_or-append_right, length-append}}
-use Rattle.gs_rows.specs.{declared.Program.{Program}, Program.{number, aim_of, rows_of, IsShaped}}
-use Rattle.gs_simplex.specs.{Numbers.{at, cell}, State.{IsRaw}}
+use Rattle.gs_simplex.specs.{declared.program.Program.{Program}, Program.{number, aim_of, rows_of, IsShaped}, Numbers.{at, cell}, State.{IsRaw}}
 use Rattle.gs_simplex.proofs.Places.{row_inside, vec_at}
 use Rattle.gs_simplex.proofs.start.raw_numbers.Goals as goal
 

@@ -1,6 +1,5 @@
 use Rattle.std.proofs.Common.{◌≡◌, ℕ, ◌+◌, ◌*◌, ◌<◌, ◌≤◌, length, pos}
-use Rattle.gs_rows.specs.Program.{number}
-use Rattle.gs_simplex.specs.Numbers.{cell}
+use Rattle.gs_simplex.specs.{Program.{number}, Numbers.{cell}}
 use Rattle.gs_simplex.proofs.start.raw_numbers.Given as goal
 
 abbrev pub invariant-loop-row : goal.invariant-loop-row

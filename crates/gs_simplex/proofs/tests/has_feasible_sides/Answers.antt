@@ -1,5 +1,5 @@
 use Rattle.std.proofs.Common.{arith}
-use Rattle.gs_rows.proofs.PairLists.{place_of}
+use Rattle.gs_simplex.proofs.PairLists.{place_of}
 use Rattle.gs_simplex.proofs.tests.has_feasible_sides.Goals as goal
 
 pub returns : goal.returns

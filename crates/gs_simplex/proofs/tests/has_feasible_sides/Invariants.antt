@@ -1,6 +1,5 @@
 use Rattle.std.proofs.Common.{◌≡◌, ℕ, ◌+◌, ◌<◌, pos, ◌≤ℤ◌, slice_index_or}
-use Rattle.gs_rows.specs.Program.{IsFree}
-use Rattle.gs_simplex.specs.Table.{table_rows}
+use Rattle.gs_simplex.specs.{Program.{IsFree}, Table.{table_rows}}
 use Rattle.gs_simplex.proofs.tests.has_feasible_sides.Given as goal
 
 abbrev pub invariant-loop-place : goal.invariant-loop-place

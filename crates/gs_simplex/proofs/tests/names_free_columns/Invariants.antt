@@ -1,5 +1,5 @@
 use Rattle.std.proofs.Common.{◌≡◌, ℕ, ◌+◌, ◌<◌, length, slice_index_or}
-use Rattle.gs_rows.specs.Program.{IsFree}
+use Rattle.gs_simplex.specs.Program.{IsFree}
 use Rattle.gs_simplex.proofs.tests.names_free_columns.Given as goal
 
 abbrev pub invariant-loop-column : goal.invariant-loop-column

@@ -1,8 +1,7 @@
 use Rattle.std.proofs.Common.{◌≡◌, ℕ, ◌+◌, ◌-◌, ◌<◌, List, ℤ, length, take, slice_index_or, refl, ap, subst, arith}
-use Rattle.gs_rows.specs.{declared.Program.{Program}, Program.{Listing}}
-use Rattle.gs_rows.proofs.PairLists.{opened_pair_list}
-use Rattle.gs_simplex.specs.{Table.{table_rows, HasTops, IsTableAfter, IsWideAfter}, Conditions.{CanTakeAt, IsTaken}}
-use Rattle.gs_simplex.proofs.{Paths.{none_of, if_none}, Checks.{front_opened, taken_more}}
+use Rattle.gs_simplex.specs.{declared.program.Program.{Program}, Program.{Listing}, Table.{table_rows, HasTops, IsTableAfter, IsWideAfter}}
+use Rattle.gs_simplex.specs.Conditions.{CanTakeAt, IsTaken}
+use Rattle.gs_simplex.proofs.{PairLists.{opened_pair_list}, Paths.{none_of, if_none}, Checks.{front_opened, taken_more}}
 use Rattle.gs_simplex.proofs.tests.take_all.Goals as goal
 
 -- the pair as the code reads it

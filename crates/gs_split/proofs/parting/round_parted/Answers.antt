@@ -4,7 +4,7 @@ use Rattle.gs_model.specs.{Classes.{list_of}, Frame.{frame_of}, Game.{round_coun
 use Rattle.gs_model.proofs.{Ranges.{length-parents, parents_at, signal_count_is}, Walked.{last_round_of}}
 use Rattle.gs_tree.specs.Trees.{rules_of}
 use Rattle.gs_lossless.proofs.Descent.{list_long}
-use Rattle.gs_numbers.specs.Numbers.{IsKeyClasses}
+use Rattle.gs_iso.specs.KeyNumbers.{IsKeyClasses}
 use Rattle.gs_split.specs.Turns.{IsRoundParted, turn_key}
 use Rattle.gs_split.proofs.{Turned.{both_ok, first_parents, list_read, parents_under, round_made}, parting.round_parted.Goals.{After-deref}}
 use Rattle.gs_split.proofs.parting.round_parted.Goals as goal

@@ -2,7 +2,7 @@ use Rattle.std.proofs.{Common.{◌≡◌, ◌<◌, ℕ, List, arith, get_or, len
 use Rattle.std.specs.Prelude.{◌+◌, ◌%◌, ◌^◌}
 use Rattle.gs_split.proofs.Proposed.{child_more, terms_to}
 use Rattle.gs_split.proofs.proposal.child_numbers.Goals as goal
-use Rattle.gs_alike.proofs.Items.{get_or-in}
+use Rattle.gs_lossless.proofs.Items.{get_or-in}
 
 pub loop-child-preserved : goal.loop-child-preserved
 loop-child-preserved c =

@@ -1,4 +1,4 @@
-use Rattle.gs_numbers.proofs.FirstSeen.{AreSeen}
+use Rattle.gs_iso.proofs.FirstSeen.{AreSeen}
 use Rattle.gs_split.specs.Turns.{key_eq, turn_key}
 use Rattle.gs_split.proofs.Agreed.{key_exact}
 use Rattle.gs_split.proofs.rounds.round_classes.Given as goal

@@ -2,7 +2,7 @@ use Rattle.std.proofs.{Common.{◌≡◌, ◌∙◌, ◌≤◌, ap, arith, lengt
 use Rattle.gs_model.specs.{Frame.{frame_of}, Game.{round_count}}
 use Rattle.gs_model.proofs.Walked.{last_round_of}
 use Rattle.gs_tree.specs.{Trees.{rules_of}, Walk.{last_count}, declared.signals.Signals.{Signals}}
-use Rattle.gs_alike.specs.Alike.{AreStandIns}
+use Rattle.gs_lossless.specs.Alike.{AreStandIns}
 use Rattle.gs_lossless.proofs.{Alike.{firsts_of_deals, last_keys}, Descent.{playable}, Scanned.{side_in}}
 use Rattle.gs_split.proofs.Agreed.{firsts_of_themselves}
 use Rattle.gs_split.proofs.sides.side_firsts.Goals as goal

@@ -1,6 +1,6 @@
 use Rattle.std.proofs.{Common.{◌≡◌, ◌-◌, ◌<◌, ◌∙◌, ℕ, List, false, ap, arith, get_or, length, subst, sym, Vec, Global}, lemmas.List.{get_or_read}}
 use Rattle.gs_model.specs.{Classes.{class_of}, Frame.{frame_of, signal_count}}
-use Rattle.gs_numbers.proofs.Numbered.{numbered_again, numbered_more, numbers_are}
+use Rattle.gs_iso.proofs.Numbered.{numbered_again, numbered_more, numbers_are}
 use Rattle.gs_tree.specs.Trees.{rules_of}
 use Rattle.gs_lossless.specs.{Amounts.{HaveEqualAmounts, AreAmounts, AreSideFirsts, key_count}, declared.parts.Part.{Part}}
 use Rattle.gs_lossless.proofs.{Descent.{keys_long, playable}, Merge.{part_decides}, Scanned.{side_classes, side_signals, side_top}}

@@ -1,5 +1,5 @@
 use Rattle.gs_model.specs.Frame.{frame_of}
-use Rattle.gs_numbers.proofs.Numbered.{AreNumbered}
+use Rattle.gs_iso.proofs.Numbered.{AreNumbered}
 use Rattle.gs_tree.specs.Trees.{rules_of}
 use Rattle.gs_lossless.proofs.Merge.{part_decides}
 use Rattle.gs_split.specs.Turns.{AreClassSums, part_eq}

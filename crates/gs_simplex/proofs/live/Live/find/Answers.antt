@@ -1,5 +1,5 @@
 use Rattle.std.proofs.{Common.{◌≡◌, ℕ, ◌+◌, ◌<◌, ◌≤◌, List, ◌++◌, length, take, drop, slice_index, sym, subst, ◌∙◌, arith}, lemmas.List.{take_at}}
-use Rattle.gs_rows.specs.{declared.Program.{Program}, Program.{Listing, IsListed, RowListed, ColListed, IsPairList}}
+use Rattle.gs_simplex.specs.{declared.program.Program.{Program}, Program.{Listing, IsListed, RowListed, ColListed, IsPairList}}
 use Rattle.gs_simplex.specs.Live.{AreColumnPlaces, AreFoundPlaces}
 use Rattle.gs_simplex.proofs.Lives.{live_row, all_live}
 use Rattle.gs_simplex.proofs.live.Live.find.Goals as goal

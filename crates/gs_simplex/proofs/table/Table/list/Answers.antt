@@ -1,7 +1,7 @@
 use Rattle.std.proofs.Common.{◌≡◌, ◌≢◌, IfNone, MatchOption, Option, Some, None, ◌⊎◌, inl, inr, ℕ, ◌+◌, ◌-◌, ◌*◌, ◌<◌, ◌≤◌, ℤ, pos, ◌<ℤ◌, List, ◌++◌, length, slice_index, take, drop, sym, ap, subst, ◌∙◌, arith}
 use Rattle.std.proofs.{lemmas.List.{take_at}, lemmas.Bool.{cases_lt}}
-use Rattle.gs_rows.specs.{declared.Program.{Program}, Rows.{IsNarrow}, Program.{Listing, IsPairList}}
-use Rattle.gs_simplex.specs.{declared.table.WideCell.{WideCell}, Numbers.{at, cell, AreNarrowNumbers, IsAtMost, AreTops, IsLeadOf, IsCleared, IsClearedTo}}
+use Rattle.gs_simplex.specs.{declared.program.Program.{Program}, Rows.{IsNarrow}, Program.{Listing, IsPairList}, declared.table.WideCell.{WideCell}}
+use Rattle.gs_simplex.specs.Numbers.{at, cell, AreNarrowNumbers, IsAtMost, AreTops, IsLeadOf, IsCleared, IsClearedTo}
 use Rattle.gs_simplex.specs.{Table.{table_rows, IsTable, IsTableOf, HasTops, IsTableAfter, IsWideAfter}, Live.{AreFoundPlaces, IsSupport, IsLive}}
 use Rattle.gs_simplex.proofs.{Places.{row_apart, at_most_same}, Tables.{own, zero_lead, table_after, wide_from}, Lives.{live_of}}
 use Rattle.gs_simplex.proofs.table.Table.list.Goals.{After-deref, After-deref-numbers, After-deref_mut-3, After-take_lead-count}

@@ -1,7 +1,7 @@
 use Rattle.std.proofs.Common.{◌≡◌, ℕ, ◌+◌, ◌<◌, List, [], ◌++◌, ◌^◌, ℤ, length, slice_index, take, drop, refl, sym, ap, subst, ◌∙◌, arith}
 use Rattle.std.proofs.lemmas.List.{take_at, get_or-replicate}
-use Rattle.gs_rows.specs.{declared.Program.{Program}, Program.{IsShaped}}
-use Rattle.gs_simplex.specs.{Numbers.{cell, AreNarrowNumbers, IsDivided}, Table.{IsTable, IsTableOf}, State.{IsRaw}}
+use Rattle.gs_simplex.specs.{declared.program.Program.{Program}, Program.{IsShaped}, Numbers.{cell, AreNarrowNumbers, IsDivided}, Table.{IsTable, IsTableOf}}
+use Rattle.gs_simplex.specs.State.{IsRaw}
 use Rattle.gs_simplex.proofs.{Starts.{raw_narrow, start_table, start_rows, wide_tops}, Kept.{kept_self}}
 use Rattle.gs_simplex.proofs.table.Table.start.Goals as goal
 

@@ -1,5 +1,0 @@
-use Rattle.gs_alike.proofs.Ranked.{AreRanked}
-use Rattle.gs_alike.proofs.board.rank.Given as goal
-
-abbrev pub invariant-loop-place : goal.invariant-loop-place
-invariant-loop-place l = AreRanked l.initial.seats.items l.place l.seats.items l.rank l.above

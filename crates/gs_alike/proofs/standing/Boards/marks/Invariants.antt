@@ -1,6 +1,0 @@
-use Rattle.gs_tree.specs.Trees.{rules_of}
-use Rattle.gs_alike.proofs.Marked.{AreMarked}
-use Rattle.gs_alike.proofs.standing.Boards.marks.Given as goal
-
-abbrev pub invariant-loop-place : goal.invariant-loop-place
-invariant-loop-place l = AreMarked (rules_of l.self.signals.now) l.self.list.items l.keys l.marks.items l.kinds.list.items l.kinds.seen

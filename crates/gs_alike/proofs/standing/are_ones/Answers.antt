@@ -1,5 +1,0 @@
-use Rattle.std.proofs.Common.{rules}
-use Rattle.gs_alike.proofs.standing.are_ones.Goals as goal
-
-pub returns : goal.returns
-returns c = search rules

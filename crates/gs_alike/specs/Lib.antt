@@ -1,4 +1,0 @@
-pub mod Alike
-pub mod Boards
-pub mod Firsts
-pub mod Hands

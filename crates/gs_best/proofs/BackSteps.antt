@@ -1,0 +1,109 @@
+-- One step of the induction backwards, for worths of any kind: a point gets its row, and all later ones stay as they are.
+use Rattle.std.proofs.{Common.{◌≡◌, ◌≢◌, ℕ, ◌+◌, ◌-◌, ◌<◌, ◌≤◌, List, get_or, sym, ap, ◌∙◌, subst, arith, ⊎_elim}, lemmas.Bool.{cases_eq}, lemmas.Int.{ints}}
+use Rattle.std.specs.Prelude.{ℤ, pos, ◌≤ℤ◌, ◌<ℤ◌}
+use Rattle.gs_model.specs.{BestAnswers.{Values}, Classes.{ClassLists, IsClass}, Frame.{Frame, choices_at, move_count, player_at, point_count, round_of}}
+use Rattle.gs_model.specs.{FrameFacts.{IsFrom}, Positions.{Target, at_end, at_point}, Sums.{sum_z}}
+use Rattle.gs_best.specs.{Rows.{AreSums, IsCopied, IsMerged, Worths}, Tables.{AreFirstBy, IsFollowedBy, classes_at, start_of}}
+use Rattle.gs_best.proofs.{Placed.{row_later}, Ranges.{sum_same}}
+
+-- what comes later than a point comes later than all points before it
+pub later_on : (q p : ℕ) → q ≤ p → (t : Target) → IsFrom (p + 1) t → IsFrom (q + 1) t
+later_on q p l (at_point n) h = omega arith
+later_on q p l (at_end z) h = tt
+
+module _ {A : Type 0} (zero : A) (f : Frame) (lists : ClassLists) (q start count : ℕ) (at : start ≡ start_of f lists q) (wide : count
+    ≡ classes_at f lists q) (row old new : List A) (copied : IsCopied zero start count row old new) where
+  -- a row that is copied into a list at its point leaves the rows of later points as they were
+  pub kept_later : (p c : ℕ) → q + 1 ≤ p → IsClass lists (round_of f (at_point p)) c
+      → get_or new (start_of f lists p + (c - 1)) zero ≡ get_or old (start_of f lists p + (c - 1)) zero
+  kept_later p c lo lc = copied.behind (start_of f lists p + (c - 1)) (omega (
+    arith,
+    row_later (classes_at f lists) q start count p at wide (omega (arith, lo)),
+  ))
+
+  pub copied_here : (c : ℕ) → IsClass lists (round_of f (at_point q)) c → get_or new (start_of f lists q + (c - 1)) zero ≡ get_or row (c - 1) zero
+  copied_here c lc = let e : start_of f lists q + (c - 1) ≡ start + (c - 1) = omega (arith, at) in
+      ap (λ i. get_or new i zero) e ∙ copied.here (c - 1) (omega (arith, lc.0, lc.1, wide))
+
+module _ (f : Frame) (lists : ClassLists) (player q : ℕ) (lq : q < point_count f) (v v' : Values) (worth worth' : Worths) (move move' : ℕ → ℕ
+    → ℕ) (row : List ℤ)
+    (value_later : (p c : ℕ) → q + 1 ≤ p → IsClass lists (round_of f (at_point p)) c → v' (at_point p) c ≡ v (at_point p) c) (value_here : (c : ℕ)
+    → IsClass lists (round_of f (at_point q)) c → v' (at_point q) c ≡ get_or row (c - 1) (pos 0))
+    (same_worth : (p m c : ℕ) → q ≤ p → p < point_count f → m < move_count f p → worth' p m c ≡ worth p m c) (kept : (p c : ℕ) → q + 1 ≤ p
+    → IsClass lists (round_of f (at_point p)) c → move' p c ≡ move p c) where
+  same_sum : (p c : ℕ) → q ≤ p → p < point_count f → sum_z (λ m. worth' p m c) (choices_at f p) ≡ sum_z (λ m. worth p m c) (choices_at f p)
+  same_sum p c lo lp = sum_same (λ m. worth' p m c) (λ m. worth p m c) 0 (move_count f p) (λ m a b. same_worth p m c lo lp (omega arith))
+
+  module _ (own_in : player_at f q ≡ player → (c : ℕ) → IsClass lists (round_of f (at_point q)) c → move' q c < move_count f q)
+      (own_is : player_at f q ≡ player → (c : ℕ) → IsClass lists (round_of f (at_point q)) c → get_or row (c - 1) (pos 0) ≡ worth q (move' q c) c) where
+    pub followed_back : (player_at f q ≢ player → AreSums f lists worth q (move_count f q) row) → IsFollowedBy f lists player v worth move (q + 1)
+        → IsFollowedBy f lists player v' worth' move' q
+    followed_back sums h = record {
+      in_range = λ p c lo lp. ⊎_elim
+          (λ (same : p ≡ q). let P : ℕ → Type 0 = λ p. player_at f p ≡ player → IsClass lists (round_of f (at_point p)) c → move' p c < move_count f p in
+          subst P (sym same) (λ own lc. own_in own c lc))
+          (λ (other : p ≡ q → ⊥). λ own lc. let a = h.in_range p c (omega arith) lp own lc in
+          subst (λ m. m < move_count f p) (sym (kept p c (omega arith) lc)) a)
+          (cases_eq p q);
+      reached = λ p c lo lp. ⊎_elim
+          (λ (same : p ≡ q). let P : ℕ → Type 0 = λ p. player_at f p ≡ player → IsClass lists (round_of f (at_point p)) c
+          → v' (at_point p) c ≡ worth' p (move' p c) c in subst P (sym same)
+          (λ own lc. value_here c lc ∙ own_is own c lc ∙ sym (same_worth q (move' q c) c (omega arith) lq (own_in own c lc))))
+          (λ (other : p ≡ q → ⊥). λ own lc.
+          let later : q + 1 ≤ p = omega arith in
+          value_later p c later lc ∙ h.reached p c later lp own lc ∙ sym (same_worth p (move p c) c lo lp (h.in_range p c later lp own lc))
+          ∙ ap (λ m. worth' p m c) (sym (kept p c later lc)))
+          (cases_eq p q);
+      at_others = λ p c lo lp. ⊎_elim
+          (λ (same : p ≡ q). let P : ℕ → Type 0 = λ p. player_at f p ≢ player → IsClass lists (round_of f (at_point p)) c
+          → v' (at_point p) c ≡ sum_z (λ m. worth' p m c) (choices_at f p) in subst P (sym same)
+          (λ other lc. value_here c lc ∙ sums other c lc ∙ sym (same_sum q c (omega arith) lq)))
+          (λ (not : p ≡ q → ⊥). λ other lc.
+          let later : q + 1 ≤ p = omega arith in
+          value_later p c later lc ∙ h.at_others p c later lp other lc ∙ sym (same_sum p c lo lp))
+          (cases_eq p q);
+    }
+
+  first_back : ((m c : ℕ) → player_at f q ≡ player → m < move_count f q → IsClass lists (round_of f (at_point q)) c
+      → worth q m c ≤ℤ get_or row (c - 1) (pos 0))
+      → ((m c : ℕ) → player_at f q ≡ player → IsClass lists (round_of f (at_point q)) c → m < move' q c
+      → (m < move_count f q) × (worth q m c <ℤ get_or row (c - 1) (pos 0)))
+      → IsFollowedBy f lists player v worth move (q + 1) → AreFirstBy f lists player v worth move (q + 1) → AreFirstBy f lists player v' worth' move' q
+  first_back more before g h = record {
+    none_more = λ p m c lo lp. ⊎_elim
+        (λ (same : p ≡ q). let P : ℕ → Type 0 = λ p. player_at f p ≡ player → m < move_count f p → IsClass lists (round_of f (at_point p)) c
+        → worth' p m c ≤ℤ v' (at_point p) c in subst P (sym same)
+        (λ own lm lc. let a = more m c own lm lc in let e = same_worth q m c (omega arith) lq lm in let g = value_here c lc in omega (arith, ints, a, e, g)))
+        (λ (other : p ≡ q → ⊥). λ own lm lc.
+        let later : q + 1 ≤ p = omega arith in
+        let a = h.none_more p m c later lp own lm lc in let e = same_worth p m c lo lp lm in let g = value_later p c later lc in omega (arith, ints, a, e, g))
+        (cases_eq p q);
+    none_before = λ p m c lo lp. ⊎_elim
+        (λ (same : p ≡ q). let P : ℕ → Type 0 = λ p. player_at f p ≡ player → IsClass lists (round_of f (at_point p)) c → m < move' p c
+        → worth' p m c <ℤ v' (at_point p) c in subst P (sym same)
+        (λ own lc lm. let a = before m c own lc lm in let b = a.1 in let e = same_worth q m c (omega arith) lq a.0 in let g = value_here c lc in
+        omega (arith, ints, b, e, g)))
+        (λ (other : p ≡ q → ⊥). λ own lc lm.
+        let later : q + 1 ≤ p = omega arith in
+        let lm' = subst (λ n. m < n) (kept p c later lc) lm in
+        let inr = g.in_range p c later lp own lc in
+        let a = h.none_before p m c later lp own lc lm' in let e = same_worth p m c lo lp (omega (arith, lm', inr)) in let k = value_later p c later lc in
+        omega (arith, ints, a, e, k))
+        (cases_eq p q);
+  }
+
+  -- by the first greatest
+  pub best_back : (moves : List ℕ) → ((c : ℕ) → IsClass lists (round_of f (at_point q)) c → move' q c ≡ get_or moves (c - 1) 0)
+      → IsMerged f lists player worth q row moves → IsFollowedBy f lists player v worth move (q + 1) → AreFirstBy f lists player v worth move (q + 1)
+      → IsFollowedBy f lists player v' worth' move' q × AreFirstBy f lists player v' worth' move' q
+  best_back moves is m followed first = (
+    followed_back (λ own c lc. subst (λ n. n < move_count f q) (sym (is c lc)) (m.own own c lc).in_range) (λ own c lc. (m.own own c lc).reached
+        ∙ ap (λ n. worth q n c) (sym (is c lc))) m.others followed,
+    first_back (λ n c own lm lc. (m.own own c lc).none_more n lm)
+        (λ n c own lc lm.
+        let o = m.own own c lc in
+        let lm' = subst (λ k. n < k) (is c lc) lm in
+        let inr = o.in_range in
+        (omega (arith, lm', inr), o.none_before n lm'))
+        followed first,
+  )

@@ -1,0 +1,43 @@
+-- Room for class totals, and what is kept in it.
+use Rattle.std.specs.Prelude.{ℕ, ◌<◌, ◌≤◌, length}
+use Rattle.gs_model.specs.{Classes.{ClassLists, class_count}, Frame.{Frame, end_count, last_round, point_count}, Plans.{Plan}}
+use Rattle.gs_best.specs.{Places.{AreEndStarts, AreEndSums, end_start}, Tables.{AreStarts, start_of}, declared.tables.EndSums.{EndSums}}
+use Rattle.gs_best.specs.{declared.tables.Scratch.{Scratch}, declared.tables.Table.{Table}}
+
+-- no round has more than `wide` classes
+abbrev pub IsWide : Frame → ClassLists → ℕ → Type 0
+IsWide f lists wide = (round : ℕ) → 0 < round → round ≤ last_round f → class_count lists round ≤ wide
+
+-- the length of each scratch row meets the test
+pub record AreOfLength (is_long : ℕ → Type 0) (s : Scratch) : Type 0 where
+  pub numbers : is_long (length s.numbers.items)
+  pub ends : is_long (length s.ends.items)
+  pub worths : is_long (length s.worths.items)
+  pub best : is_long (length s.best.items)
+  pub moves : is_long (length s.moves.items)
+
+-- each scratch row has an entry for each class of any round
+abbrev pub HasRows : Frame → ClassLists → Scratch → Type 0
+HasRows f lists = AreOfLength (IsWide f lists)
+
+-- the table has room for `points` points and `entries` totals
+pub record HoldsEntries (points entries : ℕ) (t : Table) : Type 0 where
+  pub starts : points ≤ length t.starts.items
+  pub totals : entries ≤ length t.totals.items
+  pub picks : entries ≤ length t.picks.items
+
+-- the table has room for each point's start, and for a total and a move at each point and class
+abbrev pub HoldsAll : Frame → ClassLists → Table → Type 0
+HoldsAll f lists = HoldsEntries (point_count f) (start_of f lists (point_count f))
+
+-- the table has room for all totals, and it has the place where each point's totals start
+pub record IsLaid (f : Frame) (lists : ClassLists) (t : Table) : Type 0 where
+  pub holds : HoldsAll f lists t
+  pub places : AreStarts f lists t.starts.items
+
+-- what each end pays a player against the other's plan y is kept
+pub record AreKept (f : Frame) (lists : ClassLists) (player : ℕ) (y : Plan) (e : EndSums) : Type 0 where
+  pub starts : end_count f ≤ length e.starts.items
+  pub sums : end_start f lists (end_count f) ≤ length e.sums.items
+  pub places : AreEndStarts f lists e.starts.items
+  pub paid : AreEndSums f lists player y e.sums.items

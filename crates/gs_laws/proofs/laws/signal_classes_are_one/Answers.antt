@@ -1,5 +1,0 @@
-use Rattle.gs_laws.proofs.OneGame.{signal_classes_one}
-use Rattle.gs_laws.proofs.laws.signal_classes_are_one.Goals as goal
-
-pub returns : goal.returns
-returns c = signal_classes_one

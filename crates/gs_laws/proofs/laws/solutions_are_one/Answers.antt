@@ -1,5 +1,0 @@
-use Rattle.gs_laws.proofs.OneEach.{told_solution_one}
-use Rattle.gs_laws.proofs.laws.solutions_are_one.Goals as goal
-
-pub returns : goal.returns
-returns c = told_solution_one

@@ -1,2 +1,0 @@
-pub mod Confirming
-pub mod Answers

@@ -1,7 +1,0 @@
-use Rattle.std.proofs.Common.{rules, append_assoc}
-use Rattle.gs_made.specs.Made.{head_text}
-use Rattle.gs_made.proofs.text.head.Goals as goal
-
-pub returns : goal.returns
-unfolding head_text
-returns c = search (rules, append_assoc)

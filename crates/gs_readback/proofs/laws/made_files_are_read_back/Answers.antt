@@ -1,5 +1,0 @@
-use Rattle.gs_readback.proofs.MadeFiles.{read_back}
-use Rattle.gs_readback.proofs.laws.made_files_are_read_back.Goals as goal
-
-pub returns : goal.returns
-returns c kind ranks suits cap a b d e f keeps = read_back kind ranks suits cap a b d e f keeps

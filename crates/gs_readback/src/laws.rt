@@ -1,8 +1,0 @@
-//! The law of made game files.
-
-ghost use Rattle.gs_readback.specs.MadeGames.{MadeFilesAreReadBack};
-
-/// A made game file is read back as the game that its words ask for, if that game keeps the rules.
-pub fn made_files_are_read_back()
-    ensures { MadeFilesAreReadBack }
-{}

@@ -1,5 +1,0 @@
-use Rattle.gs_rows.proofs.PairLists.{last_number_is_value_lem}
-use Rattle.gs_rows.proofs.the_last_number_is_the_value.Goals as goal
-
-pub returns : goal.returns
-returns c = last_number_is_value_lem

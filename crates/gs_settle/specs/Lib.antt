@@ -1,6 +1,0 @@
-pub mod Settling
-pub mod Texts
-pub mod Printed
-pub mod Playing
-pub mod Solving
-pub mod Paths

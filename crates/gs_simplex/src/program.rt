@@ -1,0 +1,16 @@
+//! A linear program.
+
+/// A linear program in whole numbers. The aim, or objective, is maximised, the rows hold as equations, and a column that is not free is at least 0.
+#[derive(Debug, Drop)]
+pub struct Program {
+    /// The number of rows.
+    pub rows: u32,
+    /// The number of columns.
+    pub cols: u32,
+    /// For each column, whether it may be below 0.
+    pub free: Vec<bool>,
+    /// For each row, its `cols` numbers and then its right side.
+    pub numbers: Vec<Vec<i64>>,
+    /// For each column, its number in the aim.
+    pub aim: Vec<i64>,
+}

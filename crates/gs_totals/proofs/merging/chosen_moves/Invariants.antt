@@ -1,6 +1,0 @@
-use Rattle.gs_totals.specs.{Roles.{role_frame, role_lists, moves_in}, Merged.{AreChosen}, PointRows.{totals_at}}
-use Rattle.gs_totals.proofs.merging.chosen_moves.Given as goal
-
-abbrev pub invariant-loop-choice : goal.invariant-loop-choice
-invariant-loop-choice l = AreChosen (role_frame l.at.ledger.role) (role_lists l.at.ledger.role) (totals_at l.at)
-    (moves_in l.at.ledger.role l.picks) l.at.point l.choice l.row

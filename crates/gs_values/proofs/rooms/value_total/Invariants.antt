@@ -1,7 +1,0 @@
-use Rattle.std.proofs.Common.{◌≡◌}
-use Rattle.gs_seq.specs.Abstracts.{abstract_frame, lists_of}
-use Rattle.gs_values.specs.Tables.{start_of}
-use Rattle.gs_values.proofs.rooms.value_total.Given as goal
-
-abbrev pub invariant-loop-point : goal.invariant-loop-point
-invariant-loop-point l = l.total ≡ start_of (abstract_frame l.form) (lists_of l.form) l.point
