@@ -3,14 +3,14 @@ use Rattle.std.proofs.Common.{◌≡◌, inl, inr, ℕ, ◌++◌, false, true, B
 use Rattle.gs_certificate.specs.{TextLaws.{IsStated}, Texts.{Stated, certificate_text}, Views.{certificate_view}}
 use Rattle.gs_certificate.specs.declared.certificate.Certificate.{Certificate}
 use Rattle.gs_certificate.proofs.{OneText.{one_certificate}, Only.{only as certificate_only, stated}}
-use Rattle.gs_confirm.proofs.Lines.{lines_verified}
-use Rattle.gs_confirm.specs.{Certificates.{SaysCertified}, Verifying.{SaysChecked, SaysVerified, Verifies}}
-use Rattle.gs_confirm.specs.Commands.{OfConfirmed, OfStrategy, SaysNumbers, SaysQueried, SaysUpgraded}
-use Rattle.gs_compare.specs.Commands.{Duels, SaysDuel, SaysJudged}
+use Rattle.gs_strategy_commands.proofs.Lines.{lines_verified}
+use Rattle.gs_strategy_commands.specs.{Certificates.{SaysCertified}, Verifying.{SaysChecked, SaysVerified, Verifies}}
+use Rattle.gs_strategy_commands.specs.Commands.{OfConfirmed, OfStrategy, SaysNumbers, SaysQueried, SaysUpgraded}
+use Rattle.gs_raw_commands.specs.Commands.{Duels, SaysDuel, SaysJudged}
 use Rattle.gs_file.proofs.States.{states_is}
 use Rattle.gs_file.specs.{Reading.{FileGame, read_at}, States.{FileStates}, declared.version.Version.{Version}, declared.version.Version.TheVariants.{Two}}
-use Rattle.gs_group.specs.{Checking.{ChecksGame, SaysNotLossless}, Shrinking.{ShrinksGame}, Paths.{ShowsPath}, Playing.{Plays}, Settling.{OfGrouping}}
-use Rattle.gs_group.specs.Solving.{Solves}
+use Rattle.gs_game_commands.specs.{Checking.{ChecksGame, SaysNotLossless}, Shrinking.{ShrinksGame}, Paths.{ShowsPath}, Playing.{Plays}, Settling.{OfGrouping}}
+use Rattle.gs_game_commands.specs.Solving.{Solves}
 use Rattle.gs_json.proofs.Feeds.{line_parted}
 use Rattle.gs_json.specs.FirstLine.{first_line}
 use Rattle.gs_run.proofs.Confirming.{no_trouble}

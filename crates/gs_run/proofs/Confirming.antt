@@ -1,18 +1,18 @@
 -- A strategy that is confirmed has no trouble.
 use Rattle.std.proofs.Common.{◌≡◌, ℕ, ◌*◌, ◌<◌, List, Ok, ap, subst, inl, inr, arith}
-use Rattle.gs_confirm.specs.{Commands.{Evaluates, OfConfirmed, SaysNumbers}, Troubles.{IsFirstWrong, IsTrouble}}
+use Rattle.gs_strategy_commands.specs.{Commands.{Evaluates, OfConfirmed, SaysNumbers}, Troubles.{IsFirstWrong, IsTrouble}}
 use Rattle.gs_file.specs.{Reading.{FileGame, read_at}, declared.version.Version.{Version}, declared.version.Version.TheVariants.{Two}}
 use Rattle.gs_model.specs.{Classes.{ClassLists}, Frame.{total_weight}}
 use Rattle.gs_reply.specs.Refusals.{Refusal, Bad_game, Unlike_pair, Overflows, Many_pivots, Too_large, Bad_strategy, Wrong_number, Bad_query, Other_game, Bad_certificate}
 use Rattle.gs_reply.specs.{declared.refusals.Limit.{Limit}, declared.refusals.Limit.TheVariants.{Sequences, Cells, TableNumbers, RawCells}}
 use Rattle.gs_reply.specs.{Replies.{OfRead, Reply, Prints}, Troubles.{Passes}, declared.refusals.Which.TheVariants.{Only}, VerdictText.{verdict_text}}
 use Rattle.gs_seq.specs.{Stops.{IsSmall}, declared.plan.Plan.{Plan}}
-use Rattle.gs_group.specs.Texts.{IsSettledText}
+use Rattle.gs_game_commands.specs.Texts.{IsSettledText}
 use Rattle.gs_strategy.proofs.Only.{only}
 use Rattle.gs_strategy.specs.{Checks.{ReadResult}, Confirmed.{AreNumbersOf, IsConfirmed, strategy_frame, raw_plan}, Laws.{IsStrategy}}
 use Rattle.gs_strategy.specs.{Texts.{strategy_text}, Values.{FractionParts, Numbers, Strategy, file_frame}}
 use Rattle.gs_file.proofs.Dealt.{told_dealt}
-use Rattle.gs_group.proofs.Printed.{printed_strategy}
+use Rattle.gs_game_commands.proofs.Printed.{printed_strategy}
 use Rattle.gs_strategy.proofs.Verdicts.{scale_some, verdicts_one}
 
 -- the weight of all deals and both totals are above 0

@@ -2,17 +2,17 @@
 use Rattle.std.proofs.Common.{◌≡◌, inl, inr, ℕ, ◌++◌, [], ◌∷◌, ◌==◌, List, true, false, Result, Ok, Err, pos, refl, sym, ap, ◌∙◌, subst}
 use Rattle.std.proofs.lemmas.Bool.{cases_Bool}
 use Rattle.gs_certificate.specs.{Texts.{certificate_text}, Views.{certificate_view}}
-use Rattle.gs_confirm.specs.{Certificates.{IsCertified, SaysCertified}, Verifying.{SaysVerified}}
-use Rattle.gs_confirm.specs.{Commands.{OfConfirmed, OfStrategy, SaysNumbers, SaysQueried, SaysUpgraded}, Queries.{IsQueried}}
-use Rattle.gs_compare.specs.{Commands.{OnRawCards, SaysDuel, SaysHands, SaysJudged}, Judging.{AreHandValues, hands_text, plan_in}}
+use Rattle.gs_strategy_commands.specs.{Certificates.{IsCertified, SaysCertified}, Verifying.{SaysVerified}}
+use Rattle.gs_strategy_commands.specs.{Commands.{OfConfirmed, OfStrategy, SaysNumbers, SaysQueried, SaysUpgraded}, Queries.{IsQueried}}
+use Rattle.gs_raw_commands.specs.{Commands.{OnRawCards, SaysDuel, SaysHands, SaysJudged}, Judging.{AreHandValues, hands_text, plan_in}}
 use Rattle.gs_file.proofs.States.{states_ok}
 use Rattle.gs_file.specs.{Faults.{Fault}, Reading.{FileGame, read_at, file_rules}, declared.version.Version.{Version}}
 use Rattle.gs_file.specs.declared.version.Version.TheVariants.{Two}
-use Rattle.gs_group.specs.{Checking.{ChecksGame, IsChecked, IsGrouping}, Shrinking.{IsShrunk, ShrinksGame}, Paths.{IsPathShown, ShowsPath}}
-use Rattle.gs_group.specs.{Playing.{IsPlayed, Plays}, Settling.{OfGrouping}, Solving.{IsSolved, Solves}, Texts.{IsSettledText}}
+use Rattle.gs_game_commands.specs.{Checking.{ChecksGame, IsChecked, IsGrouping}, Shrinking.{IsShrunk, ShrinksGame}, Paths.{IsPathShown, ShowsPath}}
+use Rattle.gs_game_commands.specs.{Playing.{IsPlayed, Plays}, Settling.{OfGrouping}, Solving.{IsSolved, Solves}, Texts.{IsSettledText}}
 use Rattle.gs_json.specs.FirstLine.{first_line}
-use Rattle.gs_compare.proofs.RawGames.{hands_weigh}
-use Rattle.gs_group.proofs.Printed.{printed_raw, printed_strategy}
+use Rattle.gs_raw_commands.proofs.RawGames.{hands_weigh}
+use Rattle.gs_game_commands.proofs.Printed.{printed_raw, printed_strategy}
 use Rattle.gs_strategy.proofs.Strategies.{reads_strategy, strategies_raw}
 use Rattle.gs_words.specs.{Made.{made_game}, declared.kind.Kind.{Kind}}
 use Rattle.gs_words.specs.Tasks.{Task, Shrink, Check, Make, Evaluate, Query, Upgrade, Judge, Duel, Certify, Verify, Solve, Play, Path}

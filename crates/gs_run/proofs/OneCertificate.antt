@@ -12,9 +12,9 @@ use Rattle.gs_certificate.specs.Texts.{Stated, certificate_text}
 use Rattle.gs_certificate.specs.{Views.{certificate_view, fraction_parts}, declared.certificate.Certificate.{Certificate}, declared.fault.CertFault.{CertFault}}
 use Rattle.gs_certificate.specs.declared.text_fault.CertTextFault.{CertTextFault}
 use Rattle.gs_certificate.specs.declared.fault.CertFault.TheVariants as fault
-use Rattle.gs_confirm.specs.Certificates.{Certifies, IsCertified, SaysCertified}
-use Rattle.gs_confirm.specs.{Verifying.{IsCertificateText, IsUnsound, IsVerified, SaysChecked, SaysVerified, Verifies, bounds_text}, Commands.{OfConfirmed}}
-use Rattle.gs_confirm.specs.Troubles.{IsTooLarge}
+use Rattle.gs_strategy_commands.specs.Certificates.{Certifies, IsCertified, SaysCertified}
+use Rattle.gs_strategy_commands.specs.{Verifying.{IsCertificateText, IsUnsound, IsVerified, SaysChecked, SaysVerified, Verifies, bounds_text}, Commands.{OfConfirmed}}
+use Rattle.gs_strategy_commands.specs.Troubles.{IsTooLarge}
 use Rattle.gs_file.specs.{declared.version.Version.{Version}, declared.version.Version.TheVariants.{Two}, Reading.{file_rules}}
 use Rattle.gs_frac.specs.{Texts.{fraction_text}, declared.value.Fraction.{Fraction}}
 use Rattle.gs_json.proofs.Outcomes.{clash, same}

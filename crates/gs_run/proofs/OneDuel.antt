@@ -1,6 +1,6 @@
 -- What `duel` says is one.
 use Rattle.std.proofs.{Common.{◌≡◌, ℕ, ◌<◌, ◌++◌, List, get_or, sym, ap, ◌∙◌, inl, inr, arith}, lemmas.List.{same_lists}}
-use Rattle.gs_compare.specs.{Commands.{Duels, SaysDuel, SaysHands}, Judging.{AreHandValues, hands_text, plan_in}}
+use Rattle.gs_raw_commands.specs.{Commands.{Duels, SaysDuel, SaysHands}, Judging.{AreHandValues, hands_text, plan_in}}
 use Rattle.gs_file.specs.{Reading.{file_rules}, declared.version.Version.{Version}}
 use Rattle.gs_json.specs.FirstLine.{first_line}
 use Rattle.gs_model.specs.{Frame.{signal_count, total_weight}, Payoff.{hand_weight}, Plans.{lift}}

@@ -3,7 +3,7 @@ use Rattle.std.proofs.Common.{◌≡◌, ◌⊎◌, ℕ, ◌+◌, ◌-◌, ◌<�
 use Rattle.std.proofs.{lemmas.Bool.{cases_lt}, lemmas.List.{ext_get_or}}
 use Rattle.gs_run.specs.Making.{Makes}
 use Rattle.gs_file.specs.{Faults.{Fault}, Reading.{FileGame, read_at, file_rules}}
-use Rattle.gs_group.specs.{Checking.{Checks, ChecksGame, IsGrouping, SaysNotLossless}, Shrinking.{Shrinks, ShrinksGame, told}}
+use Rattle.gs_game_commands.specs.{Checking.{Checks, ChecksGame, IsGrouping, SaysNotLossless}, Shrinking.{Shrinks, ShrinksGame, told}}
 use Rattle.gs_words.specs.{Made.{made_game}, declared.kind.Kind.{Kind}, declared.request.Grouping.{Grouping}}
 use Rattle.gs_words.specs.declared.request.Grouping.TheVariants.{Isomorphism, Coarsest, Single}
 use Rattle.gs_model.proofs.{Numbered.{numbered_once}, Unlike.{coarsest_is_one}}

@@ -8,7 +8,7 @@ use Rattle.gs_reply.specs.{Refusals.{Refusal}, Replies.{Reply, Prints, Refuses}}
 use Rattle.gs_simplex.proofs.{Agree.{Agree, enters_same, leaves_same, lists_same, paths_agree}, OneStop.{stops_agree}, Opening.{path_trail}}
 use Rattle.gs_simplex.specs.{Path.{IsPath, IsPivot, Leaves, States, Stops, ends}, Program.{IsOpening, IsRowsOf, Listing}, declared.program.Program.{Program}}
 use Rattle.gs_simplex.specs.{Trace.{IsAimValue, IsTrace, IsTraceOf}, declared.answer.PathTrace.{PathTrace}, declared.answer.Turn.{Turn}}
-use Rattle.gs_group.specs.{Paths.{ShowsPath, path_text, turn_line, turn_lines}, Settling.{Settles}}
+use Rattle.gs_game_commands.specs.{Paths.{ShowsPath, path_text, turn_line, turn_lines}, Settling.{Settles}}
 use Rattle.gs_solve.specs.Solutions.{most_pivots}
 use Rattle.gs_strategy.specs.{Values.{file_frame}, Views.{parts_of}}
 use Rattle.gs_words.specs.declared.request.Grouping.{Grouping}

@@ -2,7 +2,7 @@
 use Rattle.std.proofs.Common.{◌≡◌, ℕ, ◌≤◌, List, get_or, Result, Ok, Err, refl, sym, ap, ◌∙◌, subst, inl, inr, arith}
 use Rattle.std.proofs.lemmas.List.{get_or_default, same_lists}
 use Rattle.gs_file.specs.{Faults.{Fault}, JsonLaws.{IsTold}, Reading.{FileGame, read_at, file_rules}, declared.version.Version.TheVariants.{Two}}
-use Rattle.gs_group.specs.{Checking.{IsGrouping}, Playing.{Plays}, Settling.{OfForm, OfGrouping, Settles}, Texts.{IsSettledText}}
+use Rattle.gs_game_commands.specs.{Checking.{IsGrouping}, Playing.{Plays}, Settling.{OfForm, OfGrouping, Settles}, Texts.{IsSettledText}}
 use Rattle.gs_filter.proofs.ClassLaws.{single_are_classes}
 use Rattle.gs_model.proofs.{Ranges.{in_range, signal_count_is}, Walked.{last_round_of, walked_one, walked_two}}
 use Rattle.gs_model.specs.{Classes.{ClassLists, IsClasses}, Frame.{Frame, point_count, total_weight}, Game.{round_count}, Lossless.{IsLossless}, Plans.{lift}}

@@ -27,7 +27,7 @@ use Rattle.gs_file.specs.{Reading.{FileGame, file_rules}, declared.version.Versi
 use Rattle.gs_reply.specs.Refusals.{Refusal, Overflows, Many_pivots, Too_large, Bad_game, Unlike_pair, Bad_strategy, Wrong_number, Bad_query, Other_game, Bad_certificate}
 use Rattle.gs_reply.specs.{declared.refusals.Limit.TheVariants.{Sequences, Cells, TableNumbers, RawCells}, declared.refusals.Overflow.TheVariants.{AtStep, AtTotal}}
 use Rattle.gs_reply.specs.Replies.{Reply, Prints, Refuses}
-use Rattle.gs_group.specs.{Solving.{SaysStopped, SaysUnsolved, Solves}, Settling.{Settles}}
+use Rattle.gs_game_commands.specs.{Solving.{SaysStopped, SaysUnsolved, Solves}, Settling.{Settles}}
 use Rattle.gs_words.specs.declared.request.Grouping.{Grouping}
 
 -- ---- the opening

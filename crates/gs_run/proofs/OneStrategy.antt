@@ -5,10 +5,10 @@ use Rattle.std.specs.{Prelude.{slice_get, sum_by}, List.{AllByRecursion, flat_ma
 use Rattle.gs_frac.proofs.{GcdLaws.{is_gcd_of}, OneForm.{divides_factor}}
 use Rattle.gs_game.proofs.{MoneyLaws.{tree_sound}, LineLaws.{named}}
 use Rattle.gs_bet.specs.Grammar.{is_sound}
-use Rattle.gs_compare.specs.Commands.{Judges, SaysJudged}
-use Rattle.gs_confirm.specs.Commands.{Evaluates, OfConfirmed, Queries, SaysNumbers, SaysQueried, SaysUpgraded, Upgrades}
-use Rattle.gs_confirm.specs.Queries.{IsBadQuery, IsQueried, IsToldAt, NamesPoint, NamesSignal, gap_of_player, weights_of_player}
-use Rattle.gs_confirm.specs.Troubles.{IsFirstWrong, IsTooLarge, IsTrouble, IsWrongNumber}
+use Rattle.gs_raw_commands.specs.Commands.{Judges, SaysJudged}
+use Rattle.gs_strategy_commands.specs.Commands.{Evaluates, OfConfirmed, Queries, SaysNumbers, SaysQueried, SaysUpgraded, Upgrades}
+use Rattle.gs_strategy_commands.specs.Queries.{IsBadQuery, IsQueried, IsToldAt, NamesPoint, NamesSignal, gap_of_player, weights_of_player}
+use Rattle.gs_strategy_commands.specs.Troubles.{IsFirstWrong, IsTooLarge, IsTrouble, IsWrongNumber}
 use Rattle.gs_file.specs.{JsonLaws.{IsRoundTold, IsTold}, Reading.{FileGame, file_rules}, declared.version.Version.{Version}}
 use Rattle.gs_frac.specs.{Texts.{number_line}, declared.value.Fraction.{Fraction}}
 use Rattle.gs_lift.specs.{Mixtures.{IsMixture, IsShareOf}, declared.fault.QueryFault.{QueryFault}}

@@ -1,9 +1,9 @@
 -- What a task says of an input: for each task the definition of its command.
 use Rattle.std.specs.Prelude.{ℕ, List, Bool, true, false}
 use Rattle.gs_run.specs.Making.{Makes}
-use Rattle.gs_confirm.specs.{Certificates.{Certifies}, Verifying.{Verifies}, Commands.{Evaluates, Queries, Upgrades}}
-use Rattle.gs_compare.specs.Commands.{Duels, Judges}
-use Rattle.gs_group.specs.{Checking.{Checks}, Shrinking.{Shrinks}, Paths.{ShowsPath}, Playing.{Plays}, Settling.{Settles}, Solving.{Solves}}
+use Rattle.gs_strategy_commands.specs.{Certificates.{Certifies}, Verifying.{Verifies}, Commands.{Evaluates, Queries, Upgrades}}
+use Rattle.gs_raw_commands.specs.Commands.{Duels, Judges}
+use Rattle.gs_game_commands.specs.{Checking.{Checks}, Shrinking.{Shrinks}, Paths.{ShowsPath}, Playing.{Plays}, Settling.{Settles}, Solving.{Solves}}
 use Rattle.gs_reply.specs.Replies.{Reply}
 use Rattle.gs_words.specs.Tasks.{Task, Shrink, Check, Make, Evaluate, Query, Upgrade, Certify, Verify, Solve, Play, Path, Judge, Duel}
 

@@ -1,11 +1,11 @@
 -- A confirmed strategy passes all checks, and `evaluate` prints its numbers. So it does for what `solve` and `play` print.
 use Rattle.std.specs.Prelude.{◌≡◌, ℕ, List, Ok}
-use Rattle.gs_confirm.specs.{Commands.{Evaluates}, Troubles.{IsTrouble}}
+use Rattle.gs_strategy_commands.specs.{Commands.{Evaluates}, Troubles.{IsTrouble}}
 use Rattle.gs_file.specs.{Reading.{FileGame, read_at}, declared.version.Version.{Version}}
 use Rattle.gs_model.specs.Classes.{ClassLists}
 use Rattle.gs_reply.specs.{Refusals.{Refusal}, Replies.{Reply, Prints}, VerdictText.{verdict_text}}
 use Rattle.gs_seq.specs.declared.plan.Plan.{Plan}
-use Rattle.gs_group.specs.Texts.{IsSettledText}
+use Rattle.gs_game_commands.specs.Texts.{IsSettledText}
 use Rattle.gs_strategy.specs.{Confirmed.{IsConfirmed}, Laws.{IsStrategy}, Texts.{strategy_text}, Values.{Strategy}}
 
 -- a confirmed strategy passes each check of `evaluate`

@@ -2,14 +2,14 @@
 use Rattle.std.specs.Prelude.{◌≡◌, ◌⊎◌, ℕ, ◌++◌, List, false, true}
 use Rattle.gs_certificate.specs.{TextLaws.{IsStated}, Texts.{Stated, certificate_text}, Views.{certificate_view}}
 use Rattle.gs_certificate.specs.declared.certificate.Certificate.{Certificate}
-use Rattle.gs_confirm.specs.{Certificates.{SaysCertified}, Verifying.{SaysChecked}, Commands.{OfConfirmed, SaysNumbers, SaysQueried, SaysUpgraded}}
-use Rattle.gs_compare.specs.Commands.{SaysDuel, SaysJudged}
+use Rattle.gs_strategy_commands.specs.{Certificates.{SaysCertified}, Verifying.{SaysChecked}, Commands.{OfConfirmed, SaysNumbers, SaysQueried, SaysUpgraded}}
+use Rattle.gs_raw_commands.specs.Commands.{SaysDuel, SaysJudged}
 use Rattle.gs_file.specs.{Reading.{FileGame, file_rules}, States.{FileStates}, declared.version.Version.{Version}}
 use Rattle.gs_words.specs.{Made.{made_game}, Tasks.{Task, Shrink, Check, Make, Evaluate, Query, Upgrade, Judge, Duel, Certify, Verify, Solve, Play, Path}}
 use Rattle.gs_words.specs.{declared.request.Grouping.{Grouping}, declared.request.Grouping.TheVariants.{Isomorphism}}
 use Rattle.gs_model.specs.{Classes.{ClassLists}, Frame.{frame_of}, Lossless.{IsLossless}, SignalClasses.{IsSignalClasses}}
 use Rattle.gs_reply.specs.{Refusals.{Refusal}, Replies.{Reply, Prints, Refuses}}
-use Rattle.gs_group.specs.{Paths.{ShowsPath}, Playing.{Plays}, Settling.{OfGrouping}, Solving.{Solves}}
+use Rattle.gs_game_commands.specs.{Paths.{ShowsPath}, Playing.{Plays}, Settling.{OfGrouping}, Solving.{Solves}}
 use Rattle.gs_strategy.specs.{Confirmed.{IsConfirmed}, Laws.{IsStrategy}, Texts.{strategy_text}, Values.{Strategy}}
 use Rattle.gs_run.specs.{Meanings.{Means}, Statuses.{status_of}, declared.status.Status.{Status}}
 use Rattle.gs_run.specs.declared.status.Status.TheVariants as status

@@ -1,6 +1,6 @@
 -- What `make` says.
 use Rattle.std.specs.Prelude.{◌≡◌, ℕ, Bool, true, false}
-use Rattle.gs_group.specs.Shrinking.{Shrinks}
+use Rattle.gs_game_commands.specs.Shrinking.{Shrinks}
 use Rattle.gs_words.specs.{Made.{made_game}, declared.kind.Kind.{Kind}}
 use Rattle.gs_reply.specs.Replies.{Reply, Prints}
 

@@ -1,10 +1,10 @@
 -- What each command prints for the bytes that it reads, in terms of games and strategies. No order of checks is fixed here.
 use Rattle.std.specs.Prelude.{◌≡◌, ℕ, ◌<◌, ◌≤◌, ◌++◌, ◌∷◌, List, pos, Some, false, true, IsTrue}
 use Rattle.gs_certificate.specs.{Texts.{certificate_text}, Views.{certificate_view}, declared.certificate.Certificate.{Certificate}}
-use Rattle.gs_confirm.specs.{Certificates.{IsCertified}, Verifying.{IsVerified}, Queries.{IsQueried}}
-use Rattle.gs_compare.specs.Judging.{AreHandValues, hands_text}
+use Rattle.gs_strategy_commands.specs.{Certificates.{IsCertified}, Verifying.{IsVerified}, Queries.{IsQueried}}
+use Rattle.gs_raw_commands.specs.Judging.{AreHandValues, hands_text}
 use Rattle.gs_file.specs.{Reading.{FileGame, file_rules}, States.{FileStates}, declared.version.Version.{Version}, declared.version.Version.TheVariants.{Two}}
-use Rattle.gs_group.specs.{Checking.{IsChecked, IsGrouping}, Shrinking.{IsShrunk}, Paths.{IsPathShown}, Solving.{IsSolved}}
+use Rattle.gs_game_commands.specs.{Checking.{IsChecked, IsGrouping}, Shrinking.{IsShrunk}, Paths.{IsPathShown}, Solving.{IsSolved}}
 use Rattle.gs_strategy.specs.RawPlans.{AreRawPlans}
 use Rattle.gs_words.specs.{Made.{made_game}, Commands.{entry_of}, Plain.{Given, are_plain, given_for, option_words}, Requests.{task_for}}
 use Rattle.gs_words.specs.Tasks.{Task, Shrink, Check, Make, Evaluate, Query, Upgrade, Judge, Duel, Certify, Verify, Solve, Play, Path}

@@ -1,5 +1,0 @@
-use Rattle.gs_compare.proofs.RawGames.{raw_games_within}
-use Rattle.gs_compare.proofs.laws.raw_games_are_within.Goals as goal
-
-pub returns : goal.returns
-returns c = raw_games_within

@@ -1,5 +1,0 @@
-use Rattle.std.proofs.Common.{rules, tests}
-use Rattle.gs_confirm.proofs.numbers.first_wrong.Goals as goal
-
-pub returns-then-not-are_same : goal.returns-then-not-are_same
-returns-then-not-are_same c = search (rules, tests)

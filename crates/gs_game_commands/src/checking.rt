@@ -1,0 +1,42 @@
+//! The command `check`.
+
+ghost use Rattle.gs_file.specs.Views.{valid_view};
+ghost use Rattle.gs_game_commands.specs.Checking.{Checks, ChecksGame};
+ghost use Rattle.gs_reply.specs.Replies.{Answers};
+
+use crate::grouping::{classes_of, lossless_of};
+use crate::telling::told;
+use gs_game::ValidGame;
+use gs_reply::{Stop, stated_game};
+use gs_tree::Signals;
+use gs_words::Grouping;
+use std::alloc::Global;
+
+// Returns the answer of `check` for a game.
+fn checked(
+    alloc: Global,
+    game: &ValidGame,
+    grouping: Grouping,
+    summary: bool,
+) -> Result<Vec<u8>, Stop>
+    ensures { Answers (ChecksGame grouping summary (valid_view game.now)) result }
+{
+    let signals = Signals::of(alloc, game)?;
+    let classes = classes_of(alloc, &signals, grouping)?;
+    let _lossless = lossless_of(alloc, &signals, &classes, grouping)?;
+    Ok(told(alloc, &signals, &classes, summary)?)
+}
+
+/// Returns the answer of `check` to the bytes of a game file: the text or the summary of the classes of this grouping, if they are lossless; or the
+/// refusal.
+pub fn check_answer(
+    alloc: Global,
+    bytes: &[u8],
+    grouping: Grouping,
+    summary: bool,
+) -> Result<Vec<u8>, Stop>
+    ensures { Answers (Checks grouping summary bytes.now) result }
+{
+    let game = stated_game(alloc, bytes)?;
+    checked(alloc, &game, grouping, summary)
+}

@@ -1,0 +1,45 @@
+use Rattle.std.proofs.Common.{ap, refl, sym}
+use Rattle.gs_best.specs.Judged.{parts}
+use Rattle.gs_certificate.specs.FaultTexts.{cert_fault_text}
+use Rattle.gs_model.specs.Verdict.{IsValue}
+use Rattle.gs_reply.specs.Refusals.{Bad_certificate}
+use Rattle.gs_seq.specs.Plans.{lifted}
+use Rattle.gs_strategy.specs.Views.{parts_of}
+use Rattle.gs_strategy_commands.proofs.Moved.{bounds_moved, fault_moved, moved, sound_moved}
+use Rattle.gs_strategy_commands.proofs.verifying.sound.Goals as goal
+
+pub returns-in_ok-cert_fault_text-in-Err : goal.returns-in_ok-cert_fault_text-in-Err
+returns-in_ok-cert_fault_text-in-Err c =
+    let s = c.args.stored.now in
+    let k = c.args.c.now in
+    let why = c.in-Err.fault in (
+      Bad_certificate (cert_fault_text why),
+      record {
+        lossless = c.requires.form.lossless;
+        small = c.requires.form.small;
+        why = why;
+        fault = fault_moved c.args.form.now.lossless.now s k c.requires.form.held _ why c.in-Err.is c.certified_payoff.ensures.exact;
+        told = refl;
+      },
+      ap Bad_certificate (sym c.in_ok-cert_fault_text-in-Err.ensures),
+    )
+
+pub returns-in_ok-bounds_text-in-Ok : goal.returns-in_ok-bounds_text-in-Ok
+returns-in_ok-bounds_text-in-Ok c =
+    let l = c.args.form.now.lossless.now in
+    let s = c.args.stored.now in
+    let k = c.args.c.now in
+    let v = c.value_of-value.result in
+    record {
+      lossless = c.requires.form.lossless;
+      small = c.requires.form.small;
+      holds = record {
+        small = c.requires.modest;
+        sound = sound_moved l s k c.requires.form.held _ _ c.in-Ok.is c.certified_payoff.ensures.exact;
+        bounds = bounds_moved l s k c.requires.form.held _ _ c.in-Ok.is c.certified_payoff.ensures.bounds;
+      };
+      value = parts_of v;
+      fraction = v.reduced;
+      value_is = moved (λ f n. IsValue f (lifted f n s.one) (lifted f n s.two) (parts v).0 (parts v).1) l s c.requires.form.held c.value_of-value.ensures;
+      printed = c.in_ok-bounds_text-in-Ok.ensures;
+    }
