@@ -1,5 +1,6 @@
 -- What a later round holds below a class, as a sum over a run of its classes.
-use Rattle.std.proofs.{Common.{◌≡◌, ℕ, zero, suc, ◌+◌, ◌-◌, ◌<◌, ◌≤◌, Bool, true, false, cond, refl, sym, ap, ◌∙◌, arith}, lemmas.Bool.Decides.{Decides-eqb}, lemmas.Int.{ints}}
+use Rattle.std.proofs.{Common.{◌≡◌, ℕ, zero, suc, ◌+◌, ◌-◌, ◌<◌, ◌≤◌, Bool, true, false, cond, refl, sym, ap, ◌∙◌, arith}, lemmas.Bool.Decides.{Decides-eqb}}
+use Rattle.std.proofs.lemmas.Int.{ints}
 use Rattle.std.specs.{Prelude.{◌==◌, ℤ, pos, unsigned_abs}, List.{range_with_len}}
 use borrow.Author.Differences.{abs_is}
 use Rattle.gs_model.specs.{Classes.{ClassLists, IsClass, class_count}, Frame.{Frame}, Sums.{sum_z}}

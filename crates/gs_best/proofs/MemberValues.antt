@@ -72,7 +72,8 @@ module _ (s : Side) (totals values : List ℤ) (move : ℕ → ℕ → ℕ)
       let p = place_of f (lists_at s) (point_count f) i l in
       let g : Target = at_point p.point in
       let size = class_size (lists_at s) (round_of f g) p.class in
-      let few = known_few s totals move 0 (from_some f (lists_at s) s.player (plan_at s) (totals_at s totals) move 0 h.followed) g p.class p.before (omega arith)
+      let few = known_few s totals move 0 (from_some f (lists_at s) s.player (plan_at s) (totals_at s totals) move 0 h.followed) g p.class p.before
+      (omega arith)
       p.is_class in
       let some = some_member f (lists_at s) (form_classes s.form.now) (round_of f g) p.class ((walked s).some_round p.point p.before)
       ((walked s).point_in p.point p.before) p.is_class in

@@ -1,7 +1,8 @@
 -- Class totals and what moves are worth are small numbers.
 use Rattle.std.proofs.Common.{ℕ, ◌+◌, ◌*◌, ◌^◌, ◌<◌, ◌≤◌, List, cond, refl, arith}
 use Rattle.std.specs.{Prelude.{◌==◌, ℤ, pos, unsigned_abs}, List.{range_with_len}}
-use Rattle.gs_model.specs.{BestAnswers.{Values}, Classes.{IsClass, class_count}, Frame.{leads_to, move_count, point_count, round_of}, Positions.{Target, at_point}}
+use Rattle.gs_model.specs.{BestAnswers.{Values}, Classes.{IsClass, class_count}, Frame.{leads_to, move_count, point_count, round_of}}
+use Rattle.gs_model.specs.Positions.{Target, at_point}
 use Rattle.gs_model.specs.Sums.{sum_z}
 use Rattle.gs_model.specs.FrameFacts.{IsFrom, IsInside}
 use Rattle.gs_model.proofs.Basics.{product_le}
@@ -16,7 +17,8 @@ figures total weight l m = let p = product_le total weight (2 ^ 36) 67108864 l m
 
 module _ (s : Side) where
   pub known_few : (values : List ℤ) (move : ℕ → ℕ → ℕ) (from : ℕ) → IsFollowedFrom (frame_at s) (lists_at s) s.player (totals_at s values) move from
-      → (g : Target) (c : ℕ) → IsInside (frame_at s) g → IsFrom from g → IsClass (lists_at s) (round_of (frame_at s) g) c → unsigned_abs (totals_at s values g c) ≤ 2 ^ 74
+      → (g : Target) (c : ℕ) → IsInside (frame_at s) g → IsFrom from g → IsClass (lists_at s) (round_of (frame_at s) g) c
+      → unsigned_abs (totals_at s values g c) ≤ 2 ^ 74
   known_few values move from h g c i a lc =
       let m = form_modest s.form.now in
       let plan = s.plan.plan in

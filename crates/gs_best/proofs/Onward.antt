@@ -29,7 +29,8 @@ pub record IsNextEnd (s : Side) (q end : ℕ) : Type 0 where
   pub some : 0 < round_of (frame_at s) (at_end end)
   pub top : round_of (frame_at s) (at_end end) ≤ last_round (frame_at s)
 
-pub next_end : (s : Side) (q m end : ℕ) → q < point_count (frame_at s) → m < move_count (frame_at s) q → leads_to (frame_at s) q m ≡ at_end end → IsNextEnd s q end
+pub next_end : (s : Side) (q m end : ℕ) → q < point_count (frame_at s) → m < move_count (frame_at s) q → leads_to (frame_at s) q m ≡ at_end end
+    → IsNextEnd s q end
 next_end s q m end lq lm e =
     let f = frame_at s in
     let w = walked s in

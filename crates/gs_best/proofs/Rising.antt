@@ -24,7 +24,8 @@ module _ (g : Game) (p : IsPlayable g) where
       let a = ancestor (frame_of g) (at + 1) at x in
       let la = parent_in at x some l lx in
       let up : at + 1 ≡ suc at = omega arith in
-      let here : x < length (signals g (suc at)) = omega (arith, lx, signal_count_is g (at + 1) (omega arith) (omega arith), ap (λ k. length (signals g k)) up) in
+      let here : x < length (signals g (suc at)) = omega (arith, lx, signal_count_is g (at + 1) (omega arith) (omega arith), ap (λ k. length (signals g k)) up)
+      in
       let is = subst (λ k. ancestor (frame_of g) k at x ≡ get_or (parents g k) x 0) up (parent_is g at (at + 1) x refl (omega arith)) in
       let c = child-only g at a la x here (sym is ∙ subst (λ k. ancestor (frame_of g) k at x ≡ a) up refl) in
       let n = first_next g at a la in

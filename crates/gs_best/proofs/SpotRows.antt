@@ -40,7 +40,8 @@ wide_at at long wide =
 -- the numbers of a point
 pub point_row : (f : Frame) (lists : ClassLists) (t : Table) → IsLaid f lists t → (q start count : ℕ) → q < point_count f
     → start ≡ get_or t.starts.items q start → count ≡ classes_at f lists q → IsRow (classes_at f lists) (point_count f) q start count
-point_row f lists t laid q start count l read all = row_read (classes_at f lists) (point_count f) q start count t.starts.items l laid.holds.starts laid.places read all
+point_row f lists t laid q start count l read all = row_read (classes_at f lists) (point_count f) q start count t.starts.items l laid.holds.starts
+    laid.places read all
 
 -- the numbers of an end that are kept
 pub end_row : (s : Side) (e : EndSums) → AreKept (frame_at s) (lists_at s) s.player (plan_at s) e → (z start count : ℕ) → z < end_count (frame_at s)

@@ -58,7 +58,8 @@ module _ (s : Side) (values : List ℤ) (g : Target) (i : IsInside (frame_at s) 
         let plan = s.plan.plan in
         let at = in_round (frame_at s) s.player (walked s) g i in
         let b =
-        round_few (frame_at s) (form_in_range a) (lists_at s) (form_classes s.form.now) s.player (walked s) (other_walked s) (apart s.player s.some s.two) (plan_at s)
+        round_few (frame_at s) (form_in_range a) (lists_at s) (form_classes s.form.now) s.player (walked s) (other_walked s)
+        (apart s.player s.some s.two) (plan_at s)
         plan.plan 4096 (λ z n e lz ln. m.pays s.player z n e lz ln) (totals_at s values) move 0 (λ z e lz le. refl) followed
         (λ q. either_player a s.player q s.some s.two) g i (from_first g) at.0 at.1 in
         omega (arith, b, figures (plan_at s).total _ plan.plan.total_in.1 m.weight)

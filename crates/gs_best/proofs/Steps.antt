@@ -7,7 +7,8 @@ use Rattle.gs_best.specs.{Tables.{classes_at, start_of}, declared.side.Side.{Sid
 use Rattle.gs_best.proofs.{Placed.{row_later}, Players.{walked}, Stepping.{best_back}}
 
 module _ (s : Side) (q start count : ℕ) (lq : q < point_count (frame_at s)) (at : start ≡ start_of (frame_at s) (lists_at s) q)
-    (wide : count ≡ classes_at (frame_at s) (lists_at s) q) (values new_values row : List ℤ) (moves picks : List ℕ) (copied : IsCopied (pos 0) start count row values new_values) where
+    (wide : count ≡ classes_at (frame_at s) (lists_at s) q) (values new_values row : List ℤ) (moves picks : List ℕ)
+    (copied : IsCopied (pos 0) start count row values new_values) where
   pub step_best : (new_picks : List ℕ) → IsCopied 0 start count moves picks new_picks
       → IsMerged (frame_at s) (lists_at s) s.player (total_worth (frame_at s) (lists_at s) (totals_at s values)) q row moves
       → AreBestFrom (frame_at s) (lists_at s) s.player (totals_at s values) (moves_at s picks) (q + 1)

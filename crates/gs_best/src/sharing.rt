@@ -1,7 +1,8 @@
 //! Values of members: each total over the size of its class.
 
 ghost use Rattle.std.specs.Prelude.{◌≡◌, ◌+◌, ◌-◌, ◌<◌, ◌≤◌, ◌^◌, ◌*ℤ◌, ℕ, ℤ, get_or, length, pos, unsigned_abs};
-ghost use Rattle.gs_model.specs.{BestAnswers.{IsBestValues, end_worth}, Classes.{IsClass, class_size, first_member}, Frame.{end_count, point_count, round_of}, Positions.{at_end, at_point}};
+ghost use Rattle.gs_model.specs.{BestAnswers.{IsBestValues, end_worth}, Classes.{IsClass, class_size, first_member}, Frame.{end_count, point_count, round_of}};
+ghost use Rattle.gs_model.specs.Positions.{at_end, at_point};
 ghost use Rattle.gs_seq.specs.Plans.{lifted};
 ghost use Rattle.gs_best.specs.{Tables.{start_of, table_of}, ClassTotals.{AreBestTotals}, Rooms.{IsLaid}};
 ghost use Rattle.gs_best.specs.Sides.{frame_at, lists_at, moves_at, plan_at, totals_at};

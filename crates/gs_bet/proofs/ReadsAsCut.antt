@@ -1,5 +1,6 @@
 -- Reading an act within an act, and going on from a cut byte by byte, are the same.
-use Rattle.std.proofs.Common.{◌≡◌, ℕ, zero, suc, ◌+◌, ◌-◌, ◌*◌, ◌<◌, ◌≤◌, List, [], ◌∷◌, length, Result, Ok, Err, refl, sym, ap, subst, ◌∙◌, inl, inr, Bool, true, false, cond, eqb, ltb, leb, ◌&&◌, ◌||◌, arith}
+use Rattle.std.proofs.Common.{◌≡◌, ℕ, zero, suc, ◌+◌, ◌-◌, ◌*◌, ◌<◌, ◌≤◌, List, [], ◌∷◌, length, Result, Ok, Err, refl, sym, ap, subst, ◌∙◌, inl, inr, Bool}
+use Rattle.std.proofs.Common.{true, false, cond, eqb, ltb, leb, ◌&&◌, ◌||◌, arith}
 use Rattle.std.proofs.lemmas.Bool.{cases_Bool, and_parts, and_right, leb-true, lt-ltb, le-ltb, ne_eqb}
 use Rattle.gs_bet.proofs.{ReadingLaws.{more_room}, Steps.{after, is_inside, read}}
 use Rattle.gs_bet.specs.{declared.fault.Mistake.{Mistake}, declared.fault.Mistake.TheVariants.{TooDeep, Syntax}, MoveLists.{count, has_letter, push_move}}

@@ -1,5 +1,6 @@
 -- Each cut can be completed, and a tree's text is read to its end.
-use Rattle.std.proofs.Common.{◌≡◌, ℕ, zero, suc, ◌+◌, ◌-◌, ◌*◌, ◌/◌, ◌%◌, ◌<◌, ◌≤◌, List, [], ◌∷◌, ◌++◌, length, Ok, refl, ap, ◌∙◌, inl, inr, Bool, true, false, not, eqb, ◌&&◌, ◌||◌, arith, append_assoc, zero-add}
+use Rattle.std.proofs.Common.{◌≡◌, ℕ, zero, suc, ◌+◌, ◌-◌, ◌*◌, ◌/◌, ◌%◌, ◌<◌, ◌≤◌, List, [], ◌∷◌, ◌++◌, length, Ok, refl, ap, ◌∙◌, inl, inr, Bool, true, false}
+use Rattle.std.proofs.Common.{not, eqb, ◌&&◌, ◌||◌, arith, append_assoc, zero-add}
 use Rattle.std.proofs.{lemmas.Fmt.{decimal_by_steps}, lemmas.Bool.{false≢true, or_parts, and_parts, le-leb, lt-ltb, ne_eqb}}
 use Rattle.std.specs.Fmt.{decimal}
 use Rattle.gs_model.specs.Betting.{Bet, Moves, act, fold, even, none, move}

@@ -1,5 +1,6 @@
 -- What reading all of a text says of it.
-use Rattle.std.proofs.Common.{◌≡◌, ℕ, zero, suc, ◌+◌, ◌-◌, ◌<◌, ◌≤◌, List, [], ◌∷◌, ◌++◌, length, take, Some, None, Result, Ok, Err, refl, sym, ap, subst, ◌∙◌, inl, inr, not, eqb, ltb, ◌&&◌, ◌||◌, arith, append_assoc}
+use Rattle.std.proofs.Common.{◌≡◌, ℕ, zero, suc, ◌+◌, ◌-◌, ◌<◌, ◌≤◌, List, [], ◌∷◌, ◌++◌, length, take, Some, None, Result, Ok, Err, refl, sym, ap, subst, ◌∙◌}
+use Rattle.std.proofs.Common.{inl, inr, not, eqb, ltb, ◌&&◌, ◌||◌, arith, append_assoc}
 use Rattle.std.proofs.{lemmas.List.{append-nil, length-append}, Math.Seq.{take-append_seam, take-append-add}}
 use Rattle.std.proofs.lemmas.Bool.{cases_Bool, cases_lt, lt-ltb, le-ltb, and_parts}
 use Rattle.std.specs.Prelude.{slice_get, IsTrue}

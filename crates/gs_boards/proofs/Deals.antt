@@ -1,5 +1,6 @@
 -- What a last-round signal is paid in its deals: a sum over the places of its board, before and behind its own.
-use Rattle.std.proofs.Common.{◌≡◌, ◌+◌, ◌<◌, ◌≤◌, ◌∙◌, ℕ, zero, suc, ℤ, pos, Bool, true, false, cond, eqb, nat_lt, List, ◌∷◌, drop, length, get_or, map, take, refl, sym, ap, subst, arith, ⊎_elim}
+use Rattle.std.proofs.Common.{◌≡◌, ◌+◌, ◌<◌, ◌≤◌, ◌∙◌, ℕ, zero, suc, ℤ, pos, Bool, true, false, cond, eqb, nat_lt, List, ◌∷◌, drop, length, get_or, map, take}
+use Rattle.std.proofs.Common.{refl, sym, ap, subst, arith, ⊎_elim}
 use Rattle.std.proofs.{Math.IntN.{+ℤ_idl}, lemmas.Bool.{cases_lt}, lemmas.Bool.Decides.{Decides-eqb}, lemmas.Int.{ints}}
 use Rattle.std.proofs.lemmas.List.{drop_more, get_or-drop, get_or-take, get_or_default, length-drop, length-take, take-append-drop}
 use Rattle.std.specs.{Prelude.{◌==◌, ◌&&◌, ◌+ℤ◌, ◌*ℤ◌, All, filter, slice_index}, List.{range_with_len}}

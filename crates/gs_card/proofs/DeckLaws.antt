@@ -1,5 +1,6 @@
 -- Texts without a fault make a deck.
-use Rattle.std.proofs.Common.{◌≡◌, ◌≢◌, ℕ, ◌-◌, ◌*◌, ◌<◌, ◌≤◌, ◌==◌, ◌||◌, ◌&&◌, not, cond, Bool, true, false, List, [], ◌∷◌, length, nat_lt, nat_le, All, get_or, Some, None, arith, refl, ap, sym, ◌∙◌}
+use Rattle.std.proofs.Common.{◌≡◌, ◌≢◌, ℕ, ◌-◌, ◌*◌, ◌<◌, ◌≤◌, ◌==◌, ◌||◌, ◌&&◌, not, cond, Bool, true, false, List, [], ◌∷◌, length, nat_lt, nat_le, All}
+use Rattle.std.proofs.Common.{get_or, Some, None, arith, refl, ap, sym, ◌∙◌}
 use Rattle.std.proofs.{lemmas.List.{length-map, length-replicate}, lemmas.List.Elements.{All-map, All-replicate}, lemmas.List.Sums.{AllPass-from_list_all}}
 use Rattle.std.proofs.lemmas.Bool.{or_parts, and_parts, not-false, eqb-false, eqb-true, ltb-false, ne_eqb, leb-true}
 use Rattle.std.specs.{List.{list_all}, Char.{is_ascii_alphanumeric, is_ascii_digit}}

@@ -1,5 +1,6 @@
 -- Letters that stand twice in a list, and the place of one.
-use Rattle.std.proofs.Common.{◌≡◌, ℕ, suc, ◌+◌, ◌<◌, ◌==◌, ◌||◌, Bool, true, false, List, [], ◌∷◌, ◌++◌, length, take, drop, get_or, take-append-drop, slice_index, Some, zero, arith, refl, ap, sym, ◌∙◌}
+use Rattle.std.proofs.Common.{◌≡◌, ℕ, suc, ◌+◌, ◌<◌, ◌==◌, ◌||◌, Bool, true, false, List, [], ◌∷◌, ◌++◌, length, take, drop, get_or, take-append-drop}
+use Rattle.std.proofs.Common.{slice_index, Some, zero, arith, refl, ap, sym, ◌∙◌}
 use Rattle.std.proofs.{lemmas.List.Folds.{list_any-append, list_any_at}, lemmas.List.{take_more}, lemmas.List.Sums.{position_or_len_is}}
 use Rattle.std.proofs.{lemmas.Bool.{false≢true, or_parts, or_right, or_from, eq-eqb, ne_eqb, lt-ltb}, lemmas.Bool.Decides.{nat_tests}}
 use Rattle.std.specs.{List.{list_any}, List.{position, position_or_len}}

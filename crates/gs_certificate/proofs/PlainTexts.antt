@@ -1,5 +1,6 @@
 -- The text of a certificate, part by part: plain texts stand as they are between their quotes.
-use Rattle.std.proofs.Common.{◌≡◌, ◌≢◌, ℕ, zero, suc, ◌+◌, ◌-◌, ◌*◌, ◌<◌, ◌≤◌, ◌^◌, ◌&&◌, ◌==◌, Bool, true, false, List, [], ◌∷◌, ◌++◌, map, length, get_or, take, drop, All, IsTrue, ℤ, decimal, Some, inl, inr, refl, sym, ap, ap₂, ◌∙◌, subst, append_assoc, arith}
+use Rattle.std.proofs.Common.{◌≡◌, ◌≢◌, ℕ, zero, suc, ◌+◌, ◌-◌, ◌*◌, ◌<◌, ◌≤◌, ◌^◌, ◌&&◌, ◌==◌, Bool, true, false, List, [], ◌∷◌, ◌++◌, map, length, get_or}
+use Rattle.std.proofs.Common.{take, drop, All, IsTrue, ℤ, decimal, Some, inl, inr, refl, sym, ap, ap₂, ◌∙◌, subst, append_assoc, arith}
 use Rattle.std.proofs.{lemmas.Bool.{and_parts, cases_Bool, le-leb, ne_eqb, false≢true}, lemmas.Int.{fits_signed_from_abs, to_z-of_z}}
 use Rattle.std.proofs.{lemmas.Fmt.{decimal_digit}, lemmas.Int.Digits.{digits_value_more}}
 use Rattle.std.proofs.{lemmas.List.{get_or-take, length-take-le, take-append-drop, take_more}, lemmas.List.Elements.{All-head, All-tail}}
@@ -63,7 +64,8 @@ narrow_is bytes digits negative size count parts h some first no_minus_zero =
     let numeral : is_numeral ds ≡ true = numeral_is ds h.digits (omega (arith, long, some))
     (λ more. subst (λ (x : ℕ). x ≢ 48) (sym front) (first (omega (arith, long, more)))) in
     let text : decimal size ≡ ds = ap decimal h.value ∙ decimal_of_value ds numeral (omega (arith, h.value, h.few)) in
-    let shown : signed_decimal (number_with_sign negative size) ≡ with_sign negative ds = signed_text negative size no_minus_zero ∙ ap (with_sign negative) text in
+    let shown : signed_decimal (number_with_sign negative size) ≡ with_sign negative ds = signed_text negative size no_minus_zero
+    ∙ ap (with_sign negative) text in
     let split : with_sign negative digits ≡ with_sign negative ds ++ drop count digits =
     ap (with_sign negative) (sym (take-append-drop count digits)) ∙ before negative ds (drop count digits) in
     signed-is bytes ∙ ap (λ (p : Bool × List ℕ). with_sign p.0 p.1) (sym parts) ∙ split ∙ ap (λ (q : List ℕ). q ++ drop count digits) (sym shown)

@@ -1,5 +1,6 @@
 -- What the reader of game files accepts is what states a game, both ways.
-use Rattle.std.proofs.Common.{◌≡◌, ℕ, suc, ◌≤◌, ◌==◌, Bool, true, false, List, [], ◌∷◌, length, replicate, Option, Some, None, Ok, Err, ℤ, pos, codes, refl, sym, ap, ◌∙◌, subst, inl, inr}
+use Rattle.std.proofs.Common.{◌≡◌, ℕ, suc, ◌≤◌, ◌==◌, Bool, true, false, List, [], ◌∷◌, length, replicate, Option, Some, None, Ok, Err, ℤ, pos, codes, refl}
+use Rattle.std.proofs.Common.{sym, ap, ◌∙◌, subst, inl, inr}
 use Rattle.std.proofs.lemmas.Bool.{eq-eqb, eqb-true}
 use Rattle.std.specs.{Prelude.{if◌then◌else◌}, Str.{bytes_eq, is_utf8}}
 use Rattle.toml.specs.{Data.{Data, Members, get_member}, Parse.{parse_document}}
@@ -15,7 +16,8 @@ use Rattle.gs_file.specs.{Tables.{each, array_items, text, within}, declared.fau
 use Rattle.gs_file.specs.declared.fault.Key.TheVariants as key
 use Rattle.gs_file.proofs.RoundCounts.{counted_is}
 use Rattle.gs_file.proofs.Stating.{IsTable, IsWhole, after, between, each_is, each_ok, found_ok, never, same_ok, through, within_is, within_ok}
-use Rattle.gs_file.proofs.StatedRounds.{PlayHas, PlayIn, PlayMade, RoundHas, RoundIn, RoundMade, round_in_is, round_in_ok, round_is, round_made_is, round_made_ok, round_ok, same_bytes}
+use Rattle.gs_file.proofs.StatedRounds.{PlayHas, PlayIn, PlayMade, RoundHas, RoundIn, RoundMade, round_in_is, round_in_ok, round_is, round_made_is}
+use Rattle.gs_file.proofs.StatedRounds.{round_made_ok, round_ok, same_bytes}
 use Rattle.gs_file.proofs.StatedTop.{BonusTyped, CopiesTyped, VersionHas, top_is, top_ok, typed_is, typed_ok}
 use Rattle.gs_game.proofs.Rules.{kept, not_refused}
 
@@ -245,7 +247,16 @@ table_ok table g e =
       ranking = (v.ranking, hv.ranking, ht.ranking ∙ ap Some hs.ranking);
       bonus = bonus_states s.ranking s.bonus t.bonus v.bonus table hv.version ht.bonus hs.bonus;
       ante = (v.ante, hv.ante, (ht.ante ∙ ap Some is, low, high));
-      rounds = (v.rounds, hv.rounds, (items, found, through StatesRound IsTable IsRound (λ b x d h i. (x, i, h)) bs t.rounds (array_items items) rounds tables));
+      rounds = (
+        v.rounds,
+        hv.rounds,
+        (
+          items,
+          found,
+          through StatesRound IsTable IsRound (λ b x d h i. (x, i, h)) bs t.rounds
+              (array_items items) rounds tables,
+        ),
+      );
       lawful = kept _ no_rule;
     })
 
@@ -293,7 +304,8 @@ table_is table g h =
       ante = ia.0;
       rounds = (items, found, tables);
     }) in
-    let stated = stated_is t s (counted_is g ts (not_refused _ h.lawful) long) (record { ranking = refl; bonus = ranged; ante = (refl, ia.1, ia.2); rounds = reads }) in
+    let stated = stated_is t s (counted_is g ts (not_refused _ h.lawful) long)
+    (record { ranking = refl; bonus = ranged; ante = (refl, ia.1, ia.2); rounds = reads }) in
     let built = each_is round_built RoundMade (λ n w b i. round_made_is n w b i) 1 ws g.rounds made in
     let cards : deck_at g.deck.ranks g.deck.suits h.deck.copies ≡ Ok g.deck = rw h.deck.good (ap (λ (d : DeckValue). Ok d) (sym h.deck.made)) in
     rw (values, types, stated, cards, built, not_refused _ h.lawful) refl

@@ -1,5 +1,6 @@
 -- What the reader accepts, in a file or in JSON, is a game that a version tells.
-use Rattle.std.proofs.Common.{◌≡◌, ℕ, zero, suc, ◌<◌, ◌≤◌, ◌==◌, Bool, true, false, List, [], ◌∷◌, length, replicate, All, Option, Some, None, Ok, Err, ℤ, pos, negsuc, refl, sym, ap, ◌∙◌, subst, arith}
+use Rattle.std.proofs.Common.{◌≡◌, ℕ, zero, suc, ◌<◌, ◌≤◌, ◌==◌, Bool, true, false, List, [], ◌∷◌, length, replicate, All, Option, Some, None, Ok, Err, ℤ, pos}
+use Rattle.std.proofs.Common.{negsuc, refl, sym, ap, ◌∙◌, subst, arith}
 use Rattle.std.proofs.{lemmas.Bool.{eqb-true}, lemmas.List.Elements.{All-cons, All-nil}}
 use Rattle.std.specs.Prelude.{IsTrue, if◌then◌else◌}
 use Rattle.toml.specs.Data.{Data, Members}

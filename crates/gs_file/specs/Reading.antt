@@ -1,6 +1,7 @@
 -- What a game file or a JSON value states, or the first check that fails. The checks are made in this order. Source: this project's game files and
 -- strategy files.
-use Rattle.std.specs.Prelude.{ℕ, zero, suc, ℤ, pos, ◌-◌, ◌==◌, ◌||◌, Bool, true, false, List, Option, Some, None, is_some, Result, Ok, Err, codes, length, replicate, nat_lt, if◌then◌else◌}
+use Rattle.std.specs.Prelude.{ℕ, zero, suc, ℤ, pos, ◌-◌, ◌==◌, ◌||◌, Bool, true, false, List, Option, Some, None, is_some, Result, Ok, Err, codes, length}
+use Rattle.std.specs.Prelude.{replicate, nat_lt, if◌then◌else◌}
 use Rattle.std.specs.{Option.{ok_or}, Str.{bytes_eq, is_utf8}}
 use Rattle.toml.specs.{Parse.{parse_document}, Data.{Data, Members, get_member}}
 use Rattle.gs_bet.specs.{Faults.{mistake_fault as tree_fault_of}, Limit.{limit_bet}, Reading.{Read, all_of}}

@@ -29,7 +29,8 @@ good_reduced negative n d = by (nat_lt n (2 ^ 127) && nat_lt d (2 ^ 127)) refl
 good_between : (s : Bool × List ℕ) (right : List ℕ) → IsGood (fraction_between s right)
 good_between s right = by (is_numeral s.1 && is_numeral right) (s.0 && digits_value 10 s.1 == 0)
   where
-    by : (a b : Bool) → IsGood (if a then (if b then Err NotFraction else reduced_fraction s.0 (digits_value 10 s.1) (digits_value 10 right)) else Err NotFraction)
+    by : (a b : Bool) → IsGood (if a then (if b then Err NotFraction else reduced_fraction s.0 (digits_value 10 s.1) (digits_value 10 right))
+        else Err NotFraction)
     by false b = tt
     by true true = tt
     by true false = good_reduced s.0 (digits_value 10 s.1) (digits_value 10 right)

@@ -1,6 +1,7 @@
 -- Euclid gives the greatest common divisor.
 use Rattle.std.proofs.Common.{◌≡◌, ℕ, zero, suc, ◌+◌, ◌*◌, ◌/◌, ◌%◌, ◌<◌, ◌≤◌, inl, inr, arith, sym, ap, subst, ◌∙◌}
-use Rattle.std.proofs.Math.Nat.{div-mul_cancel, one-dvd, mul-dvd-mul_right, mul-dvd-mul_left, dvd_of_mul-dvd-mul_right, mul-zero, div-le_self, mul-le-mul_left, div-add-mod, mul-add-mod_self_left, mod-eq_of_lt, dvd-mul_right, dvd-mul_left}
+use Rattle.std.proofs.Math.Nat.{div-mul_cancel, one-dvd, mul-dvd-mul_right, mul-dvd-mul_left, dvd_of_mul-dvd-mul_right, mul-zero, div-le_self, mul-le-mul_left}
+use Rattle.std.proofs.Math.Nat.{div-add-mod, mul-add-mod_self_left, mod-eq_of_lt, dvd-mul_right, dvd-mul_left}
 use Rattle.std.proofs.lemmas.Bool.{cases_eq, cases_lt, ne_eqb, eq-eqb}
 use Rattle.std.proofs.lemmas.Nat.Gcd.{IsGcd-from_zero, IsGcd-from_mod, IsGcd-swap, same_from_IsGcd, dvd-zero}
 use Rattle.std.specs.Int.{IsGcd, ◌∣◌}

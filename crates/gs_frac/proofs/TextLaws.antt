@@ -1,5 +1,6 @@
 -- What is read has its fraction's text, and a fraction's text is read.
-use Rattle.std.proofs.Common.{◌≡◌, ℕ, zero, suc, ◌^◌, ◌<◌, ℤ, pos, negsuc, List, [], ◌∷◌, ◌++◌, Option, Some, None, Result, Ok, Err, Bool, true, false, eqb, ltb, ◌&&◌, inl, inr, refl, sym, ap, subst, ◌∙◌, arith}
+use Rattle.std.proofs.Common.{◌≡◌, ℕ, zero, suc, ◌^◌, ◌<◌, ℤ, pos, negsuc, List, [], ◌∷◌, ◌++◌, Option, Some, None, Result, Ok, Err, Bool, true, false, eqb}
+use Rattle.std.proofs.Common.{ltb, ◌&&◌, inl, inr, refl, sym, ap, subst, ◌∙◌, arith}
 use Rattle.std.proofs.lemmas.Bool.{cases_Bool, cases_lt, and_parts, lt-ltb, le-ltb, ltb-true, ne_eqb, eqb-true, false≢true}
 use Rattle.std.specs.{Prelude.{IsTrue, IfOk, option_map}, Fmt.{decimal, signed_decimal}, Str.{all_ascii_digits}, Str.Parse.{digits_value}}
 use Rattle.std.specs.Char.{is_ascii_digit}

@@ -11,7 +11,9 @@ use Rattle.gs_game.specs.{declared.faults.GameFault.{GameFault}, declared.game.G
 use Rattle.gs_game.specs.{declared.positions.End.{End}, declared.positions.Target.{Target as StoredTarget}, FaultOf.{IsFaultOf}}
 use Rattle.gs_game.specs.{Games.{HasFewCards, game_of, round_rules, plain_trees}, Limits.{IsDealable, IsWithinLimits}, Lines.{RoundsFollow}}
 use Rattle.gs_game.specs.Money.{first_of, most_in}
-use Rattle.gs_game.specs.Refusals.{put_too_large, too_many_lines, too_heavy, too_many_signals, too_many_deals, card_refusal, betting_refusal, even_refusal, uneven_refusal, put_refusal, lines_refusal, deal_refusal, weight_refusal, signals_from, signals_refusal, deals_refusal, first_refusal}
+use Rattle.gs_game.specs.Refusals.{put_too_large, too_many_lines, too_heavy, too_many_signals, too_many_deals, card_refusal, betting_refusal, even_refusal}
+use Rattle.gs_game.specs.Refusals.{uneven_refusal, put_refusal, lines_refusal, deal_refusal, weight_refusal, signals_from, signals_refusal, deals_refusal}
+use Rattle.gs_game.specs.Refusals.{first_refusal}
 use Rattle.gs_game.specs.{Valid.{IsWalkOf}, Walks.{Grows, RoundsWalkable}}
 use Rattle.gs_model.proofs.Basics.{some, some-none}
 use Rattle.gs_game.proofs.{DealChecks.{cards_pass}, Deciding.{fault_first, fault_second, trees_are, ends_are}, Evenly.{neither}, PointBound.{few_points}}

@@ -1,5 +1,6 @@
 -- The loop that counts sequences of groups.
-use Rattle.std.proofs.Common.{◌≡◌, ℕ, zero, suc, ◌+◌, ◌-◌, ◌<◌, ◌≤◌, ◌≢◌, cond, List, [], ◌∷◌, map, length, sum_by, refl, ap, ◌∙◌, true, false, Bool, drop, sym, arith, slice_set, slice_index, nat_lt, count_by}
+use Rattle.std.proofs.Common.{◌≡◌, ℕ, zero, suc, ◌+◌, ◌-◌, ◌<◌, ◌≤◌, ◌≢◌, cond, List, [], ◌∷◌, map, length, sum_by, refl, ap, ◌∙◌, true, false, Bool, drop, sym}
+use Rattle.std.proofs.Common.{arith, slice_set, slice_index, nat_lt, count_by}
 use Rattle.std.proofs.{lemmas.Bool.{lt-ltb}, lemmas.List.Sums.{sum_by-append, sum_by-cons}, lemmas.List.{get_or-set_same, set-get_or}}
 use Rattle.std.proofs.{Math.ListN.{drop_of_length-le}, Math.Seq.{drop-cons}}
 use Rattle.std.specs.{Prelude.{◌==◌, flat_map}, List.{range_with_len}}

@@ -1,5 +1,6 @@
 -- The tests of signals and deals.
-use Rattle.std.proofs.Common.{◌≡◌, ℕ, zero, suc, ◌+◌, ◌*◌, ◌<◌, ◌≤◌, min, true, false, nat_lt, List, [], ◌∷◌, ◌++◌, map, length, take, sum, refl, sym, ap, ◌∙◌, inl, inr, arith, length-append}
+use Rattle.std.proofs.Common.{◌≡◌, ℕ, zero, suc, ◌+◌, ◌*◌, ◌<◌, ◌≤◌, min, true, false, nat_lt, List, [], ◌∷◌, ◌++◌, map, length, take, sum, refl, sym, ap, ◌∙◌}
+use Rattle.std.proofs.Common.{inl, inr, arith, length-append}
 use Rattle.std.proofs.lemmas.Bool.{cases_Bool, and_parts, leb-true, eqb-true, eqb-false, lt-ltb, le-ltb}
 use Rattle.std.proofs.{lemmas.List.Elements.{recursion_from_All, All-from_recursion}, lemmas.List.Sums.{sum_by-cons, sum_by-append, sum_by-le}}
 use Rattle.std.proofs.lemmas.List.{length-map}
@@ -68,7 +69,8 @@ pub record CardsPass (game : Game) : Type 0 where
   pub few : length game.rounds.items ≤ 4
   pub fits : sum (deal_sizes (map round_rules game.rounds.items)) ≤ 14
   pub dealt : 0 < (round_at (game_of game) 1).private
-  pub ranked : ranks (ranking_of game.ranking) (own_card_total (game_of game).rounds) (own_card_total (game_of game).rounds + public_card_total (game_of game).rounds) ≡ true
+  pub ranked : ranks (ranking_of game.ranking) (own_card_total (game_of game).rounds)
+      (own_card_total (game_of game).rounds + public_card_total (game_of game).rounds) ≡ true
 
 sizes-sum : (rs : List RoundRules) → sum (seen_sizes rs) + sum (privates rs) ≡ 2 * own_card_total rs + public_card_total rs
 sizes-sum [] = refl

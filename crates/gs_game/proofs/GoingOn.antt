@@ -1,5 +1,6 @@
 -- How many ways there are to go on after some rounds: the same for all pairs of signals.
-use Rattle.std.proofs.Common.{◌≡◌, ℕ, zero, suc, ◌+◌, ◌-◌, ◌*◌, ◌≤◌, Bool, true, false, cond, List, [], ◌∷◌, ◌++◌, map, length, get_or, take, sum, refl, sym, ap, ◌∙◌, arith, nat_lt}
+use Rattle.std.proofs.Common.{◌≡◌, ℕ, zero, suc, ◌+◌, ◌-◌, ◌*◌, ◌≤◌, Bool, true, false, cond, List, [], ◌∷◌, ◌++◌, map, length, get_or, take, sum, refl, sym}
+use Rattle.std.proofs.Common.{ap, ◌∙◌, arith, nat_lt}
 use Rattle.std.specs.{Prelude.{filter, flat_map}, List.{AllByRecursion}}
 use Rattle.gs_model.specs.{Cards.{choose, groups, left_after, left_from, ways}, Deals.{path_weight}, Game.{Round}, Signals.{Seen, Signal, edge, left_by}}
 use Rattle.gs_model.specs.ViewTree.{facing}

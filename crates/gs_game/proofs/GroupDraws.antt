@@ -1,5 +1,6 @@
 -- The ways of all groups of a size, added up, and what each group leaves.
-use Rattle.std.proofs.Common.{◌≡◌, ◌≢◌, ℕ, zero, suc, ◌+◌, ◌-◌, ◌*◌, ◌<◌, ◌≤◌, List, [], ◌∷◌, ◌++◌, length, drop, drop-cons, add-one, sum, refl, sym, ap, ◌∙◌, arith, inl, inr, count_by, slice_set, slice_index, length-set, drop_of_length-le}
+use Rattle.std.proofs.Common.{◌≡◌, ◌≢◌, ℕ, zero, suc, ◌+◌, ◌-◌, ◌*◌, ◌<◌, ◌≤◌, List, [], ◌∷◌, ◌++◌, length, drop, drop-cons, add-one, sum, refl, sym, ap, ◌∙◌}
+use Rattle.std.proofs.Common.{arith, inl, inr, count_by, slice_set, slice_index, length-set, drop_of_length-le}
 use Rattle.std.proofs.{lemmas.Bool.{cases_lt, lt-ltb, le-ltb}, lemmas.List.Sums.{sum_by-cons}, lemmas.List.{get_or-set_same, drop-set-lt}}
 use Rattle.std.specs.{Prelude.{◌==◌}, List.{range_with_len, AllByRecursion}}
 use Rattle.gs_model.specs.Cards.{choose, groups, groups_above, groups_with, ways, ways_from, left_after}

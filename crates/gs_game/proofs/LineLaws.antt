@@ -1,5 +1,6 @@
 -- A text names the position whose text it is, and each position is named by its text.
-use Rattle.std.proofs.Common.{◌≡◌, ℕ, zero, suc, ◌+◌, ◌-◌, ◌<◌, true, false, not, ◌&&◌, List, [], ◌∷◌, ◌++◌, length, refl, sym, ap, subst, ◌∙◌, inl, inr, ◌⊎◌, eqb, arith, append_assoc, length-append}
+use Rattle.std.proofs.Common.{◌≡◌, ℕ, zero, suc, ◌+◌, ◌-◌, ◌<◌, true, false, not, ◌&&◌, List, [], ◌∷◌, ◌++◌, length, refl, sym, ap, subst, ◌∙◌, inl, inr, ◌⊎◌}
+use Rattle.std.proofs.Common.{eqb, arith, append_assoc, length-append}
 use Rattle.std.proofs.{lemmas.Bool.{cases_Bool, cases_lt, ne_eqb, both_ways, and_parts, not-true, eqb-true, eq-eqb}, lemmas.List.{append-nil}}
 use Rattle.std.specs.{Prelude.{Option, Some, None, slice_get, option_map, IfSome}, List.{AllByRecursion}}
 use Rattle.gs_model.specs.{Betting.{Bet, Moves, act, fold, even, none, move}, Positions.{Target, at_point, at_end}}

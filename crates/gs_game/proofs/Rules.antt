@@ -1,5 +1,6 @@
 -- A game keeps the rules exactly where no refusal applies to it.
-use Rattle.std.proofs.Common.{◌≡◌, ℕ, zero, suc, ◌+◌, ◌*◌, ◌<◌, ◌≤◌, ◌&&◌, ◌==◌, List, [], ◌∷◌, ◌++◌, Bool, true, false, Option, Some, None, length, sum, refl, inl, inr, arith, nat_lt, nat_le}
+use Rattle.std.proofs.Common.{◌≡◌, ℕ, zero, suc, ◌+◌, ◌*◌, ◌<◌, ◌≤◌, ◌&&◌, ◌==◌, List, [], ◌∷◌, ◌++◌, Bool, true, false, Option, Some, None, length, sum, refl}
+use Rattle.std.proofs.Common.{inl, inr, arith, nat_lt, nat_le}
 use Rattle.std.proofs.lemmas.Bool.{and_from, and_parts, cases_Bool, cases_eq, eqb-false, leb-true, le-leb, ltb-false, ltb-true, ne_eqb}
 use Rattle.std.specs.Prelude.{if◌then◌else◌, option_map}
 use Rattle.gs_game.proofs.Evenly.{neither}
@@ -70,7 +71,8 @@ mutual
   are_level : (path : List ℕ) (one two player : ℕ) (ms : Moves) → uneven_move path one two player ms ≡ None → AreLevel one two player ms
   are_level path one two player none h = tt
   are_level path one two player (move letter chips next moves) h =
-      let n = neither (uneven_path (path ++ letter ∷ []) (one_after player chips one) (two_after player chips two) next) (uneven_move path one two player moves) h in
+      let n = neither (uneven_path (path ++ letter ∷ []) (one_after player chips one) (two_after player chips two) next)
+      (uneven_move path one two player moves) h in
       (level (path ++ letter ∷ []) _ _ next n.0, are_level path one two player moves n.1)
 
 mutual

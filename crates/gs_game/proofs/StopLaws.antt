@@ -1,5 +1,6 @@
 -- What deals weigh by the signals of a round, and that it is the same where the game stops after that round, but for the ways to go on.
-use Rattle.std.proofs.Common.{◌≡◌, ℕ, zero, suc, ◌+◌, ◌-◌, ◌*◌, ◌<◌, ◌≤◌, Bool, true, false, cond, List, [], ◌∷◌, ◌++◌, map, length, get_or, take, drop, sum, refl, sym, ap, ◌∙◌, subst, arith, length-take}
+use Rattle.std.proofs.Common.{◌≡◌, ℕ, zero, suc, ◌+◌, ◌-◌, ◌*◌, ◌<◌, ◌≤◌, Bool, true, false, cond, List, [], ◌∷◌, ◌++◌, map, length, get_or, take, drop, sum}
+use Rattle.std.proofs.Common.{refl, sym, ap, ◌∙◌, subst, arith, length-take}
 use Rattle.std.proofs.{lemmas.Bool.Decides.{Decides-eqb}, lemmas.List.{get_or-take, take-append-drop, take-take, take_all}}
 use Rattle.std.specs.{Prelude.{filter, flat_map, ◌==◌, ◌&&◌}, List.{range_with_len}}
 use Rattle.gs_model.specs.{Betting.{even}, Cards.{groups, left_after, ways}, Classes.{ClassLists, class_of, list_of}}

@@ -1,5 +1,6 @@
 -- Which refusal applies to a game first. Source: this project's game files.
-use Rattle.std.specs.Prelude.{ℕ, zero, suc, ◌+◌, ◌-◌, ◌*◌, ◌^◌, ◌==◌, ◌&&◌, Bool, min, List, [], ◌∷◌, length, sum, sum_by, nat_lt, nat_le, Option, Some, None, if◌then◌else◌, option_map}
+use Rattle.std.specs.Prelude.{ℕ, zero, suc, ◌+◌, ◌-◌, ◌*◌, ◌^◌, ◌==◌, ◌&&◌, Bool, min, List, [], ◌∷◌, length, sum, sum_by, nat_lt, nat_le, Option, Some, None}
+use Rattle.std.specs.Prelude.{if◌then◌else◌, option_map}
 use Rattle.gs_model.specs.{Betting.{Bet}, Deals.{deals}, Frame.{frame_of, total_weight, trees_of}}
 use Rattle.gs_model.specs.{Game.{Game, Round, Ranking, High, Pair, Three, round_count, round_at}, Numbering.{greatest}, Signals.{signals}, Walk.{walk}}
 use Rattle.gs_game.specs.Money.{first_of, has_even, uneven_path, most_in}

@@ -25,7 +25,8 @@ module _ (g : FileGame) (lists : ClassLists) (x y : Plan) (text : List ℕ) (tol
       told.classes at_game in
       let at_first = subst (λ (w : Weights). IsVerdict (file_frame g) (plan_at g lists w) (plan_at g lists s.two) (over n.value) (over n.gap1) (over n.gap2))
       told.first at_classes in
-      subst (λ (w : Weights). IsVerdict (file_frame g) (lifted (file_frame g) lists x) (plan_at g lists w) (over n.value) (over n.gap1) (over n.gap2)) told.second
+      subst (λ (w : Weights). IsVerdict (file_frame g) (lifted (file_frame g) lists x) (plan_at g lists w) (over n.value) (over n.gap1)
+      (over n.gap2)) told.second
       at_first
 
   pub is_solved : 0 < total_weight (file_frame g) → IsGameSolution (file_frame g) lists x y → IsSolved g lists text

@@ -1,5 +1,6 @@
 -- Lists for the rounds so far, and one more.
-use Rattle.std.proofs.Common.{◌≡◌, ◌↔◌, ℕ, zero, suc, ◌+◌, ◌-◌, ◌<◌, ◌≤◌, ◌^◌, List, [], ◌∷◌, ◌++◌, length, get_or, refl, sym, ap, ◌∙◌, subst, arith, Vec, Global}
+use Rattle.std.proofs.Common.{◌≡◌, ◌↔◌, ℕ, zero, suc, ◌+◌, ◌-◌, ◌<◌, ◌≤◌, ◌^◌, List, [], ◌∷◌, ◌++◌, length, get_or, refl, sym, ap, ◌∙◌, subst, arith, Vec}
+use Rattle.std.proofs.Common.{Global}
 use Rattle.std.specs.List.{All}
 use Rattle.gs_model.specs.{Classes.{list_of}, Game.{Game, round_count}, Numbering.{IsNumbered}, SignalClasses.{IsSignalClasses}, Signals.{parents, signals}}
 use Rattle.gs_model.specs.Rows.{rows}

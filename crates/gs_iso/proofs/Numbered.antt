@@ -1,5 +1,6 @@
 -- Numbers by first sight: equal numbers are equal keys.
-use Rattle.std.proofs.Common.{◌≡◌, ◌↔◌, ℕ, zero, suc, ◌+◌, ◌-◌, ◌<◌, ◌≤◌, List, [], ◌∷◌, ◌++◌, length, get_or, refl, sym, ap, ◌∙◌, subst, arith, Bool, true, false, cond, true≢false, Some, Vec, Global, ⊎_elim, length-append}
+use Rattle.std.proofs.Common.{◌≡◌, ◌↔◌, ℕ, zero, suc, ◌+◌, ◌-◌, ◌<◌, ◌≤◌, List, [], ◌∷◌, ◌++◌, length, get_or, refl, sym, ap, ◌∙◌, subst, arith, Bool, true}
+use Rattle.std.proofs.Common.{false, cond, true≢false, Some, Vec, Global, ⊎_elim, length-append}
 use Rattle.std.proofs.{lemmas.Bool.{cases_eq}, lemmas.Slice.Eq.{slice_eq-Decides}, lemmas.Map.Keys.{IsDistinct-head, IsDistinct-tail}, lemmas.Grind.{elements}}
 use Rattle.std.proofs.lemmas.List.{get_or_read}
 use Rattle.std.specs.{List.{AllByRecursion, IsDistinct, find, list_any, slice_get}, Bool.{Decides}}

@@ -1,5 +1,6 @@
 -- A pairing of equal parts is one of isomorphic children, and none is none.
-use Rattle.std.proofs.Common.{◌≡◌, ◌↔◌, ℕ, ℤ, pos, suc, ◌+◌, ◌<◌, ◌^◌, List, [], ◌∷◌, ◌==◌, ◌/◌, length, map, drop, get_or, refl, sym, ap, ◌∙◌, subst, arith, Bool, true, not, Option, None, Some}
+use Rattle.std.proofs.Common.{◌≡◌, ◌↔◌, ℕ, ℤ, pos, suc, ◌+◌, ◌<◌, ◌^◌, List, [], ◌∷◌, ◌==◌, ◌/◌, length, map, drop, get_or, refl, sym, ap, ◌∙◌, subst, arith}
+use Rattle.std.proofs.Common.{Bool, true, not, Option, None, Some}
 use Rattle.std.proofs.{lemmas.List.{length-map}, lemmas.List.Filters.{length-filter_both}}
 use Rattle.std.proofs.lemmas.List.FromFn.{get_or-map-range_with_len, length-map-range_with_len}
 use Rattle.std.specs.{Prelude.{MatchOption}, List.{filter, range_with_len}}

@@ -1,10 +1,12 @@
 -- The line of a canonical value has no line feed but the last, so it is parted from what stands behind it.
-use Rattle.std.proofs.Common.{◌≡◌, ℕ, zero, suc, ◌<◌, ◌≤◌, ◌^◌, Bool, true, false, ◌&&◌, ◌==◌, List, [], ◌∷◌, ◌++◌, inl, inr, refl, ap, ◌∙◌, arith, append_assoc, decimal, length, get_or, if◌then◌else◌}
+use Rattle.std.proofs.Common.{◌≡◌, ℕ, zero, suc, ◌<◌, ◌≤◌, ◌^◌, Bool, true, false, ◌&&◌, ◌==◌, List, [], ◌∷◌, ◌++◌, inl, inr, refl, ap, ◌∙◌, arith}
+use Rattle.std.proofs.Common.{append_assoc, decimal, length, get_or, if◌then◌else◌}
 use Rattle.std.proofs.{lemmas.Bool.{and_parts, cases_Bool, cases_eq, cases_lt, ne_eqb}, lemmas.Fmt.{decimal_is_IsNumeral_wide}, lemmas.Str.Parse.{digit_at}}
 use Rattle.json.specs.Token as Token
 use Rattle.json.specs.Print.{escape_byte, escape, quoted, token_text}
 use Rattle.json.proofs.Printed.Strings.{escape_byte_plain}
-use Rattle.serde_json.specs.Data.{Num, unsigned, negative, float, Data, null, boolean, number, string, array, object, Items, no_items, item, Members, no_members, member}
+use Rattle.serde_json.specs.Data.{Num, unsigned, negative, float, Data, null, boolean, number, string, array, object, Items, no_items, item, Members}
+use Rattle.serde_json.specs.Data.{no_members, member}
 use Rattle.serde_json.specs.Written.{compact_text, items_text, members_text, number_text, comma_if}
 use Rattle.gs_json.specs.{Canonical.{IsWholeNumber, IsCanonical, ItemsAreCanonical, MembersAreCanonical}, FirstLine.{first_line}, Lines.{line_text}}
 

@@ -1,5 +1,6 @@
 -- A mixture, move by move.
-use Rattle.std.proofs.Common.{◌≡◌, ℕ, ◌+◌, ◌<◌, ◌≤◌, List, [], ◌∷◌, ◌++◌, length, map, take, get_or, refl, sym, ap, ◌∙◌, subst, arith, inl, inr, length-append, Some}
+use Rattle.std.proofs.Common.{◌≡◌, ℕ, ◌+◌, ◌<◌, ◌≤◌, List, [], ◌∷◌, ◌++◌, length, map, take, get_or, refl, sym, ap, ◌∙◌, subst, arith, inl, inr, length-append}
+use Rattle.std.proofs.Common.{Some}
 use Rattle.std.proofs.{lemmas.Bool.{cases_lt}, lemmas.List.{length-map, length-take-le, map-append, map_more, take_all}, lemmas.Option.{slice_get_within}}
 use Rattle.std.specs.Prelude.{slice_get}
 use Rattle.gs_frac.specs.declared.value.Fraction.{Fraction}

@@ -1,5 +1,6 @@
 -- The first items with their marks.
-use Rattle.std.proofs.Common.{◌≡◌, ◌⊎◌, ◌≤◌, ◌<◌, ◌+◌, ◌∙◌, ℕ, zero, suc, List, [], ◌∷◌, get_or, length, replicate, set, refl, sym, ap, subst, below_more, arith, ⊎_elim, length-set}
+use Rattle.std.proofs.Common.{◌≡◌, ◌⊎◌, ◌≤◌, ◌<◌, ◌+◌, ◌∙◌, ℕ, zero, suc, List, [], ◌∷◌, get_or, length, replicate, set, refl, sym, ap, subst, below_more}
+use Rattle.std.proofs.Common.{arith, ⊎_elim, length-set}
 use Rattle.std.proofs.{lemmas.Bool.{cases_eq, cases_lt}, lemmas.List.{get_or-replicate, get_or-set_other, get_or-set_same, length-replicate}}
 use Rattle.std.proofs.lemmas.List.Sorted.{IsPermutation-refl, IsPermutation-sym, IsPermutation-trans}
 use Rattle.gs_model.specs.Game.{Game}

@@ -1,7 +1,9 @@
 -- Marks of signals.
-use Rattle.std.proofs.Common.{◌≡◌, ◌⊎◌, ◌≤◌, ◌<◌, ◌∙◌, ℕ, Bool, List, ◌++◌, get_or, length, replicate, set, take, drop, inl, inr, refl, sym, ap, subst, arith, ⊎_elim, length-set}
+use Rattle.std.proofs.Common.{◌≡◌, ◌⊎◌, ◌≤◌, ◌<◌, ◌∙◌, ℕ, Bool, List, ◌++◌, get_or, length, replicate, set, take, drop, inl, inr, refl, sym, ap, subst, arith}
+use Rattle.std.proofs.Common.{⊎_elim, length-set}
 use Rattle.std.proofs.lemmas.Bool.{cases_eq}
-use Rattle.std.proofs.lemmas.List.{append-nil, drop_all, get_or-replicate, get_or-set_other, get_or-set_same, get_or_default, get_or-map, length-map, length-replicate, take_all}
+use Rattle.std.proofs.lemmas.List.{append-nil, drop_all, get_or-replicate, get_or-set_other, get_or-set_same, get_or_default, get_or-map, length-map}
+use Rattle.std.proofs.lemmas.List.{length-replicate, take_all}
 use Rattle.std.proofs.lemmas.List.Elements.{All-push}
 use Rattle.std.specs.{Global.{Vec}, HashMap.{HashMap}, List.{All}, List.Sorted.{IsPermutation}, declared.hash.BuildHasherDefault.{BuildHasherDefault}}
 use Rattle.std.specs.declared.hash.FoldHasher.{FoldHasher}
@@ -110,7 +112,8 @@ pub marks_after : (g : Game) (by_rank : Bool) (boards : List Board) (keys : List
     → All (IsBoard g by_rank) boards → (place kind : ℕ) (board other : Board) (like : Kind) (kinds : List Kind)
     → (hands marks new : List ℕ) → place < length boards → board ≡ get_or boards place board → AreHands board keys hands → All (IsKnown boards keys) kinds
     → IsKindOf kinds kind hands → like ≡ get_or kinds kind like → other ≡ get_or boards like.board other
-    → AreAlikeMarks g keys marks → MayMark (seat_signals board.seats.items) hands (seat_signals other.seats.items) like.hands.items marks new → AreAlikeMarks g keys new
+    → AreAlikeMarks g keys marks → MayMark (seat_signals board.seats.items) hands (seat_signals other.seats.items) like.hands.items marks new
+    → AreAlikeMarks g keys new
 marks_after g by_rank boards keys few each place kind board other like kinds hands marks new l is h known of like_is other_is m may =
     let b : IsBoard g by_rank board = subst (IsBoard g by_rank) (sym is) (each place board l) in
     let k : IsKnown boards keys like = like_known boards keys hands kinds kind like known of like_is in

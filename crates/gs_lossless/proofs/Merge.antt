@@ -1,5 +1,6 @@
 -- Sums by class and outcome: what joining neighbours of a sorted list gives, and that sums which agree are one list.
-use Rattle.std.proofs.Common.{take, set, append_assoc, ◌++◌, length-take, ◌≡◌, ℕ, ℤ, suc, ◌+◌, ◌-◌, ◌<◌, ◌≤◌, Bool, true, false, cond, List, [], ◌∷◌, length, get_or, refl, sym, ap, ◌∙◌, subst, arith, true≢false, sum_by, IsPermutation}
+use Rattle.std.proofs.Common.{take, set, append_assoc, ◌++◌, length-take, ◌≡◌, ℕ, ℤ, suc, ◌+◌, ◌-◌, ◌<◌, ◌≤◌, Bool, true, false, cond, List, [], ◌∷◌, length}
+use Rattle.std.proofs.Common.{get_or, refl, sym, ap, ◌∙◌, subst, arith, true≢false, sum_by, IsPermutation}
 use Rattle.std.proofs.lemmas.Bool.Decides.{Decides-and, Decides-eqb, Decides-int_eq, Decides-like}
 use Rattle.std.proofs.{lemmas.Cmp.{int_cmp_total, int_ranked, nat_cmp_total, on_total, ranked, then_total, tied_itself}, lemmas.List.{take_all, take_more}}
 use Rattle.std.proofs.{Math.Seq.{set-append_seam}, lemmas.List.Elements.{recursion_from_All}, lemmas.List.Sorted.{sum_by-IsPermutation}}

@@ -1,5 +1,6 @@
 -- The steps of the scans, and what their answers make of classes.
-use Rattle.std.proofs.Common.{◌≡◌, ◌≢◌, ℕ, ◌+◌, ◌-◌, ◌<◌, ◌≤◌, false, List, length, get_or, set, refl, sym, ap, ◌∙◌, subst, arith, ⊎_elim, true≢false, Option, Some, None, Vec, Global}
+use Rattle.std.proofs.Common.{◌≡◌, ◌≢◌, ℕ, ◌+◌, ◌-◌, ◌<◌, ◌≤◌, false, List, length, get_or, set, refl, sym, ap, ◌∙◌, subst, arith, ⊎_elim, true≢false, Option}
+use Rattle.std.proofs.Common.{Some, None, Vec, Global}
 use Rattle.std.proofs.{lemmas.Bool.{cases_eq, cases_lt}, lemmas.List.{get_or-set_other, get_or-set_same}}
 use Rattle.std.specs.{Option.{option_or}, Prelude.{is_some, unwrap_or}}
 use Rattle.gs_filter.specs.Filter.{Filter, single_classes}

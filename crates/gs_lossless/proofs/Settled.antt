@@ -1,5 +1,6 @@
 -- From agreement with first members to lossless classes, and back.
-use Rattle.std.proofs.Common.{◌≡◌, ℕ, ℤ, pos, zero, suc, ◌+◌, ◌-◌, ◌<◌, ◌≤◌, Bool, true, false, cond, List, [], ◌∷◌, length, get_or, refl, sym, ap, ◌∙◌, subst, arith, ⊎_elim, count_by, true≢false, Result, Ok, Err}
+use Rattle.std.proofs.Common.{◌≡◌, ℕ, ℤ, pos, zero, suc, ◌+◌, ◌-◌, ◌<◌, ◌≤◌, Bool, true, false, cond, List, [], ◌∷◌, length, get_or, refl, sym, ap, ◌∙◌, subst}
+use Rattle.std.proofs.Common.{arith, ⊎_elim, count_by, true≢false, Result, Ok, Err}
 use Rattle.std.proofs.{lemmas.Bool.{cases_lt}, lemmas.Bool.Decides.{Decides-eqb}, lemmas.List.{get_or_past}, lemmas.List.FromFn.{get_or-range_with_len}}
 use Rattle.std.proofs.lemmas.List.Sums.{get_or-le-sum_by, passes_at_first, sum_by-cons}
 use Rattle.std.specs.{Prelude.{◌==◌, IfOk}, List.{position_or_len}, Ordering.{int_eq}}
@@ -62,7 +63,8 @@ first_le lists round s = first_before (list_of lists round) s
 -- ---- agreement and likeness
 
 module _ (f : Frame) (lists : ClassLists) (round s t : ℕ) where
-  pub alike_from : 0 < round → HaveEqualAmounts f lists Deals round s t → (round < last_round f → HaveEqualAmounts f lists Children round s t) → Alike f lists round s t
+  pub alike_from : 0 < round → HaveEqualAmounts f lists Deals round s t → (round < last_round f → HaveEqualAmounts f lists Children round s t)
+      → Alike f lists round s t
   alike_from some h k = by (round == last_round f) refl
     where
       by : (b : Bool) → (round == last_round f) ≡ b → Alike f lists round s t

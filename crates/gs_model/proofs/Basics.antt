@@ -1,5 +1,6 @@
 -- General facts about numbers, truth values and lists, each said once for all files and crates above.
-use Rattle.std.proofs.Common.{◌≡◌, ◌≢◌, ℕ, zero, suc, ◌+◌, ◌*◌, ◌<◌, ◌≤◌, Bool, true, false, cond, eqb, pos, Option, Some, None, List, [], ◌∷◌, ◌++◌, map, length, drop, sum_by, count_by, refl, sym, ap, arith, ◌-◌, get_or, set, ◌∙◌}
+use Rattle.std.proofs.Common.{◌≡◌, ◌≢◌, ℕ, zero, suc, ◌+◌, ◌*◌, ◌<◌, ◌≤◌, Bool, true, false, cond, eqb, pos, Option, Some, None, List, [], ◌∷◌, ◌++◌, map}
+use Rattle.std.proofs.Common.{length, drop, sum_by, count_by, refl, sym, ap, arith, ◌-◌, get_or, set, ◌∙◌}
 use Rattle.std.proofs.{lemmas.Bool.Decides.{Decides-eqb, same_from_decides}, lemmas.Int.{ints}, lemmas.List.Sums.{sum_by-cons}}
 use Rattle.std.proofs.{Math.Nat.{mul-le-mul_left, mul-le-mul_right}, lemmas.List.{map-set}, Math.ListN.{get_or-map}}
 use Rattle.std.specs.{Prelude.{neg_ℤ, ℤ, flat_map, ◌==◌, swap}, List.{AllByRecursion, range_with_len}}

@@ -1,11 +1,13 @@
 -- The signals that can be dealt beside a last-round signal are those that no deal rules out.
-use Rattle.std.proofs.Common.{◌≡◌, ℕ, zero, suc, ◌+◌, ◌*◌, ◌<◌, ◌≤◌, List, [], ◌∷◌, length, map, get_or, refl, sym, ap, ◌∙◌, subst, arith, append-nil, Bool, true, false, cond, ⊎_elim, nat_lt}
+use Rattle.std.proofs.Common.{◌≡◌, ℕ, zero, suc, ◌+◌, ◌*◌, ◌<◌, ◌≤◌, List, [], ◌∷◌, length, map, get_or, refl, sym, ap, ◌∙◌, subst, arith, append-nil, Bool}
+use Rattle.std.proofs.Common.{true, false, cond, ⊎_elim, nat_lt}
 use Rattle.std.proofs.{lemmas.Bool.{cases_lt}, lemmas.List.Elements.{All-from_recursion}}
 use Rattle.std.specs.{Prelude.{flat_map, filter, ◌&&◌}, List.{AllByRecursion}}
 use Rattle.gs_model.specs.{Cards.{groups, ways, left_after}, Deals.{deal_weight, path_weight, own_ways, same_cards, same_public}}
 use Rattle.gs_model.specs.{Game.{Game, Round, round_count}, Signals.{Signal, Seen, signals, signal_at, edge, left_by}, ViewTree.{facing}}
 use Rattle.gs_model.proofs.{Exchanged.{filter-flat_map, map-flat_map}, Fits.{fits_from, some-times, groups_of_fewer, groups_taken}, Ranges.{every-flat_map}}
-use Rattle.gs_model.proofs.Listed.{IsRow, counts-fit_all, filter-alike, filter-map_none, filter-map_of, flat_map-filter, flat_map-nothing, left_at, length-after, listed, listed-all, once, rows-listed, seen, taken-counts, times}
+use Rattle.gs_model.proofs.Listed.{IsRow, counts-fit_all, filter-alike, filter-map_none, filter-map_of, flat_map-filter, flat_map-nothing, left_at}
+use Rattle.gs_model.proofs.Listed.{length-after, listed, listed-all, once, rows-listed, seen, taken-counts, times}
 use Rattle.gs_model.proofs.Basics.{map-map, flat_map-same, every-both, every-map, every-weaker, product_positive, factors_positive}
 
 -- ---- the opponent's signals beside a signal are those that no deal rules out

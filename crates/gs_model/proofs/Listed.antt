@@ -1,5 +1,6 @@
 -- The last-round signals by recursion from the first round, in order; a group stands once in a list of groups.
-use Rattle.std.proofs.Common.{◌≡◌, ◌≢◌, ℕ, zero, suc, ◌+◌, ◌-◌, ◌<◌, ◌≤◌, List, [], ◌∷◌, ◌++◌, length, map, get_or, refl, sym, ap, ◌∙◌, subst, arith, append_assoc, append-nil, Bool, true, false, cond, eqb, ⊎_elim, slice_set, slice_index, nat_lt}
+use Rattle.std.proofs.Common.{◌≡◌, ◌≢◌, ℕ, zero, suc, ◌+◌, ◌-◌, ◌<◌, ◌≤◌, List, [], ◌∷◌, ◌++◌, length, map, get_or, refl, sym, ap, ◌∙◌, subst, arith}
+use Rattle.std.proofs.Common.{append_assoc, append-nil, Bool, true, false, cond, eqb, ⊎_elim, slice_set, slice_index, nat_lt}
 use Rattle.std.proofs.{lemmas.Bool.{cases_eq, cases_lt}, lemmas.Bool.Decides.{Decides-eqb}, lemmas.Grind.{flat_map-append}, lemmas.List.Folds.{flat_map-map}}
 use Rattle.std.specs.{Prelude.{flat_map, filter, ◌&&◌, ◌==◌, count_by}, List.{range_with_len, AllByRecursion}}
 use Rattle.gs_model.specs.{Cards.{groups, groups_above, groups_with, ways, left_after, left_from}, Deals.{same_cards}}

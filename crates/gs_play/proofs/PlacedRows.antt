@@ -20,7 +20,8 @@ module _ (f : Frame) (lists : ClassLists) (p : Places) (placed : IsPlaced f list
 
 -- the row of an end in a player's class totals
 pub row_of_end : (k : Ledger) (z start : ℕ) → z < end_count (role_frame k.role) → start ≡ get_or k.role.places.now.ends.items z start
-    → IsRow (end_classes (role_frame k.role) (role_lists k.role)) (end_count (role_frame k.role)) z start (end_classes (role_frame k.role) (role_lists k.role) z)
+    → IsRow (end_classes (role_frame k.role) (role_lists k.role)) (end_count (role_frame k.role)) z start
+    (end_classes (role_frame k.role) (role_lists k.role) z)
 row_of_end k z start l read = end_row (role_frame k.role) (role_lists k.role) k.role.places.now k.role.placed z start _ l read refl
 
 -- a list has what an end pays a class

@@ -9,7 +9,8 @@ use Rattle.gs_play.specs.{PointRows.{totals_at}, Roles.{role_frame, role_lists},
 use Rattle.gs_play.specs.{declared.places.Totals.{Totals}, declared.point_row.PointRow.{PointRow}, declared.rows.Row.{Row}}
 use Rattle.gs_play.proofs.Sides.{walked}
 
-pub row_at : (at : PointRow) → let k = at.ledger.role in IsRow (classes_at (role_frame k) (role_lists k)) (point_count (role_frame k)) at.point at.start at.count
+pub row_at : (at : PointRow) → let k = at.ledger.role in IsRow (classes_at (role_frame k) (role_lists k))
+    (point_count (role_frame k)) at.point at.start at.count
 row_at at =
     let width = classes_at (role_frame at.ledger.role) (role_lists at.ledger.role) in
     record {
@@ -26,7 +27,12 @@ row_at at =
 pub wide_at : (at : PointRow) (long : ℕ) → IsWide (role_frame at.ledger.role) (role_lists at.ledger.role) long → at.count ≤ long
 wide_at at long wide =
     let w = walked at.ledger.role in
-    omega (arith, at.count_is, wide (round_of (role_frame at.ledger.role) (at_point at.point)) (w.some_round at.point at.inside) (w.point_in at.point at.inside))
+    omega (
+      arith,
+      at.count_is,
+      wide (round_of (role_frame at.ledger.role) (at_point at.point)) (w.some_round at.point at.inside)
+          (w.point_in at.point at.inside),
+    )
 
 -- the row of a point holds what is known there, and the row of an end what it pays
 module _ (at : PointRow) (r : Row) where
@@ -42,12 +48,13 @@ module _ (at : PointRow) (r : Row) where
   pub held_at_end : (t : Target) (z : ℕ) → t ≡ at_end z → z < end_count (role_frame at.ledger.role) → r.round ≡ round_of (role_frame at.ledger.role) (at_end z)
       → r.start ≡ end_start (role_frame at.ledger.role) (role_lists at.ledger.role) z → r.values.now ≡ at.totals.now.ends.items
       → IsRowOf (role_frame at.ledger.role) (role_lists at.ledger.role) (totals_at at) t r
-  held_at_end t z is inside round start values = subst (λ t. IsRowOf (role_frame at.ledger.role) (role_lists at.ledger.role) (totals_at at) t r) (sym is) (record {
-    round_is = round;
-    values_are = λ c lc.
-        ap (λ s. get_or r.values.now (s + (c - 1)) (pos 0)) start ∙ ap (λ l.
-        get_or l (end_start (role_frame at.ledger.role) (role_lists at.ledger.role) z + (c - 1)) (pos 0)) values ∙ at.paid z c inside lc;
-  })
+  held_at_end t z is inside round start values = subst (λ t. IsRowOf (role_frame at.ledger.role) (role_lists at.ledger.role) (totals_at at) t r)
+      (sym is) (record {
+        round_is = round;
+        values_are = λ c lc.
+            ap (λ s. get_or r.values.now (s + (c - 1)) (pos 0)) start ∙ ap (λ l.
+            get_or l (end_start (role_frame at.ledger.role) (role_lists at.ledger.role) z + (c - 1)) (pos 0)) values ∙ at.paid z c inside lc;
+      })
 
 module _ (at : PointRow) (m : ℕ) (lm : m < move_count (role_frame at.ledger.role) at.point) (r : Row)
     (held : IsRowOf (role_frame at.ledger.role) (role_lists at.ledger.role) (totals_at at) (leads_to (role_frame at.ledger.role) at.point m) r) where

@@ -75,7 +75,8 @@ says StraightFlush s f e p q = s && f
 
 -- what is chosen applies, and what applies is no higher
 abbrev agrees : Category → Bool → Bool → Bool → Bool → Bool → Bool
-agrees c s f e p q = cond (category_number c == chosen s f e p q) (says c s f e p q) true && cond (says c s f e p q) (nat_lt (category_number c) (suc (chosen s f e p q))) true
+agrees c s f e p q = cond (category_number c == chosen s f e p q) (says c s f e p q) true && cond (says c s f e p q)
+    (nat_lt (category_number c) (suc (chosen s f e p q))) true
 
 -- a test at both truth values
 abbrev each : (Bool → Bool) → Bool
@@ -102,14 +103,16 @@ module _ (c : Category) (s f e p q : Bool) where
       let b = at_each (λ f. each (λ e. each (λ p. each (λ q. agrees c s f e p q)))) a f in
       let d = at_each (λ e. each (λ p. each (λ q. agrees c s f e p q))) b e in
       let g = at_each (λ q. agrees c s f e p q) (at_each (λ p. each (λ q. agrees c s f e p q)) d p) q in
-      and_parts (cond (category_number c == chosen s f e p q) (says c s f e p q) true) (cond (says c s f e p q) (nat_lt (category_number c) (suc (chosen s f e p q))) true) g
+      and_parts (cond (category_number c == chosen s f e p q) (says c s f e p q) true)
+      (cond (says c s f e p q) (nat_lt (category_number c) (suc (chosen s f e p q))) true) g
 
   said : category_number c ≡ chosen s f e p q → says c s f e p q ≡ true
   said n = ap (λ t. cond t (says c s f e p q) true) (sym (eq-eqb _ _ n)) ∙ agree.0
 
   most : says c s f e p q ≡ true → category_number c ≤ chosen s f e p q
   most h =
-      let l : nat_lt (category_number c) (suc (chosen s f e p q)) ≡ true = ap (λ t. cond t (nat_lt (category_number c) (suc (chosen s f e p q))) true) (sym h) ∙ agree.1 in
+      let l : nat_lt (category_number c) (suc (chosen s f e p q)) ≡ true = ap (λ t. cond t (nat_lt (category_number c) (suc (chosen s f e p q))) true)
+      (sym h) ∙ agree.1 in
       grind (arith, l)
 
 -- the category is the greatest that applies

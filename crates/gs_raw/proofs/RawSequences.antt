@@ -1,6 +1,7 @@
 -- Over single signals a player has at most 64 sequences to a raw cell, and the empty one: a point has at most 64 points on each way to an end, and a signal is
 -- in some pair of each later round.
-use Rattle.std.proofs.Common.{◌≡◌, ℕ, zero, suc, ◌+◌, ◌-◌, ◌*◌, ◌<◌, ◌≤◌, ◌++◌, ◌==◌, ◌&&◌, Bool, true, cond, List, [], ◌∷◌, map, length, get_or, None, refl, sym, ap, ◌∙◌, subst, inl, inr, arith}
+use Rattle.std.proofs.Common.{◌≡◌, ℕ, zero, suc, ◌+◌, ◌-◌, ◌*◌, ◌<◌, ◌≤◌, ◌++◌, ◌==◌, ◌&&◌, Bool, true, cond, List, [], ◌∷◌, map, length, get_or, None, refl}
+use Rattle.std.proofs.Common.{sym, ap, ◌∙◌, subst, inl, inr, arith}
 use Rattle.std.proofs.{Math.Nat.{mul-le-mul_left, mul-le-mul_right}, lemmas.Bool.{cases_Bool, cases_lt, eq-eqb}}
 use Rattle.std.proofs.{lemmas.List.FromFn.{get_or-range_with_len, length-range_with_len}, lemmas.List.Sums.{get_or-le-sum_by, sum_by-cons}}
 use Rattle.std.specs.{Prelude.{count_by, sum_by}, List.{AllByRecursion, list_any, range_with_len}}

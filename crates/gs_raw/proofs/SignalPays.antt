@@ -1,5 +1,6 @@
 -- What the deals of signals pay at an end, from the plan of player 1 and what the end is worth there.
-use Rattle.std.proofs.Common.{◌≡◌, ℕ, ℤ, pos, ◌+◌, ◌-◌, ◌*◌, ◌<◌, ◌≤◌, ◌^◌, ◌++◌, ◌∷◌, [], List, Bool, true, false, cond, length, get_or, refl, sym, ap, ◌∙◌, subst, arith, sum_by, mul_left_comm, length-append, ⊎_elim}
+use Rattle.std.proofs.Common.{◌≡◌, ℕ, ℤ, pos, ◌+◌, ◌-◌, ◌*◌, ◌<◌, ◌≤◌, ◌^◌, ◌++◌, ◌∷◌, [], List, Bool, true, false, cond, length, get_or, refl, sym, ap, ◌∙◌}
+use Rattle.std.proofs.Common.{subst, arith, sum_by, mul_left_comm, length-append, ⊎_elim}
 use Rattle.std.proofs.{Math.IntN.{*ℤ-zero}, Math.Nat.{mul-le-mul_left}, lemmas.Bool.Decides.{Decides-eqb}, lemmas.Bool.{cases_eq, false≢true}}
 use Rattle.std.proofs.{lemmas.List.{get_or_append_left, get_or_at}, lemmas.List.Elements.{All-filter}}
 use Rattle.std.specs.Prelude.{◌==◌, ◌*ℤ◌, All, filter, unsigned_abs}
@@ -159,9 +160,11 @@ single_end a e z s l ls =
     (h.0, h.1, omega (arith, ls, form_signals a round (w.end_round z l) (w.end_in z l)))
 
 -- what the deals of a signal pay is small beside what they weigh
-pub small_of : (a : Abstract) (lists : ClassLists) → lists ≡ single_classes (abstract_frame a).parents → (one two : StoredPlan) → IsPlanOf (abstract_frame a) lists 1 one
+pub small_of : (a : Abstract) (lists : ClassLists) → lists ≡ single_classes (abstract_frame a).parents → (one two : StoredPlan)
+    → IsPlanOf (abstract_frame a) lists 1 one
     → IsPlanOf (abstract_frame a) lists 2 two → (z s : ℕ) → z < end_count (abstract_frame a)
-    → unsigned_abs (signal_pays (abstract_frame a) (lifted (abstract_frame a) lists one) (lifted (abstract_frame a) lists two) z s) ≤ (2 ^ 84) * signal_weighs (abstract_frame a) z s
+    → unsigned_abs (signal_pays (abstract_frame a) (lifted (abstract_frame a) lists one) (lifted (abstract_frame a) lists two) z s) ≤ (2 ^ 84) * signal_weighs
+    (abstract_frame a) z s
 small_of a lists e one two p q z s lz =
     let f = abstract_frame a in
     let singles = single_classes f.parents in

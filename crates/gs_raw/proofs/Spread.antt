@@ -1,5 +1,6 @@
 -- Plans over classes spread over raw signals: the weights, one signal and one point after another, and that they are a plan of the same numbers.
-use Rattle.std.proofs.Common.{◌≡◌, ℕ, ◌+◌, ◌-◌, ◌*◌, ◌<◌, ◌≤◌, ◌++◌, List, length, map, take, drop, get_or, refl, sym, ap, ◌∙◌, subst, arith, ⊎_elim, length-append, length-drop, Option, Some, None, true}
+use Rattle.std.proofs.Common.{◌≡◌, ℕ, ◌+◌, ◌-◌, ◌*◌, ◌<◌, ◌≤◌, ◌++◌, List, length, map, take, drop, get_or, refl, sym, ap, ◌∙◌, subst, arith, ⊎_elim}
+use Rattle.std.proofs.Common.{length-append, length-drop, Option, Some, None, true}
 use Rattle.std.proofs.{Math.Nat.{mul-le-mul_right}, lemmas.Bool.{cases_eq, cases_lt}, lemmas.Bool.Decides.{Decides-eqb}}
 use Rattle.std.proofs.{lemmas.List.{get_or-append-add, get_or-drop, get_or-take, get_or_append_left, length-take}, lemmas.List.FromFn.{get_or-range_with_len}}
 use Rattle.std.specs.Prelude.{◌==◌}

@@ -2,7 +2,8 @@
 use Rattle.std.proofs.Common.{◌≡◌, inl, inr, ℕ, ◌+◌, ◌≤◌, ◌++◌, true, false, Bool, List, length, Some, None, Option, Ok, Vec, refl, sym, ap, ◌∙◌, subst, arith}
 use Rattle.std.proofs.lemmas.List.{append-nil, length-append}
 use Rattle.std.specs.{Io.KnownBytes.{Consumes, IsAtEnd}, declared.alloc.Global.{Global}}
-use Rattle.gs_reply.specs.Refusals.{Refusal, Bad_game, Unlike_pair, Overflows, Many_pivots, Too_large, Bad_strategy, Wrong_number, Bad_query, Other_game, Bad_certificate, line_of}
+use Rattle.gs_reply.specs.Refusals.{Refusal, Bad_game, Unlike_pair, Overflows, Many_pivots, Too_large, Bad_strategy, Wrong_number, Bad_query, Other_game}
+use Rattle.gs_reply.specs.Refusals.{Bad_certificate, line_of}
 use Rattle.gs_reply.specs.Replies.{Reply, Prints, Refuses}
 use Rattle.gs_words.specs.{Requests.{request_of}, Tasks.{Task, Shrink, Check, Make, Evaluate, Query, Upgrade, Certify, Verify, Solve, Play, Path, Judge, Duel}}
 use Rattle.gs_run.specs.{Asking.{Asks, reads}, Deciding.{Holds}, Endings.{EndsSo}, Statuses.{status_of}}
@@ -101,16 +102,24 @@ replied words old new s runs task bytes asked h good = refused words task old ne
 -- a run that refuses its input ends with the status of the refusal
 pub refuses : (words : List (List ℕ)) (old new : Ends) (task : Task) (why : Refusal) → request_of words ≡ Some task → IsAnswered task old new (Refuses why)
     → Quiet old new → TellsLine old new (line_of why) → RunsTo words old new (status_of why)
-refuses words old new task (Bad_game rule) asked a quiet told = (task, asked, record { why = Bad_game rule; answered = a; status = refl; quiet = quiet; told = told })
-refuses words old new task (Unlike_pair round one two) asked a quiet told = (task, asked, record { why = Unlike_pair round one two; answered = a; status = refl; quiet = quiet; told = told })
-refuses words old new task (Overflows at) asked a quiet told = (task, asked, record { why = Overflows at; answered = a; status = refl; quiet = quiet; told = told })
+refuses words old new task (Bad_game rule) asked a quiet told =
+    (task, asked, record { why = Bad_game rule; answered = a; status = refl; quiet = quiet; told = told })
+refuses words old new task (Unlike_pair round one two) asked a quiet told =
+    (task, asked, record { why = Unlike_pair round one two; answered = a; status = refl; quiet = quiet; told = told })
+refuses words old new task (Overflows at) asked a quiet told =
+    (task, asked, record { why = Overflows at; answered = a; status = refl; quiet = quiet; told = told })
 refuses words old new task Many_pivots asked a quiet told = (task, asked, record { why = Many_pivots; answered = a; status = refl; quiet = quiet; told = told })
-refuses words old new task (Too_large limit) asked a quiet told = (task, asked, record { why = Too_large limit; answered = a; status = refl; quiet = quiet; told = told })
-refuses words old new task (Bad_strategy which rule) asked a quiet told = (task, asked, record { why = Bad_strategy which rule; answered = a; status = refl; quiet = quiet; told = told })
-refuses words old new task (Wrong_number name stated found) asked a quiet told = (task, asked, record { why = Wrong_number name stated found; answered = a; status = refl; quiet = quiet; told = told })
-refuses words old new task (Bad_query rule) asked a quiet told = (task, asked, record { why = Bad_query rule; answered = a; status = refl; quiet = quiet; told = told })
+refuses words old new task (Too_large limit) asked a quiet told =
+    (task, asked, record { why = Too_large limit; answered = a; status = refl; quiet = quiet; told = told })
+refuses words old new task (Bad_strategy which rule) asked a quiet told =
+    (task, asked, record { why = Bad_strategy which rule; answered = a; status = refl; quiet = quiet; told = told })
+refuses words old new task (Wrong_number name stated found) asked a quiet told =
+    (task, asked, record { why = Wrong_number name stated found; answered = a; status = refl; quiet = quiet; told = told })
+refuses words old new task (Bad_query rule) asked a quiet told =
+    (task, asked, record { why = Bad_query rule; answered = a; status = refl; quiet = quiet; told = told })
 refuses words old new task Other_game asked a quiet told = (task, asked, record { why = Other_game; answered = a; status = refl; quiet = quiet; told = told })
-refuses words old new task (Bad_certificate text) asked a quiet told = (task, asked, record { why = Bad_certificate text; answered = a; status = refl; quiet = quiet; told = told })
+refuses words old new task (Bad_certificate text) asked a quiet told =
+    (task, asked, record { why = Bad_certificate text; answered = a; status = refl; quiet = quiet; told = told })
 
 -- the input that was read
 pub inputs : (reads_source : Bool) (old new : Ends) (v : Vec ℕ Global) → ReadsInput reads_source old.left new.left old.read_faults new.read_faults (Ok v)

@@ -3,7 +3,8 @@ use Rattle.std.proofs.Common.{◌≡◌, ℕ, ◌*◌, ◌<◌, List, Ok, ap, su
 use Rattle.gs_strategy_commands.specs.{Commands.{Evaluates, OfConfirmed, SaysNumbers}, Troubles.{IsFirstWrong, IsTrouble}}
 use Rattle.gs_file.specs.{Reading.{FileGame, read_at}, declared.version.Version.{Version}, declared.version.Version.TheVariants.{Two}}
 use Rattle.gs_model.specs.{Classes.{ClassLists}, Frame.{total_weight}}
-use Rattle.gs_reply.specs.Refusals.{Refusal, Bad_game, Unlike_pair, Overflows, Many_pivots, Too_large, Bad_strategy, Wrong_number, Bad_query, Other_game, Bad_certificate}
+use Rattle.gs_reply.specs.Refusals.{Refusal, Bad_game, Unlike_pair, Overflows, Many_pivots, Too_large, Bad_strategy, Wrong_number, Bad_query, Other_game}
+use Rattle.gs_reply.specs.Refusals.{Bad_certificate}
 use Rattle.gs_reply.specs.{declared.refusals.Limit.{Limit}, declared.refusals.Limit.TheVariants.{Sequences, Cells, TableNumbers, RawCells}}
 use Rattle.gs_reply.specs.{Replies.{OfRead, Reply, Prints}, Troubles.{Passes}, declared.refusals.Which.TheVariants.{Only}, VerdictText.{verdict_text}}
 use Rattle.gs_seq.specs.{Stops.{IsSmall}, declared.plan.Plan.{Plan}}

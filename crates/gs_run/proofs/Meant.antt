@@ -180,7 +180,8 @@ hand_lines one n hands = verdict_text n ++ hands_text one.game.deck (file_rules 
 duelled : (version : Version) (one two : Strategy) (text : List ℕ) → IsStrategy version one → one.game ≡ two.game → SaysHands one two (Prints text)
     → IsDuelled one two text
 duelled version one two text is same h =
-    let r = on_raw_cards (λ n reply. (hands : List FractionParts) × AreHandValues one two hands × (reply ≡ Prints (hand_lines one n hands))) one two text same h in
+    let r = on_raw_cards (λ n reply. (hands : List FractionParts) × AreHandValues one two hands × (reply ≡ Prints (hand_lines one n hands))) one two
+    text same h in
     let dealt = λ (signal : ℕ). hands_weigh version one.game signal is.written.game in
     (r.0, r.1, dealt, (r.2.0, r.2.1, sym (text_is text (hand_lines one r.0 r.2.0) r.2.2)))
 

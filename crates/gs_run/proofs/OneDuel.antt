@@ -11,7 +11,8 @@ use Rattle.gs_raw.proofs.Dealing.{hand_some}
 use Rattle.gs_file.proofs.Dealt.{told_dealt}
 use Rattle.gs_run.proofs.OneStrategy.{over_file}
 
-hands_one : (v w : Version) (one two : Strategy) (hs gs : List FractionParts) → IsStrategy v one → IsStrategy w two → AreHandValues one two hs → AreHandValues one two gs
+hands_one : (v w : Version) (one two : Strategy) (hs gs : List FractionParts) → IsStrategy v one → IsStrategy w two → AreHandValues one two hs
+    → AreHandValues one two gs
     → hs ≡ gs
 hands_one v w one two hs gs is it h k =
     let f = strategy_frame one in

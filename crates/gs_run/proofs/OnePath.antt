@@ -152,7 +152,8 @@ shown_one p o t u ok h g =
 shown_path : SaysOne ShowsPath
 shown_path g lists (Prints a) (Prints b) t c h i =
     let p = told_playable Two g t in
-    let s = path_one (file_frame g) lists (in_range (file_rules g) p) (walked_one (file_rules g) p) (walked_two (file_rules g) p) c h.program h.opening i.program
+    let s = path_one (file_frame g) lists (in_range (file_rules g) p) (walked_one (file_rules g) p) (walked_two (file_rules g) p) c h.program
+    h.opening i.program
     i.opening h.path i.path in
     let there = shown_over h.program i.program h.opening i.opening h.trace s.programs s.openings h.shown in
     let text : a ≡ b = h.printed ∙ shown_one i.program i.opening h.trace i.trace i.path.opens there i.shown ∙ sym i.printed in
@@ -160,12 +161,14 @@ shown_path g lists (Prints a) (Prints b) t c h i =
 shown_path g lists (Prints a) (Refuses w) t c h i =
     let p = told_playable Two g t in
     let (n, l, x, stops, trace) = h.shown.path in
-    absurd (ended_or_stopped g lists (in_range (file_rules g) p) (walked_one (file_rules g) p) (walked_two (file_rules g) p) c w h.program h.opening n l i h.path
+    absurd (ended_or_stopped g lists (in_range (file_rules g) p) (walked_one (file_rules g) p) (walked_two (file_rules g) p) c w h.program
+    h.opening n l i h.path
     h.shown.small (record { stops = (length h.opening + n, x, stops) }))
 shown_path g lists (Refuses v) (Prints b) t c h i =
     let p = told_playable Two g t in
     let (n, l, x, stops, trace) = i.shown.path in
-    absurd (ended_or_stopped g lists (in_range (file_rules g) p) (walked_one (file_rules g) p) (walked_two (file_rules g) p) c v i.program i.opening n l h i.path
+    absurd (ended_or_stopped g lists (in_range (file_rules g) p) (walked_one (file_rules g) p) (walked_two (file_rules g) p) c v i.program
+    i.opening n l h i.path
     i.shown.small (record { stops = (length i.opening + n, x, stops) }))
 shown_path g lists (Refuses v) (Refuses w) t c h i =
     let p = told_playable Two g t in

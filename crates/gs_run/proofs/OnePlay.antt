@@ -5,7 +5,8 @@ use Rattle.gs_model.proofs.{BestOnce.{best_values_are_one}, FirstBest.{one_choic
 use Rattle.gs_model.proofs.Total.{sum_z-same_all}
 use Rattle.gs_model.specs.{BestAnswers.{IsBestValues, IsFirstBestPlan, Values, end_worth}, Classes.{ClassLists, IsClass, IsClasses, class_of, first_member}}
 use Rattle.gs_model.specs.Deals.{Deal}
-use Rattle.gs_model.specs.Frame.{Frame, ancestor, at_round, end_count, last_round, last_step, move_count, other_player, payoff_to, player_at, point_count, round_of, signal_count}
+use Rattle.gs_model.specs.Frame.{Frame, ancestor, at_round, end_count, last_round, last_step, move_count, other_player, payoff_to, player_at, point_count}
+use Rattle.gs_model.specs.Frame.{round_of, signal_count}
 use Rattle.gs_model.specs.{FrameFacts.{InRange, IsWalked}, Payoff.{number_at_end}, Plans.{Plan, lift, number_before}}
 use Rattle.gs_model.specs.{Play.{IsFictitiousPlay, IsFirstMoves, IsPlanSum}, Positions.{Step, at_end, at_point}}
 use Rattle.gs_run.specs.Answers.{SameNumbers}

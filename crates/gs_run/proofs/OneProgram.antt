@@ -1,5 +1,6 @@
 -- Programs with the same numbers have the same paths.
-use Rattle.std.proofs.Common.{◌≡◌, ◌⊎◌, ℕ, zero, suc, ◌+◌, ◌-◌, ◌*◌, ◌<◌, ◌≤◌, false, List, [], ◌∷◌, length, slice_index_or, ℤ, pos, neg_ℤ, ◌*ℤ◌, ◌≤ℤ◌, ◌<ℤ◌, refl, sym, ap, ◌∙◌, subst, inl, inr, arith}
+use Rattle.std.proofs.Common.{◌≡◌, ◌⊎◌, ℕ, zero, suc, ◌+◌, ◌-◌, ◌*◌, ◌<◌, ◌≤◌, false, List, [], ◌∷◌, length, slice_index_or, ℤ, pos, neg_ℤ, ◌*ℤ◌, ◌≤ℤ◌, ◌<ℤ◌}
+use Rattle.std.proofs.Common.{refl, sym, ap, ◌∙◌, subst, inl, inr, arith}
 use Rattle.std.proofs.{lemmas.List.{length-map}, lemmas.Bool.{cases_lt, true≢false}, Math.Path.{fun_ext}}
 use Rattle.std.specs.{Vec.{vec_items}, List.{HoldsAt}}
 use Rattle.gs_simplex.specs.Path.{AllNarrow, Enters, IsFirstWide, IsPath, IsPivot, IsWhole, Leaves, NoneEnters, NoneLeaves, PathStop, PathStops, States, Stops}

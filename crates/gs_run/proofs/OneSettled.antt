@@ -89,7 +89,8 @@ weights_one f lists player x y h k same =
 -- the verdict on two lists of weights
 abbrev VerdictBy : FileGame → ClassLists → Weights → Weights → Numbers → Type 0
 VerdictBy g lists a b n =
-    IsVerdict (file_frame g) (lift (file_frame g) lists (plan_of (file_frame g) lists a.total a.weights)) (lift (file_frame g) lists (plan_of (file_frame g) lists b.total b.weights))
+    IsVerdict (file_frame g) (lift (file_frame g) lists (plan_of (file_frame g) lists a.total a.weights))
+    (lift (file_frame g) lists (plan_of (file_frame g) lists b.total b.weights))
     (over n.value) (over n.gap1) (over n.gap2)
 
 abbrev core : FileGame → ClassLists → Weights → Weights → Numbers → Strategy
@@ -142,7 +143,8 @@ second_plan g lists one two text h =
     (subst (λ (l : ClassLists). IsPlan (file_frame g) l 2 h.strategy.two.total h.strategy.two.weights) h.classes
     (subst (λ (x : FileGame). IsPlan (file_frame x) h.strategy.classes 2 h.strategy.two.total h.strategy.two.weights) h.game h.second_is))
 
-pub text_classes : (g : FileGame) (lists : ClassLists) (one two : Plan) (text : List ℕ) → IsSettledText g lists one two text → IsClasses (file_frame g).parents lists
+pub text_classes : (g : FileGame) (lists : ClassLists) (one two : Plan) (text : List ℕ) → IsSettledText g lists one two text
+    → IsClasses (file_frame g).parents lists
 text_classes g lists one two text h =
     subst (λ (l : ClassLists). IsClasses (file_frame g).parents l) h.classes
     (subst (λ (x : FileGame). IsClasses (file_frame x).parents h.strategy.classes) h.game h.are_classes)

@@ -1,5 +1,6 @@
 -- What `solve` and `path` say is one.
-use Rattle.std.proofs.Common.{◌≡◌, ◌⊎◌, ℕ, zero, suc, ◌+◌, ◌*◌, ◌^◌, ◌<◌, ◌≤◌, ◌==◌, ◌||◌, ◌++◌, Bool, List, map, length, slice_index_or, ℤ, pos, ◌*ℤ◌, refl, sym, ap, ◌∙◌, subst, inl, inr, arith, unsigned_abs}
+use Rattle.std.proofs.Common.{◌≡◌, ◌⊎◌, ℕ, zero, suc, ◌+◌, ◌*◌, ◌^◌, ◌<◌, ◌≤◌, ◌==◌, ◌||◌, ◌++◌, Bool, List, map, length, slice_index_or, ℤ, pos, ◌*ℤ◌, refl}
+use Rattle.std.proofs.Common.{sym, ap, ◌∙◌, subst, inl, inr, arith, unsigned_abs}
 use Rattle.std.proofs.{lemmas.List.{get_or_default, same_lists}, lemmas.Nat.Gcd.{dvd_antisymm, le_of_dvd}}
 use Rattle.std.specs.{Prelude.{filter, not, slice_index}, Int.{◌∣◌}, List.{list_any, range_with_len}}
 use Rattle.gs_frac.proofs.OneForm.{lower_of}
@@ -24,8 +25,10 @@ use Rattle.gs_run.proofs.OneSettled.{SaysOne, settles_one, text_of_one}
 use Rattle.gs_strategy.proofs.OneReading.{one_least}
 use Rattle.gs_file.proofs.Dealt.{told_playable}
 use Rattle.gs_file.specs.{Reading.{FileGame, file_rules}, declared.version.Version.TheVariants.{Two}}
-use Rattle.gs_reply.specs.Refusals.{Refusal, Overflows, Many_pivots, Too_large, Bad_game, Unlike_pair, Bad_strategy, Wrong_number, Bad_query, Other_game, Bad_certificate}
-use Rattle.gs_reply.specs.{declared.refusals.Limit.TheVariants.{Sequences, Cells, TableNumbers, RawCells}, declared.refusals.Overflow.TheVariants.{AtStep, AtTotal}}
+use Rattle.gs_reply.specs.Refusals.{Refusal, Overflows, Many_pivots, Too_large, Bad_game, Unlike_pair, Bad_strategy, Wrong_number, Bad_query, Other_game}
+use Rattle.gs_reply.specs.Refusals.{Bad_certificate}
+use Rattle.gs_reply.specs.declared.refusals.Limit.TheVariants.{Sequences, Cells, TableNumbers, RawCells}
+use Rattle.gs_reply.specs.declared.refusals.Overflow.TheVariants.{AtStep, AtTotal}
 use Rattle.gs_reply.specs.Replies.{Reply, Prints, Refuses}
 use Rattle.gs_game_commands.specs.{Solving.{SaysStopped, SaysUnsolved, Solves}, Settling.{Settles}}
 use Rattle.gs_words.specs.declared.request.Grouping.{Grouping}
@@ -233,7 +236,8 @@ over_same n xs ys from count m same few h =
       over = h.over;
     }
 
-within_same : (n : ℕ) (xs ys : List Fraction) (from count : ℕ) → SameFractions n xs ys → from + count ≤ n → IsLcmWithin xs from count → IsLcmWithin ys from count
+within_same : (n : ℕ) (xs ys : List Fraction) (from count : ℕ) → SameFractions n xs ys → from + count ≤ n → IsLcmWithin xs from count
+    → IsLcmWithin ys from count
 within_same n xs ys from count same few (m, h, low) = (m, multiple_same n xs ys from count m same few h, low)
 
 -- a plan of little total has no total that is too large
@@ -242,7 +246,8 @@ plan_or_over : (xs : List Fraction) (from count m : ℕ) (x : Plan) → Fraction
 plan_or_over xs from count m x any some few h g =
     let (k, lk, old, next) = g.place in
     let over = g.over in
-    let divides = multiple_divides_totals xs from (suc k) m any next x.total (sequence_weight x.total x.weights.items) some (λ s l d. h.shares s (omega arith) d) in
+    let divides = multiple_divides_totals xs from (suc k) m any next x.total (sequence_weight x.total x.weights.items) some
+    (λ s l d. h.shares s (omega arith) d) in
     let le = le_of_dvd some divides in
     omega arith
 
@@ -290,7 +295,8 @@ unsolved_kind : (g : FileGame) (lists : ClassLists) (why : Refusal) → SaysUnso
 unsolved_kind g lists (Overflows (AtTotal player m)) h = inr (inr (player, m, refl, h.0, h.1, h.2, h.3, h.4, h.5))
 unsolved_kind g lists why h = elim (stopped_kind g lists why h) [ inl a ↦ inl a | inr b ↦ inr (inl b) ]
 
-small_or_table : (f : Frame) (lists : ClassLists) (p : Program) (o : Listing) (count : ℕ) → IsGamePath f lists p o → IsSmallTable p → count ≡ table_numbers f lists
+small_or_table : (f : Frame) (lists : ClassLists) (p : Program) (o : Listing) (count : ℕ) → IsGamePath f lists p o → IsSmallTable p
+    → count ≡ table_numbers f lists
     → 1048576 < count → ⊥
 small_or_table f lists p o count path small e over =
     let rows = path.program.rows in
@@ -418,11 +424,13 @@ module _ (g : FileGame) (lists : ClassLists) (r : InRange (file_frame g)) (w1 : 
           let long = there.values in
           let any = some_of c.value.items (omega arith) in
           elim over [
-            | inl a ↦ plan_or_over b.value.items 0 (form_sizes (file_frame g) lists).ones m x any h.one.plan.plan.total_in.0 h.one.plan.plan.total_in.1 plans.one
+            | inl a ↦ plan_or_over b.value.items 0 (form_sizes (file_frame g) lists).ones m x any h.one.plan.plan.total_in.0
+                h.one.plan.plan.total_in.1 plans.one
                 (over_same p.cols c.value.items b.value.items 0 (form_sizes (file_frame g) lists).ones m same.values (omega arith) a.1)
             | inr a ↦ plan_or_over b.price.items (first_slack (form_sizes (file_frame g) lists)) (form_sizes (file_frame g) lists).twos m y any
                 h.two.plan.plan.total_in.0 h.two.plan.plan.total_in.1 plans.two
-                (over_same p.cols c.price.items b.price.items (first_slack (form_sizes (file_frame g) lists)) (form_sizes (file_frame g) lists).twos m same.prices
+                (over_same p.cols c.price.items b.price.items (first_slack (form_sizes (file_frame g) lists))
+                (form_sizes (file_frame g) lists).twos m same.prices
                 (omega arith) a.2)
           ]
 
@@ -437,7 +445,8 @@ module _ (g : FileGame) (lists : ClassLists) (r : InRange (file_frame g)) (w1 : 
 solved_one : SaysOne Solves
 solved_one g lists (Prints a) (Prints b) t c h i =
     let p = told_playable Two g t in
-    let both = solution_one (file_frame g) lists (in_range (file_rules g) p) (walked_one (file_rules g) p) (walked_two (file_rules g) p) c h.one h.two i.one i.two
+    let both = solution_one (file_frame g) lists (in_range (file_rules g) p) (walked_one (file_rules g) p)
+    (walked_two (file_rules g) p) c h.one h.two i.one i.two
     h.solution i.solution in
     ap (λ (x : List ℕ). Prints x) (text_of_one g lists h.one h.two i.one i.two a b t both.one both.two h.told i.told)
 solved_one g lists (Prints a) (Refuses w) t c h i =

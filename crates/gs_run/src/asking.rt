@@ -5,10 +5,12 @@ ghost use Rattle.gs_run.specs.{Asking.{Asks, reads}, Making.{Makes}};
 ghost use Rattle.gs_reply.specs.Replies.{Answers};
 ghost use Rattle.gs_words.specs.Tasks.{IsInRange, Make, task_of};
 
-use gs_raw_commands::{duel_answer, judge_answer};
-use gs_strategy_commands::{certify_answer, evaluate_answer, query_answer, upgrade_answer, verify_answer};
 use gs_game_commands::{check_answer, path_answer, play_answer, shrink_answer, solve_answer};
+use gs_raw_commands::{duel_answer, judge_answer};
 use gs_reply::Stop;
+use gs_strategy_commands::{
+    certify_answer, evaluate_answer, query_answer, upgrade_answer, verify_answer,
+};
 use gs_words::{Kind, Request, made_game};
 use std::alloc::Global;
 

@@ -1,5 +1,6 @@
 -- The pairs of each end's round, and how many there can be.
-use Rattle.std.proofs.Common.{◌≡◌, ℕ, zero, suc, ◌+◌, ◌-◌, ◌*◌, ◌<◌, ◌≤◌, ◌^◌, List, [], ◌∷◌, ◌++◌, length, get_or, map, take, sym, ap, ◌∙◌, subst, arith, sum_by, count_by, Vec, ⊎_elim}
+use Rattle.std.proofs.Common.{◌≡◌, ℕ, zero, suc, ◌+◌, ◌-◌, ◌*◌, ◌<◌, ◌≤◌, ◌^◌, List, [], ◌∷◌, ◌++◌, length, get_or, map, take, sym, ap, ◌∙◌, subst, arith}
+use Rattle.std.proofs.Common.{sum_by, count_by, Vec, ⊎_elim}
 use Rattle.std.proofs.{Math.Nat.{mul-le-mul_right}, lemmas.Bool.{cases_lt}, lemmas.List.{get_or_append_left, get_or_push, get_or_read, length-map, length_push}}
 use Rattle.std.proofs.{lemmas.List.FromFn.{length-range_with_len}, lemmas.List.Sums.{count_by-le-length, sum_by-le, sum_by_more}}
 use Rattle.std.specs.{Prelude.{All}, declared.alloc.Global.{Global}}

@@ -1,5 +1,6 @@
 -- The row of a class from the rows of the next round: what the pairs of the classes below it add up to.
-use Rattle.std.proofs.Common.{⊎_elim, set, append-nil, ◌≡◌, ◌≢◌, ℕ, ℤ, pos, zero, suc, ◌+◌, ◌-◌, ◌<◌, ◌≤◌, Bool, true, false, true≢false, cond, not, List, [], ◌∷◌, ◌++◌, length, get_or, map, refl, sym, ap, ◌∙◌, subst, arith, sum_by, eqb, Vec, IsPermutation}
+use Rattle.std.proofs.Common.{⊎_elim, set, append-nil, ◌≡◌, ◌≢◌, ℕ, ℤ, pos, zero, suc, ◌+◌, ◌-◌, ◌<◌, ◌≤◌, Bool, true, false, true≢false, cond, not, List, []}
+use Rattle.std.proofs.Common.{◌∷◌, ◌++◌, length, get_or, map, refl, sym, ap, ◌∙◌, subst, arith, sum_by, eqb, Vec, IsPermutation}
 use Rattle.std.proofs.{Math.IntN.{*ℤ-zero}, lemmas.Bool.{cases_eq}, lemmas.Bool.Decides.{Decides-eqb}, lemmas.Cmp.{ranked}, lemmas.Int.{ints}}
 use Rattle.std.proofs.{lemmas.List.{get_or-set_other, get_or-set_same, length-set}, lemmas.List.Elements.{All-filter, All-from_recursion, recursion_from_All}}
 use Rattle.std.proofs.lemmas.List.FromFn.{filter_of_map_range_with_len_more, get_or-range_with_len, length-range_with_len}

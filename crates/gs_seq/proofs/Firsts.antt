@@ -1,5 +1,6 @@
 -- Weights of the first moves, class by class.
-use Rattle.std.proofs.Common.{◌≡◌, ℕ, zero, suc, ◌+◌, ◌-◌, ◌*◌, ◌<◌, ◌≤◌, List, length, get_or, set, sum_by, refl, true, sym, ap, ◌∙◌, subst, arith, Option, Some, None, ⊎_elim, get_or-set_other, get_or-set_same}
+use Rattle.std.proofs.Common.{◌≡◌, ℕ, zero, suc, ◌+◌, ◌-◌, ◌*◌, ◌<◌, ◌≤◌, List, length, get_or, set, sum_by, refl, true, sym, ap, ◌∙◌, subst, arith, Option}
+use Rattle.std.proofs.Common.{Some, None, ⊎_elim, get_or-set_other, get_or-set_same}
 use Rattle.std.proofs.{Math.Nat.{mul-le-mul_right}, lemmas.Bool.{cases_eq}, lemmas.Bool.Decides.{Decides-eqb}, lemmas.List.Sums.{sum_by-cons}}
 use Rattle.std.specs.{List.{range_with_len}, Prelude.{◌==◌}}
 use Rattle.gs_model.specs.Classes.{ClassLists, IsClass, IsClasses, class_count, class_of, first_member}

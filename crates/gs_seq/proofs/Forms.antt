@@ -10,7 +10,8 @@ use Rattle.gs_model.specs.{FrameFacts.{InRange, IsWalked}, Game.{round_count}, L
 use Rattle.gs_model.proofs.{Ranges.{in_range as in_range_of, signal_count_is}, Walked.{last_round_of}}
 use Rattle.gs_tree.specs.{Trees.{rules_of}, declared.signals.Signals.{Signals}}
 use Rattle.gs_seq.specs.{Abstracts.{abstract_frame, game_in, lists_of}, Games.{frame_in}, declared.form.Abstract.{Abstract}}
-use Rattle.gs_seq.proofs.{Ends.{end_reads, end_round}, FewMoves.{AreFewMoves, moves_few}, Points.{Reads, length-points, playable, point_reads, walked as walked_by}}
+use Rattle.gs_seq.proofs.{Ends.{end_reads, end_round}, FewMoves.{AreFewMoves, moves_few}}
+use Rattle.gs_seq.proofs.Points.{Reads, length-points, playable, point_reads, walked as walked_by}
 use Rattle.gs_seq.proofs.{Sizes.{AreModest, modest}, SlotLaws.{class_few, over}}
 
 -- what holds of one frame and classes holds of the same
@@ -88,7 +89,8 @@ form_leads a game ps q p m x e points l is lm isx =
     let out = own_point (point f q) in
     let here : point_of p ≡ own_point (point f q) =
     ap point_of is ∙ sym (get_or-map point_of ps q p out (omega (arith, length-points (game_in a) ps seen, l)))
-    ∙ ap (λ (xs : List OwnPoint). get_or xs q out) seen ∙ get_or-map own_point f.points q (record { player = 0; round = 1; one = None; two = None; moves = [] }) out l in
+    ∙ ap (λ (xs : List OwnPoint). get_or xs q out) seen
+    ∙ get_or-map own_point f.points q (record { player = 0; round = 1; one = None; two = None; moves = [] }) out l in
     leads_is a q p m x here (omega (arith, (form_reads a game ps q p e points l is).moves, lm)) isx
 
 pub form_class_few : (a : Abstract) → (round : ℕ) → 0 < round → round ≤ last_round (abstract_frame a)

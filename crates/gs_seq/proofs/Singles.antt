@@ -1,5 +1,6 @@
 -- The row of a class of one signal is made of the signal's deals, and as many pairs are made as there are deals.
-use Rattle.std.proofs.Common.{◌≡◌, ℕ, ℤ, pos, zero, suc, ◌+◌, ◌*◌, ◌<◌, ◌≤◌, Bool, true, false, cond, List, [], ◌∷◌, length, get_or, map, refl, sym, ap, ◌∙◌, subst, arith, sum_by, count_by, eqb, nat_lt, ⊎_elim}
+use Rattle.std.proofs.Common.{◌≡◌, ℕ, ℤ, pos, zero, suc, ◌+◌, ◌*◌, ◌<◌, ◌≤◌, Bool, true, false, cond, List, [], ◌∷◌, length, get_or, map, refl, sym, ap, ◌∙◌}
+use Rattle.std.proofs.Common.{subst, arith, sum_by, count_by, eqb, nat_lt, ⊎_elim}
 use Rattle.std.proofs.{Math.IntN.{+ℤ_idl}, lemmas.Bool.{cases_lt}, lemmas.Bool.Decides.{Decides-eqb}, lemmas.Int.{ints}, lemmas.List.{length-map}}
 use Rattle.std.proofs.{lemmas.List.Elements.{All-from_recursion, All-head, All-tail, recursion_from_All}, lemmas.List.Sums.{get_or-le-sum_by, sum_by-cons}}
 use Rattle.std.specs.{Prelude.{◌==◌, ◌+ℤ◌, ◌*ℤ◌, All, filter}, List.{AllByRecursion, range_with_len}}

@@ -1,11 +1,13 @@
 -- How large the numbers of a valid game are.
-use Rattle.std.proofs.Common.{◌≡◌, ℕ, zero, suc, ◌-◌, ◌*◌, ◌<◌, ◌≤◌, ◌^◌, min, List, [], ◌∷◌, length, map, refl, sym, ◌∙◌, arith, Bool, true, false, cond, Option, Some, None, inl, inr}
+use Rattle.std.proofs.Common.{◌≡◌, ℕ, zero, suc, ◌-◌, ◌*◌, ◌<◌, ◌≤◌, ◌^◌, min, List, [], ◌∷◌, length, map, refl, sym, ◌∙◌, arith, Bool, true, false, cond}
+use Rattle.std.proofs.Common.{Option, Some, None, inl, inr}
 use Rattle.std.proofs.{Math.Nat.{mul-le-mul_left}, lemmas.Bool.{cases_Bool}, lemmas.Int.{ints}, lemmas.List.Elements.{All-from_recursion}}
 use Rattle.std.specs.{Prelude.{All, pos, neg_ℤ, nat_lt, slice_index, unsigned_abs}, List.{enumerate_from}}
 use borrow.Author.Differences.{abs_is}
 use borrow.Author.Tests.{ltb-false}
 use Rattle.gs_game.specs.{Games.{game_of}, Money.{first_of, most_in}}
-use Rattle.gs_game.specs.Refusals.{Refusal, betting_refusal, card_refusal, deal_refusal, even_refusal, first_refusal, lines_refusal, put_refusal, put_too_large, too_many_lines, uneven_refusal}
+use Rattle.gs_game.specs.Refusals.{Refusal, betting_refusal, card_refusal, deal_refusal, even_refusal, first_refusal, lines_refusal, put_refusal, put_too_large}
+use Rattle.gs_game.specs.Refusals.{too_many_lines, uneven_refusal}
 use Rattle.gs_game.specs.declared.valid.ValidGame.{ValidGame}
 use Rattle.gs_model.specs.{Numbering.{greatest}, Deals.{Deal, deal_of, deals, pairings}, Frame.{Frame, end_at, end_count, total_weight, trees_of}}
 use Rattle.gs_model.specs.{Game.{Game, round_count}, Positions.{End, Show}, Signals.{Signal, signals}, Walk.{walk}}

@@ -139,7 +139,8 @@ module _ (a : Abstract) (player z c : ℕ) (row : List Pair) (u : IsAlong a play
       }
 
   pub sum_is_all : (left : List Pair) (s : ℤ) → IsCome (paid a player z n) row left s → left ≡ []
-      → s ≡ sum_z (λ e. pos (n e) *ℤ pair_sum (abstract_frame a) (lists_of a) (lists_of a) (round_of (abstract_frame a) (at_end z)) (payoff_to (abstract_frame a) player z) c e)
+      → s ≡ sum_z (λ e. pos (n e) *ℤ pair_sum (abstract_frame a) (lists_of a) (lists_of a) (round_of (abstract_frame a) (at_end z))
+      (payoff_to (abstract_frame a) player z) c e)
       (classes_in (lists_of a) (round_of (abstract_frame a) (at_end z)))
   sum_is_all left s h none =
       sum_ended (paid a player z n) row left none s h.all

@@ -1,5 +1,6 @@
 -- An opening whose pairs were checked one after another, and whose right sides are feasible, is an opening of the program.
-use Rattle.std.proofs.Common.{◌≡◌, ◌≢◌, inl, inr, ℕ, zero, suc, ◌+◌, ◌<◌, ◌≤◌, List, [], ◌∷◌, ◌++◌, length, take, slice_index_or, ℤ, pos, neg_ℤ, ◌+ℤ◌, ◌*ℤ◌, refl, sym, ap, subst, ◌∙◌, arith}
+use Rattle.std.proofs.Common.{◌≡◌, ◌≢◌, inl, inr, ℕ, zero, suc, ◌+◌, ◌<◌, ◌≤◌, List, [], ◌∷◌, ◌++◌, length, take, slice_index_or, ℤ, pos, neg_ℤ, ◌+ℤ◌, ◌*ℤ◌}
+use Rattle.std.proofs.Common.{refl, sym, ap, subst, ◌∙◌, arith}
 use Rattle.std.proofs.{lemmas.Bool.{cases_eq}, lemmas.List.{length-take-le, get_or-take, take_more}, Math.Seq.{take-length}}
 use Rattle.gs_simplex.specs.{declared.program.Program.{Program}, Sums.{sum_to}}
 use Rattle.gs_simplex.specs.Program.{number, IsFree, Listing, IsListed, RowListed, ColListed, IsPairList, IsRowsOf, CanTake, IsTakenInTurn, IsOpening}

@@ -1,5 +1,6 @@
 -- The least ratio, found place by place, tells the row that leaves; where no place has a ratio, no row leaves.
-use Rattle.std.proofs.Common.{◌≡◌, ℕ, ◌+◌, ◌<◌, ◌≤◌, ◌⊎◌, inl, inr, Option, Some, None, length, slice_index_or, ℤ, pos, ◌+ℤ◌, ◌-ℤ◌, ◌*ℤ◌, ◌≤ℤ◌, ◌<ℤ◌, refl, sym, ap, subst, ◌∙◌, arith, below_more}
+use Rattle.std.proofs.Common.{◌≡◌, ℕ, ◌+◌, ◌<◌, ◌≤◌, ◌⊎◌, inl, inr, Option, Some, None, length, slice_index_or, ℤ, pos, ◌+ℤ◌, ◌-ℤ◌, ◌*ℤ◌, ◌≤ℤ◌, ◌<ℤ◌, refl, sym}
+use Rattle.std.proofs.Common.{ap, subst, ◌∙◌, arith, below_more}
 use Rattle.gs_simplex.proofs.{Ring.{ring, linear, times_pos, cancel, cancel_pos}, Circle.{cross_trans}, PairLists.{less_one, place_of, listed_at}}
 use Rattle.gs_simplex.specs.{declared.program.Program.{Program}, Program.{Listing, IsListed, IsFree}, Path.{NoneLeaves}, declared.choice.Ratio.{Ratio}}
 use Rattle.gs_simplex.specs.Choice.{Before, NotAfter, IsRatio, IsNoRatio, IsRatioAt, IsBetter, IsLeast, IsLeastSoFar, IsLeaving}

@@ -1,5 +1,6 @@
 -- Rows that are 0 outside some places.
-use Rattle.std.proofs.Common.{◌≡◌, ◌≢◌, ℕ, ◌+◌, ◌<◌, ◌≤◌, ◌⊎◌, inl, inr, List, length, slice_index, slice_set, ℤ, pos, ◌-ℤ◌, ◌*ℤ◌, sym, ap, subst, ◌∙◌, arith, get_or-set_other, get_or-set_same}
+use Rattle.std.proofs.Common.{◌≡◌, ◌≢◌, ℕ, ◌+◌, ◌<◌, ◌≤◌, ◌⊎◌, inl, inr, List, length, slice_index, slice_set, ℤ, pos, ◌-ℤ◌, ◌*ℤ◌, sym, ap, subst, ◌∙◌, arith}
+use Rattle.std.proofs.Common.{get_or-set_other, get_or-set_same}
 use Rattle.std.proofs.{lemmas.Bool.{cases_eq, cases_lt, cases_order}, lemmas.List.{length-set}}
 use Rattle.gs_simplex.specs.{declared.program.Program.{Program}, Program.{Listing, IsListed, IsPairList, IsRowsOf}, Numbers.{at, cell, IsDivided}}
 use Rattle.gs_simplex.specs.{Table.{IsTable, IsKept}, Live.{IsOutside, AreColumnPlaces, AreFoundPlaces, IsSupport, IsChange, IsLive}}

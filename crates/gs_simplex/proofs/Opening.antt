@@ -1,5 +1,6 @@
 -- The lists of an opening are regular, the whole opening is full and feasible, and no path from there on has a basis twice.
-use Rattle.std.proofs.Common.{◌≡◌, ℕ, zero, suc, ◌+◌, ◌-◌, ◌<◌, ◌≤◌, ◌⊎◌, inl, inr, [], ◌∷◌, ◌++◌, length, slice_index_or, take, ℤ, pos, ◌*ℤ◌, neg_ℤ, ◌≤ℤ◌, ◌<ℤ◌, sym, ap, subst, ◌∙◌, arith}
+use Rattle.std.proofs.Common.{◌≡◌, ℕ, zero, suc, ◌+◌, ◌-◌, ◌<◌, ◌≤◌, ◌⊎◌, inl, inr, [], ◌∷◌, ◌++◌, length, slice_index_or, take, ℤ, pos, ◌*ℤ◌, neg_ℤ, ◌≤ℤ◌}
+use Rattle.std.proofs.Common.{◌<ℤ◌, sym, ap, subst, ◌∙◌, arith}
 use Rattle.std.proofs.{lemmas.Bool.{cases_lt}, Math.Seq.{take-length}, lemmas.List.{take_more, length_push, get_or_append_left, get_or_push}}
 use Rattle.gs_simplex.specs.{declared.program.Program.{Program}, Sums.{sum_to}}
 use Rattle.gs_simplex.specs.Program.{number, Listing, IsListed, RowListed, ColListed, IsRowsOf, CanTake, IsTakenInTurn, IsSolution, IsOpening, IsRegularList}

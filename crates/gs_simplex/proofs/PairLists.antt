@@ -1,5 +1,6 @@
 -- Lists of basic pairs: what stands in them, their rows, that a pivot keeps them regular, and that the aim's last number is its value.
-use Rattle.std.proofs.Common.{◌≡◌, ℕ, suc, ◌+◌, ◌<◌, ◌≤◌, ◌⊎◌, inl, inr, length, slice_index_or, slice_set, ℤ, pos, ◌-ℤ◌, ◌*ℤ◌, neg_ℤ, sym, ap, subst, ◌∙◌, arith, get_or-set_other, get_or-set_same}
+use Rattle.std.proofs.Common.{◌≡◌, ℕ, suc, ◌+◌, ◌<◌, ◌≤◌, ◌⊎◌, inl, inr, length, slice_index_or, slice_set, ℤ, pos, ◌-ℤ◌, ◌*ℤ◌, neg_ℤ, sym, ap, subst, ◌∙◌}
+use Rattle.std.proofs.Common.{arith, get_or-set_other, get_or-set_same}
 use Rattle.std.proofs.{lemmas.Bool.{cases_eq}, lemmas.List.{length-set}, Math.Seq.{take-length}}
 use Rattle.gs_simplex.specs.{declared.program.Program.{Program}, Sums.{sum_to}}
 use Rattle.gs_simplex.specs.Program.{aim_of, Listing, IsListed, RowListed, ColListed, IsPairList, IsRowsOf, IsRegularList, IsTakenInTurn, IsSolution}

@@ -1,5 +1,6 @@
 -- The path up to a table: its first state, one more step of the opening or one more pivot, and each way in which it stops.
-use Rattle.std.proofs.Common.{◌≡◌, ◌≢◌, ℕ, suc, ◌+◌, ◌-◌, ◌*◌, ◌<◌, ◌≤◌, inl, inr, List, [], ◌∷◌, ◌++◌, length, take, drop, slice_index_or, slice_set, ℤ, pos, neg_ℤ, ◌<ℤ◌, ◌≤ℤ◌, Option, Some, None, IfNone, MatchOption, refl, sym, ap, subst, ◌∙◌, arith}
+use Rattle.std.proofs.Common.{◌≡◌, ◌≢◌, ℕ, suc, ◌+◌, ◌-◌, ◌*◌, ◌<◌, ◌≤◌, inl, inr, List, [], ◌∷◌, ◌++◌, length, take, drop, slice_index_or, slice_set, ℤ, pos}
+use Rattle.std.proofs.Common.{neg_ℤ, ◌<ℤ◌, ◌≤ℤ◌, Option, Some, None, IfNone, MatchOption, refl, sym, ap, subst, ◌∙◌, arith}
 use Rattle.std.proofs.{lemmas.List.{take_more, length-take-le, length-drop}, Math.Seq.{take-length}}
 use Rattle.gs_simplex.specs.{declared.program.Program.{Program}, Rows.{IsPrimitive}, Elimination.{IsEliminated}}
 use Rattle.gs_simplex.specs.Program.{Listing, IsPairList, IsRowsOf, CanTake, IsTakenInTurn, IsOpening}

@@ -1,5 +1,6 @@
 -- A row divided by the greatest common divisor of its numbers: it is primitive, and after a pivot it is the row reduced by the lead.
-use Rattle.std.proofs.Common.{◌≡◌, ℕ, zero, suc, ◌+◌, ◌-◌, ◌*◌, ◌/◌, ◌<◌, ◌≤◌, ◌^◌, ◌⊎◌, inl, inr, List, length, ℤ, pos, ◌-ℤ◌, ◌*ℤ◌, ◌<ℤ◌, unsigned_abs, max, sym, ap, subst, ◌∙◌, arith, below_more}
+use Rattle.std.proofs.Common.{◌≡◌, ℕ, zero, suc, ◌+◌, ◌-◌, ◌*◌, ◌/◌, ◌<◌, ◌≤◌, ◌^◌, ◌⊎◌, inl, inr, List, length, ℤ, pos, ◌-ℤ◌, ◌*ℤ◌, ◌<ℤ◌, unsigned_abs, max}
+use Rattle.std.proofs.Common.{sym, ap, subst, ◌∙◌, arith, below_more}
 use Rattle.std.proofs.{lemmas.Bool.{cases_eq}, lemmas.Int.{ints, unsigned_abs-mul}, lemmas.Nat.Gcd.{dvd_refl, dvd-zero, dvd_trans}}
 use Rattle.std.proofs.Math.Nat.{eq-one_of_dvd-one, one-dvd, eq-zero_of_zero-dvd, mul-dvd-mul_left, dvd_of_mul-dvd-mul_left, le_of_dvd, le-div_iff_mul-le}
 use Prim.Native.Nat.{◌∣◌}
@@ -128,7 +129,11 @@ module _ (lead row : ℕ → ℤ) (c width d by : ℕ) (own far : ℤ) (mixed : 
   divided_from q h =
       let s : length mixed ≡ suc (width - 1) = omega arith in
       let P : ℕ → Type 0 = λ t. IsDivisor t (at mixed) d in
-      record { multiple = record { by = (pos by, by_positive, h) }; primitive = quotients_primitive d by (width - 1) (at mixed) q (subst P s u) e (λ j l. h j (omega arith)) }
+      record {
+        multiple = record { by = (pos by, by_positive, h) };
+        primitive = quotients_primitive d by (width - 1) (at mixed) q (subst P s u) e
+            (λ j l. h j (omega arith));
+      }
 
   pub reduced_from : (q : ℕ → ℤ) → ((j : ℕ) → j < width → at mixed j ≡ pos by *ℤ q j) → IsReduced lead c width row q
   reduced_from q h = reduced_divided lead row (at mixed) q c width own far sh is (divided_from q h)

@@ -1,5 +1,6 @@
 -- The program's rows, each divided, are the table that a path starts from.
-use Rattle.std.proofs.Common.{◌≡◌, inl, inr, ℕ, zero, suc, ◌+◌, ◌-◌, ◌*◌, ◌<◌, ◌^◌, List, [], length, slice_index, ℤ, pos, neg_ℤ, unsigned_abs, sym, ap, subst, ◌∙◌, arith}
+use Rattle.std.proofs.Common.{◌≡◌, inl, inr, ℕ, zero, suc, ◌+◌, ◌-◌, ◌*◌, ◌<◌, ◌^◌, List, [], length, slice_index, ℤ, pos, neg_ℤ, unsigned_abs, sym, ap, subst}
+use Rattle.std.proofs.Common.{◌∙◌, arith}
 use Rattle.std.proofs.lemmas.Bool.{cases_eq, cases_lt}
 use Rattle.gs_simplex.specs.{declared.program.Program.{Program}, Rows.{IsNarrow, IsPrimitive}, Program.{IsShaped, IsRowsOf}}
 use Rattle.gs_simplex.specs.{Numbers.{at, cell, AreNarrowNumbers, IsDivided}, Table.{table_rows, table_aim, IsTable, HasTops}, State.{IsRaw}}

@@ -1,5 +1,6 @@
 -- A pivot on a whole table: the table after it where all numbers are narrow, and else the first number that is not.
-use Rattle.std.proofs.Common.{◌≡◌, ◌≢◌, ℕ, suc, ◌+◌, ◌-◌, ◌*◌, ◌<◌, ◌≤◌, ◌^◌, ◌⊎◌, inl, inr, cond, nat_eq, List, length, ℤ, pos, ◌+ℤ◌, ◌-ℤ◌, ◌*ℤ◌, neg_ℤ, ◌≤ℤ◌, ◌<ℤ◌, unsigned_abs, refl, sym, ap, subst, ◌∙◌, arith}
+use Rattle.std.proofs.Common.{◌≡◌, ◌≢◌, ℕ, suc, ◌+◌, ◌-◌, ◌*◌, ◌<◌, ◌≤◌, ◌^◌, ◌⊎◌, inl, inr, cond, nat_eq, List, length, ℤ, pos, ◌+ℤ◌, ◌-ℤ◌, ◌*ℤ◌, neg_ℤ, ◌≤ℤ◌}
+use Rattle.std.proofs.Common.{◌<ℤ◌, unsigned_abs, refl, sym, ap, subst, ◌∙◌, arith}
 use Rattle.std.proofs.{lemmas.Bool.{cases_eq, cases_lt}, lemmas.Int.{ints}, lemmas.Nat.Gcd.{dvd-zero}}
 use Prim.Native.Nat.{◌∣◌}
 use Rattle.gs_simplex.specs.{declared.program.Program.{Program}, Rows.{IsNarrow, IsPrimitive}, Elimination.{IsEliminated}, Path.{IsFirstWide}}
@@ -319,7 +320,12 @@ module _ (p : Program) (old mid : List ℤ) (lead : ℕ → ℤ) (r c : ℕ) (ro
     wide_after = record {
       row = (let h : i < p.rows + 1 = cleared.inside in omega arith);
       here = elim (cases_lt i p.rows) [
-        | inl im ↦ inl (im, in_row im, row_is R a kept Q b el i cleared.here.row.0 im cleared.apart here_row j (in_row im) ∙ cleared.here.row.2 ∙ sym (stated_row im))
+        | inl im ↦ inl (
+          im,
+          in_row im,
+          row_is R a kept Q b el i cleared.here.row.0 im cleared.apart here_row j (in_row im) ∙ cleared.here.row.2
+              ∙ sym (stated_row im),
+        )
         | inr m ↦ (let e : i ≡ p.rows = (let h : i < p.rows + 1 = cleared.inside in omega arith) in
             inr (e, (let h : j < p.cols + 2 = cleared.here.inside in omega arith), aim_here e))
       ];

@@ -1,5 +1,6 @@
 -- The pivots and bases noted on the way, with the aim's value at both ends, are the trace of the path; no basis comes twice.
-use Rattle.std.proofs.Common.{◌≡◌, ℕ, ◌+◌, ◌<◌, ◌≤◌, List, Vec, Global, inl, inr, [], ◌∷◌, ◌++◌, length, slice_index, slice_index_or, ℤ, ◌*ℤ◌, refl, sym, ap, subst, ◌∙◌, arith}
+use Rattle.std.proofs.Common.{◌≡◌, ℕ, ◌+◌, ◌<◌, ◌≤◌, List, Vec, Global, inl, inr, [], ◌∷◌, ◌++◌, length, slice_index, slice_index_or, ℤ, ◌*ℤ◌, refl, sym, ap}
+use Rattle.std.proofs.Common.{subst, ◌∙◌, arith}
 use Rattle.std.proofs.{lemmas.Bool.{cases_lt}, lemmas.List.{length_push, get_or_append_left, get_or_push, get_or_default}}
 use Rattle.std.specs.{Prelude.{Contains}, List.{HoldsAt}}
 use Rattle.gs_frac.specs.declared.value.Fraction.{Fraction}

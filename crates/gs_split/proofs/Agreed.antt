@@ -1,5 +1,6 @@
 -- Sums of one signal and of another, and the numbers that they get.
-use Rattle.std.proofs.Common.{◌≡◌, ◌↔◌, ℕ, ℤ, pos, ◌-◌, ◌<◌, ◌≤◌, Bool, true, false, true≢false, cond, List, [], length, get_or, refl, sym, ap, ◌∙◌, subst, arith}
+use Rattle.std.proofs.Common.{◌≡◌, ◌↔◌, ℕ, ℤ, pos, ◌-◌, ◌<◌, ◌≤◌, Bool, true, false, true≢false, cond, List, [], length, get_or, refl, sym, ap, ◌∙◌, subst}
+use Rattle.std.proofs.Common.{arith}
 use Rattle.std.proofs.lemmas.Bool.Decides.{Decides-and, Decides-eqb, Decides-like}
 use Rattle.std.specs.{Prelude.{◌==◌}, Bool.{Decides}, Ordering.{int_eq}}
 use Rattle.gs_model.specs.{Classes.{ClassLists, class_of, first_member}, Frame.{Frame, frame_of, last_round}, Game.{Game, round_count}}

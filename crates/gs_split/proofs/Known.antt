@@ -1,5 +1,6 @@
 -- What a turn leaves to be told apart by sums, where the classes that it took the sums by have stayed.
-use Rattle.std.proofs.Common.{◌≡◌, ◌==◌, ◌+◌, ◌-◌, ◌<◌, ◌≤◌, ◌++◌, ◌∷◌, [], ℕ, ℤ, Bool, true, false, true≢false, cond, replicate, List, length, length-append, get_or, sum_by, sym, ap, ◌∙◌, subst, arith, ⊎_elim}
+use Rattle.std.proofs.Common.{◌≡◌, ◌==◌, ◌+◌, ◌-◌, ◌<◌, ◌≤◌, ◌++◌, ◌∷◌, [], ℕ, ℤ, Bool, true, false, true≢false, cond, replicate, List, length, length-append}
+use Rattle.std.proofs.Common.{get_or, sum_by, sym, ap, ◌∙◌, subst, arith, ⊎_elim}
 use Rattle.std.proofs.{lemmas.Bool.{cases_eq}, lemmas.List.{get_or-replicate, get_or_append_left, get_or_push, length-replicate}}
 use Rattle.std.specs.Ordering.{int_eq}
 use Rattle.gs_model.specs.{Classes.{ClassLists, InOneClass, list_of}, Deals.{Deal}, Frame.{Frame, ancestor, at_round, last_round, signal_count, signals_in}}

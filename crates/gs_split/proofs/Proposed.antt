@@ -1,5 +1,6 @@
 -- What is parted by fair numbers is a proposal; the mixed sums of deals and of children are fair.
-use Rattle.std.proofs.Common.{◌≡◌, ◌+◌, ◌-◌, ◌*◌, ◌<◌, ◌≤◌, ◌++◌, ℕ, ℤ, zero, suc, pos, Bool, true, false, cond, eqb, List, [], ◌∷◌, length, get_or, map, refl, replicate, sym, ap, ◌∙◌, subst, arith, slice_set, sum_by, ⊎_elim}
+use Rattle.std.proofs.Common.{◌≡◌, ◌+◌, ◌-◌, ◌*◌, ◌<◌, ◌≤◌, ◌++◌, ℕ, ℤ, zero, suc, pos, Bool, true, false, cond, eqb, List, [], ◌∷◌, length, get_or, map, refl}
+use Rattle.std.proofs.Common.{replicate, sym, ap, ◌∙◌, subst, arith, slice_set, sum_by, ⊎_elim}
 use Rattle.std.proofs.{Math.IntN.{*ℤ_comm, +ℤ_idl}, lemmas.Bool.{cases_eq}, lemmas.Bool.Decides.{Decides-eqb}, lemmas.Int.{ints}}
 use Rattle.std.proofs.lemmas.List.{get_or-map, get_or-replicate, get_or-set_other, get_or-set_same, length-replicate, map-id}
 use Rattle.std.proofs.{lemmas.List.FromFn.{map-range_with_len_more}, lemmas.List.Sums.{sum_by-append, sum_by-cons}}

@@ -1,5 +1,6 @@
 -- From the keys of a round to the new classes of all rounds, and to a turn.
-use Rattle.std.proofs.Common.{◌≡◌, ◌↔◌, ℕ, suc, ◌+◌, ◌-◌, ◌<◌, ◌≤◌, List, [], ◌∷◌, ◌++◌, length, map, get_or, sym, ap, ◌∙◌, subst, arith, ⊎_elim, length-append, Vec, Global, Result, Ok, Err}
+use Rattle.std.proofs.Common.{◌≡◌, ◌↔◌, ℕ, suc, ◌+◌, ◌-◌, ◌<◌, ◌≤◌, List, [], ◌∷◌, ◌++◌, length, map, get_or, sym, ap, ◌∙◌, subst, arith, ⊎_elim, length-append}
+use Rattle.std.proofs.Common.{Vec, Global, Result, Ok, Err}
 use Rattle.std.proofs.{lemmas.Bool.{cases_eq, cases_lt}, lemmas.List.{get_or_append_left, get_or_default, get_or_push}}
 use Rattle.std.proofs.lemmas.List.Elements.{All-from_recursion}
 use Rattle.std.specs.{Prelude.{IfOk}, List.{All, AllByRecursion}}

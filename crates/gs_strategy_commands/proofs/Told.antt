@@ -14,9 +14,11 @@ use Rattle.gs_reply.specs.{declared.refusals.Stop.{Stop}}
 use Rattle.gs_reply.specs.declared.refusals.Refusal.TheVariants as told
 use Rattle.gs_reply.specs.declared.refusals.WrongNumber.{WrongNumber}
 use Rattle.gs_seq.specs.{Games.{frame_in}, Plans.{lifted}, Stops.{IsSmall}}
-use Rattle.gs_strategy.specs.{Checks.{Reads}, Confirmed.{AreNumbersOf, IsConfirmed, strategy_frame}, Values.{Strategy}, Views.{numbers_of, parts_of, stored_view}}
+use Rattle.gs_strategy.specs.{Checks.{Reads}, Confirmed.{AreNumbersOf, IsConfirmed, strategy_frame}, Values.{Strategy}}
+use Rattle.gs_strategy.specs.Views.{numbers_of, parts_of, stored_view}
 use Rattle.gs_strategy.specs.declared.stored.Stored.{Stored}
-use Rattle.gs_strategy_commands.specs.{Held.{HoldsStrategy}, Commands.{OfConfirmed, OfStrategy}, Troubles.{IsFirstWrong, IsUnconfirmed, SaysTooLarge, SaysWrong}}
+use Rattle.gs_strategy_commands.specs.{Held.{HoldsStrategy}, Commands.{OfConfirmed, OfStrategy}}
+use Rattle.gs_strategy_commands.specs.Troubles.{IsFirstWrong, IsUnconfirmed, SaysTooLarge, SaysWrong}
 
 -- ---- refusals
 
@@ -85,6 +87,7 @@ wrong_told s n w lossless small are first =
       refl,
     )
 
-pub confirmed : (s : Stored) (n : Verdict) → IsLossless (strategy_frame (stored_view s)) s.classes.lists → IsSmall (strategy_frame (stored_view s)) s.classes.lists
+pub confirmed : (s : Stored) (n : Verdict) → IsLossless (strategy_frame (stored_view s)) s.classes.lists
+    → IsSmall (strategy_frame (stored_view s)) s.classes.lists
     → AreNumbersOf (stored_view s) (numbers_of n) → numbers_of s.verdict ≡ numbers_of n → IsConfirmed (stored_view s)
 confirmed s n lossless small are same = record { lossless = lossless; small = small; numbers = subst (AreNumbersOf (stored_view s)) (sym same) are }

@@ -1,7 +1,9 @@
 -- The lines of classes, as they grow member by member.
-use Rattle.std.proofs.Common.{◌≡◌, ◌≢◌, ℕ, ◌+◌, ◌-◌, ◌≤◌, ◌<◌, ◌==◌, true, false, List, [], ◌∷◌, ◌++◌, map, length, get_or, set, take, codes, String, Global, string_bytes, if◌then◌else◌, refl, sym, ap, ◌∙◌, append_assoc, arith, inl, inr, eq-eqb}
+use Rattle.std.proofs.Common.{◌≡◌, ◌≢◌, ℕ, ◌+◌, ◌-◌, ◌≤◌, ◌<◌, ◌==◌, true, false, List, [], ◌∷◌, ◌++◌, map, length, get_or, set, take, codes, String, Global}
+use Rattle.std.proofs.Common.{string_bytes, if◌then◌else◌, refl, sym, ap, ◌∙◌, append_assoc, arith, inl, inr, eq-eqb}
 use Rattle.std.proofs.{lemmas.Bool.{cases_Bool}, lemmas.Bool.Decides.{nat_tests}}
-use Rattle.std.proofs.lemmas.List.{append-nil, length-set, length-map, map-id, map-set, get_or-map, get_or-set_same, get_or-set_other, ext_get_or, take_more, length-take-le}
+use Rattle.std.proofs.lemmas.List.{append-nil, length-set, length-map, map-id, map-set, get_or-map, get_or-set_same, get_or-set_other, ext_get_or, take_more}
+use Rattle.std.proofs.lemmas.List.{length-take-le}
 use Rattle.std.proofs.lemmas.List.FromFn.{get_or-map-range_with_len, length-map-range_with_len, map-range_with_len_more}
 use Rattle.std.proofs.{lemmas.List.Concat.{flat_map-append, flat_map-cons}, lemmas.Grind.{get_or_default_zero}}
 use Rattle.std.specs.{Prelude.{flat_map}, List.{zip, range_with_len}, Prelude.{All, max}}

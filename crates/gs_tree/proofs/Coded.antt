@@ -1,5 +1,6 @@
 -- Numbers of lists of cards, and a table of the last place with each list.
-use Rattle.std.proofs.Common.{◌≡◌, ◌≢◌, ℕ, zero, suc, ◌+◌, ◌*◌, ◌^◌, ◌<◌, ◌≤◌, ◌++◌, List, [], ◌∷◌, length, take, get_or, set, replicate, refl, sym, ap, ◌∙◌, arith, subst, ⊎_elim, Bool, true, false, cond, Some, None, All, get_or-set_same, get_or-set_other, length-set}
+use Rattle.std.proofs.Common.{◌≡◌, ◌≢◌, ℕ, zero, suc, ◌+◌, ◌*◌, ◌^◌, ◌<◌, ◌≤◌, ◌++◌, List, [], ◌∷◌, length, take, get_or, set, replicate, refl, sym, ap, ◌∙◌}
+use Rattle.std.proofs.Common.{arith, subst, ⊎_elim, Bool, true, false, cond, Some, None, All, get_or-set_same, get_or-set_other, length-set}
 use Rattle.std.proofs.{lemmas.Bool.{cases_lt, lt-ltb, ltb-true}, lemmas.Grind.{get_or_default_zero}}
 use Rattle.std.proofs.{lemmas.List.{get_or-replicate, length-replicate, length-take-le}, lemmas.List.Elements.{All-take, recursion_from_All}}
 use Rattle.std.proofs.Math.Nat.{pow-zero, pow-succ'}
@@ -137,7 +138,8 @@ table_more key n count k size last t l h =
 
 -- the public cards of a signal are a board of the deck
 pub shown_board : (g : Game) (d : DeckValue) (paths owns publics : List ℕ) (own public i : ℕ) → IsDeck d → d.counts ≡ g.copies
-    → AreKeptCards g (round_count g) paths owns publics own public → i < last_count g → IsBoardOf (kinds d) public (public_cards (signal_at g (round_count g) i))
+    → AreKeptCards g (round_count g) paths owns publics own public → i < last_count g
+    → IsBoardOf (kinds d) public (public_cards (signal_at g (round_count g) i))
 shown_board g d paths owns publics own public i deck e h l =
     let counted : length g.copies ≡ kinds d = ap (λ (x : List ℕ). length x) (sym e) ∙ deck.counted in
     let P : ℕ → Type 0 = λ n. All (λ c. c < n) (public_cards (signal_at g (round_count g) i)) in

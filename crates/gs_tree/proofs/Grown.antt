@@ -1,5 +1,6 @@
 -- The signals of a round, by what each adds to its parent.
-use Rattle.std.proofs.Common.{◌≡◌, ℕ, zero, suc, ◌+◌, ◌<◌, List, [], ◌∷◌, ◌++◌, length, map, take, get_or, refl, sym, ap, ◌∙◌, arith, append_assoc, append-nil, add-one, length-append, drop, take-append-drop, take_all, replicate, ◌≤◌, ◌-◌}
+use Rattle.std.proofs.Common.{◌≡◌, ℕ, zero, suc, ◌+◌, ◌<◌, List, [], ◌∷◌, ◌++◌, length, map, take, get_or, refl, sym, ap, ◌∙◌, arith, append_assoc, append-nil}
+use Rattle.std.proofs.Common.{add-one, length-append, drop, take-append-drop, take_all, replicate, ◌≤◌, ◌-◌}
 use Rattle.std.proofs.{lemmas.List.{length-map}, lemmas.List.Concat.{flat_map-append}}
 use Rattle.std.specs.Prelude.{flat_map}
 use Rattle.gs_model.specs.{Game.{Game, Round, round_at}, Signals.{Seen, Signal, children, edge, last_edge, left_by, owners, showings, signals, first_child}}

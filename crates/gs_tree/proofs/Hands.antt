@@ -1,5 +1,6 @@
 -- The hand of a signal: cards of the deck, as many as its rounds give.
-use Rattle.std.proofs.Common.{◌≡◌, ℕ, zero, suc, ◌+◌, ◌-◌, ◌<◌, ◌≤◌, ◌++◌, List, [], ◌∷◌, length, take, take_all, get_or, refl, sym, ap, ◌∙◌, arith, subst, All, append-nil, length-append}
+use Rattle.std.proofs.Common.{◌≡◌, ℕ, zero, suc, ◌+◌, ◌-◌, ◌<◌, ◌≤◌, ◌++◌, List, [], ◌∷◌, length, take, take_all, get_or, refl, sym, ap, ◌∙◌, arith, subst, All}
+use Rattle.std.proofs.Common.{append-nil, length-append}
 use Rattle.std.proofs.{lemmas.Bool.{eqb-true}, lemmas.List.Concat.{flat_map-append}, lemmas.List.Elements.{All-append}, lemmas.List.Sums.{sum_by_more}}
 use Rattle.std.specs.Prelude.{true}
 use Rattle.gs_card.specs.Decks.{DeckValue, kinds}

@@ -1,5 +1,6 @@
 -- What the tables say of one signal.
-use Rattle.std.proofs.Common.{◌≡◌, ℕ, zero, suc, ◌+◌, ◌-◌, ◌<◌, ◌≤◌, List, [], ◌∷◌, ◌++◌, length, map, get_or, refl, sym, ap, ◌∙◌, arith, subst, ⊎_elim, length-append, All, append-nil, append_assoc, vec_len}
+use Rattle.std.proofs.Common.{◌≡◌, ℕ, zero, suc, ◌+◌, ◌-◌, ◌<◌, ◌≤◌, List, [], ◌∷◌, ◌++◌, length, map, get_or, refl, sym, ap, ◌∙◌, arith, subst, ⊎_elim}
+use Rattle.std.proofs.Common.{length-append, All, append-nil, append_assoc, vec_len}
 use Rattle.std.proofs.{lemmas.Bool.{cases_lt}, lemmas.List.{length-map, get_or-map, get_or_append_left, get_or-append_right}, Math.Seq.{get_or-append_seam}}
 use Rattle.std.specs.{Prelude.{flat_map}, Global.{Vec}}
 use Rattle.gs_game.specs.{Games.{round_rules}, declared.game.Round.{Round as GameRound}}

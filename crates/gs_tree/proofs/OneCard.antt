@@ -1,5 +1,6 @@
 -- Groups of one card.
-use Rattle.std.proofs.Common.{◌≡◌, ℕ, zero, suc, ◌+◌, ◌*◌, ◌-◌, ◌<◌, List, [], ◌∷◌, ◌++◌, length, map, get_or, refl, sym, ap, ◌∙◌, arith, nat_lt, cond, eqb, append_assoc, append-nil, true, false}
+use Rattle.std.proofs.Common.{◌≡◌, ℕ, zero, suc, ◌+◌, ◌*◌, ◌-◌, ◌<◌, List, [], ◌∷◌, ◌++◌, length, map, get_or, refl, sym, ap, ◌∙◌, arith, nat_lt, cond, eqb}
+use Rattle.std.proofs.Common.{append_assoc, append-nil, true, false}
 use Rattle.std.proofs.{lemmas.List.{map-append}, lemmas.List.Concat.{flat_map-append}, lemmas.Grind.{common_steps}}
 use Rattle.std.specs.{Prelude.{flat_map, count_by, ◌==◌}, List.{range_with_len}}
 use Rattle.gs_model.specs.Cards.{choose, groups, groups_above, groups_with, ways, ways_from}

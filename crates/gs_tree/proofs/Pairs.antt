@@ -1,5 +1,6 @@
 -- The pairs of last-round signals by number: row by row, all of them, one row, one step.
-use Rattle.std.proofs.Common.{◌≡◌, ◌≢◌, ℕ, zero, suc, ◌+◌, ◌-◌, ◌*◌, ◌/◌, ◌%◌, ◌<◌, ◌≤◌, List, [], ◌∷◌, ◌++◌, length, map, get_or, refl, sym, ap, ◌∙◌, arith, Bool, true, false, cond, nat_lt, eqb, ⊎_elim}
+use Rattle.std.proofs.Common.{◌≡◌, ◌≢◌, ℕ, zero, suc, ◌+◌, ◌-◌, ◌*◌, ◌/◌, ◌%◌, ◌<◌, ◌≤◌, List, [], ◌∷◌, ◌++◌, length, map, get_or, refl, sym, ap, ◌∙◌, arith}
+use Rattle.std.proofs.Common.{Bool, true, false, cond, nat_lt, eqb, ⊎_elim}
 use Rattle.std.proofs.{lemmas.Bool.{cases_eq}, lemmas.List.{map-append, append-nil}, lemmas.List.Folds.{flat_map-map}}
 use Rattle.std.proofs.{lemmas.List.FromFn.{fill_by_all, length-enumerate_from, get_or-enumerate_from}, lemmas.Bool.Decides.{Decides-eqb}}
 use Rattle.std.proofs.{lemmas.Nat.{div-mul-add, mod-mul-add}, lemmas.Simd.{map-map}}

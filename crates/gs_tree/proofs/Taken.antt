@@ -1,5 +1,6 @@
 -- The copies left once cards are taken, card by card.
-use Rattle.std.proofs.Common.{◌≡◌, ℕ, zero, suc, ◌+◌, ◌-◌, ◌<◌, List, [], ◌∷◌, ◌++◌, length, take, get_or, refl, sym, ap, ◌∙◌, arith, slice_index, slice_set, subst, All, ◌≤◌, ◌*◌, ◌/◌, ◌^◌, take_all}
+use Rattle.std.proofs.Common.{◌≡◌, ℕ, zero, suc, ◌+◌, ◌-◌, ◌<◌, List, [], ◌∷◌, ◌++◌, length, take, get_or, refl, sym, ap, ◌∙◌, arith, slice_index, slice_set}
+use Rattle.std.proofs.Common.{subst, All, ◌≤◌, ◌*◌, ◌/◌, ◌^◌, take_all}
 use Rattle.std.proofs.{lemmas.List.{take_more}, lemmas.List.Elements.{All-from_recursion, recursion_from_All}}
 use Rattle.std.specs.{Prelude.{count_by, ◌==◌}, List.{AllByRecursion}}
 use Rattle.gs_model.specs.Cards.{left_after, left_from, ways}

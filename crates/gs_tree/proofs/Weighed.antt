@@ -1,5 +1,6 @@
 -- What the deals of a plain game weigh: one for each two signals on a board.
-use Rattle.std.proofs.Common.{◌≡◌, ◌+◌, ◌-◌, ◌*◌, ◌<◌, ◌≤◌, ℕ, List, [], ◌∷◌, length, get_or, refl, sym, ap, ◌∙◌, arith, subst, Bool, true, false, cond, eqb, ⊎_elim}
+use Rattle.std.proofs.Common.{◌≡◌, ◌+◌, ◌-◌, ◌*◌, ◌<◌, ◌≤◌, ℕ, List, [], ◌∷◌, length, get_or, refl, sym, ap, ◌∙◌, arith, subst, Bool, true, false, cond, eqb}
+use Rattle.std.proofs.Common.{⊎_elim}
 use Rattle.std.proofs.{lemmas.Bool.{cases_eq, cases_lt}, lemmas.Grind.{common_steps}}
 use Rattle.std.specs.Prelude.{◌&&◌}
 use Rattle.gs_model.specs.{Cards.{left_after, ways}, Deals.{own_ways, path_weight, same_cards, same_public}, Game.{Game, round_count}}

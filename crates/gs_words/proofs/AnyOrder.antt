@@ -1,5 +1,6 @@
 -- Options in any order, as a parse of a command reads them.
-use Rattle.std.proofs.Common.{◌≡◌, ◌==◌, ◌++◌, ◌||◌, not, Bool, true, false, refl, List, [], ◌∷◌, fold, codes, if◌then◌else◌, ap, ◌∙◌, sym, append_assoc, append-nil, inl, inr}
+use Rattle.std.proofs.Common.{◌≡◌, ◌==◌, ◌++◌, ◌||◌, not, Bool, true, false, refl, List, [], ◌∷◌, fold, codes, if◌then◌else◌, ap, ◌∙◌, sym, append_assoc}
+use Rattle.std.proofs.Common.{append-nil, inl, inr}
 use Rattle.std.proofs.{lemmas.Bool.{and_parts, cases_Bool}, lemmas.Bool.Decides.{nat_tests}, Common.{arith}}
 use Rattle.std.specs.{List.{list_all}, Str.{bytes_eq}}
 use Rattle.clap.specs.Walk.{Held, Row, Rule, Text, finished, has_row, is_empty, nothing_held, reacted, settled, used, walk_from, walked, with_default}
@@ -7,7 +8,8 @@ use Rattle.clap.specs.{Simple.{Shape}, Faults.{check_fault, default_fault, defau
 use Rattle.clap.specs.Kinds.{Kinds}
 use Rattle.clap.proofs.FaultLemmas.{past}
 use Rattle.gs_words.specs.Plain.{Given, valued, flagged, is_plain_value, name_of, option_words, stand_once}
-use Rattle.gs_words.proofs.Options.{IsValued, IsFlag, row_with, has_got, value_walk, value_clean, value_rows, value_settles, flag_walk, flag_clean, flag_rows, flag_uses}
+use Rattle.gs_words.proofs.Options.{IsValued, IsFlag, row_with, has_got, value_walk, value_clean, value_rows, value_settles, flag_walk, flag_clean, flag_rows}
+use Rattle.gs_words.proofs.Options.{flag_uses}
 
 -- the option is one of R, in its form
 abbrev pub IsGiven : List Rule → Given → Type 0

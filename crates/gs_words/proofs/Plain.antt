@@ -1,5 +1,6 @@
 -- Plain words are a request.
-use Rattle.std.proofs.Common.{◌≡◌, ◌&&◌, ◌||◌, not, ℕ, Bool, true, false, refl, List, [], ◌∷◌, Option, Some, None, is_some, IsTrue, IsSome, codes, ap, ◌∙◌, inl, inr}
+use Rattle.std.proofs.Common.{◌≡◌, ◌&&◌, ◌||◌, not, ℕ, Bool, true, false, refl, List, [], ◌∷◌, Option, Some, None, is_some, IsTrue, IsSome, codes, ap, ◌∙◌, inl}
+use Rattle.std.proofs.Common.{inr}
 use Rattle.std.proofs.lemmas.Bool.{and_parts, cases_Bool, false≢true}
 use Rattle.std.specs.{Prelude.{option_and_then, option_map}, List.{list_all, list_any}, Str.{bytes_eq}}
 use Rattle.clap.specs.{Words.{Row, Text, built, first_of}, Takes.{is_given}, Walk.{finished}, Faults.{check_fault}}

@@ -70,7 +70,8 @@ reply_reached (suc (suc (suc zero))) (suc (suc (suc zero))) l h m = refl
 reply_reached (suc (suc (suc zero))) (suc (suc (suc (suc c)))) l h m = absurd (omega (arith, m.1))
 reply_reached (suc (suc (suc (suc q)))) c l h m = absurd (omega arith)
 
-reply_most : (q k c : ℕ) → q < point_count (frame_of kuhn) → player_at (frame_of kuhn) q ≡ 2 → k < move_count (frame_of kuhn) q → IsClass apart (round_of (frame_of kuhn) (at_point q)) c
+reply_most : (q k c : ℕ) → q < point_count (frame_of kuhn) → player_at (frame_of kuhn) q ≡ 2 → k < move_count (frame_of kuhn) q
+    → IsClass apart (round_of (frame_of kuhn) (at_point q)) c
     → class_worth (frame_of kuhn) apart reply_values q k c ≤ℤ reply_values (at_point q) c
 unfolding ancestor round_of last_step payoff_to player_at move_count leads_to
 reply_most zero k c l h i m = absurd (omega (arith, h))
@@ -99,7 +100,8 @@ reply_most (suc (suc (suc zero))) (suc zero) (suc (suc (suc (suc c)))) l h i m =
 reply_most (suc (suc (suc zero))) (suc (suc k)) c l h i m = absurd (omega arith)
 reply_most (suc (suc (suc (suc q)))) k c l h i m = absurd (omega arith)
 
-reply_first : (q k c : ℕ) → q < point_count (frame_of kuhn) → player_at (frame_of kuhn) q ≡ 2 → IsClass apart (round_of (frame_of kuhn) (at_point q)) c → k < reply_move q c
+reply_first : (q k c : ℕ) → q < point_count (frame_of kuhn) → player_at (frame_of kuhn) q ≡ 2 → IsClass apart (round_of (frame_of kuhn) (at_point q)) c
+    → k < reply_move q c
     → class_worth (frame_of kuhn) apart reply_values q k c <ℤ reply_values (at_point q) c
 unfolding ancestor round_of last_step payoff_to player_at move_count leads_to
 reply_first zero k c l h m i = absurd (omega (arith, h))
@@ -169,10 +171,12 @@ one_flow (suc (suc (suc (suc q)))) c l h i = absurd (omega arith)
 one_firsts : IsFirstMoves (frame_of kuhn) apart 1 firsts
 one_firsts = record { plan = record { total_in = (omega arith, omega arith); flow = one_flow }; one = refl; first = λ q c m l h i some less. no_other m some }
 
-one_puts : (q c m : ℕ) → q < point_count (frame_of kuhn) → player_at (frame_of kuhn) q ≡ 1 → IsClass apart (round_of (frame_of kuhn) (at_point q)) c → m < move_count (frame_of kuhn) q
+one_puts : (q c m : ℕ) → q < point_count (frame_of kuhn) → player_at (frame_of kuhn) q ≡ 1 → IsClass apart (round_of (frame_of kuhn) (at_point q)) c
+    → m < move_count (frame_of kuhn) q
     → let round = round_of (frame_of kuhn) (at_point q) in
     one_answer.number q c m ≡ (if m == kuhn_move q c
-    then number_before (frame_of kuhn) (lift (frame_of kuhn) apart one_answer) (last_step (frame_of kuhn) 1 (at_point q)) round (first_member apart round c) else 0)
+    then number_before (frame_of kuhn) (lift (frame_of kuhn) apart one_answer) (last_step (frame_of kuhn) 1 (at_point q)) round
+    (first_member apart round c) else 0)
 unfolding ancestor round_of last_step payoff_to player_at move_count leads_to
 one_puts zero zero m l h i b = absurd (omega (arith, i.0))
 one_puts zero (suc zero) zero l h i b = refl
@@ -200,7 +204,8 @@ one_puts (suc (suc zero)) (suc (suc (suc (suc c)))) m l h i b = absurd (omega (a
 one_puts (suc (suc (suc zero))) c m l h i b = absurd (omega (arith, h))
 one_puts (suc (suc (suc (suc q)))) c m l h i b = absurd (omega arith)
 
-one_sum : (q c m : ℕ) → q < point_count (frame_of kuhn) → player_at (frame_of kuhn) q ≡ 1 → IsClass apart (round_of (frame_of kuhn) (at_point q)) c → m < move_count (frame_of kuhn) q
+one_sum : (q c m : ℕ) → q < point_count (frame_of kuhn) → player_at (frame_of kuhn) q ≡ 1 → IsClass apart (round_of (frame_of kuhn) (at_point q)) c
+    → m < move_count (frame_of kuhn) q
     → turn_one.number q c m ≡ firsts.number q c m + one_answer.number q c m
 unfolding ancestor round_of last_step payoff_to player_at move_count leads_to
 one_sum zero zero m l h i b = absurd (omega (arith, i.0))
@@ -251,10 +256,12 @@ two_flow (suc (suc (suc (suc q)))) c l h i = absurd (omega arith)
 two_firsts : IsFirstMoves (frame_of kuhn) apart 2 firsts
 two_firsts = record { plan = record { total_in = (omega arith, omega arith); flow = two_flow }; one = refl; first = λ q c m l h i some less. no_other m some }
 
-two_puts : (q c m : ℕ) → q < point_count (frame_of kuhn) → player_at (frame_of kuhn) q ≡ 2 → IsClass apart (round_of (frame_of kuhn) (at_point q)) c → m < move_count (frame_of kuhn) q
+two_puts : (q c m : ℕ) → q < point_count (frame_of kuhn) → player_at (frame_of kuhn) q ≡ 2 → IsClass apart (round_of (frame_of kuhn) (at_point q)) c
+    → m < move_count (frame_of kuhn) q
     → let round = round_of (frame_of kuhn) (at_point q) in
     two_answer.number q c m ≡ (if m == reply_move q c
-    then number_before (frame_of kuhn) (lift (frame_of kuhn) apart two_answer) (last_step (frame_of kuhn) 2 (at_point q)) round (first_member apart round c) else 0)
+    then number_before (frame_of kuhn) (lift (frame_of kuhn) apart two_answer) (last_step (frame_of kuhn) 2 (at_point q)) round
+    (first_member apart round c) else 0)
 unfolding ancestor round_of last_step payoff_to player_at move_count leads_to
 two_puts zero c m l h i b = absurd (omega (arith, h))
 two_puts (suc zero) zero m l h i b = absurd (omega (arith, i.0))
@@ -282,7 +289,8 @@ two_puts (suc (suc (suc zero))) (suc (suc (suc zero))) (suc (suc m)) l h i b = a
 two_puts (suc (suc (suc zero))) (suc (suc (suc (suc c)))) m l h i b = absurd (omega (arith, i.1))
 two_puts (suc (suc (suc (suc q)))) c m l h i b = absurd (omega arith)
 
-two_sum : (q c m : ℕ) → q < point_count (frame_of kuhn) → player_at (frame_of kuhn) q ≡ 2 → IsClass apart (round_of (frame_of kuhn) (at_point q)) c → m < move_count (frame_of kuhn) q
+two_sum : (q c m : ℕ) → q < point_count (frame_of kuhn) → player_at (frame_of kuhn) q ≡ 2 → IsClass apart (round_of (frame_of kuhn) (at_point q)) c
+    → m < move_count (frame_of kuhn) q
     → turn_two.number q c m ≡ firsts.number q c m + two_answer.number q c m
 unfolding ancestor round_of last_step payoff_to player_at move_count leads_to
 two_sum zero c m l h i b = absurd (omega (arith, h))

@@ -58,7 +58,8 @@ one_reached (suc (suc zero)) (suc (suc (suc (suc c)))) l h m = absurd (omega (ar
 one_reached (suc (suc (suc zero))) c l h m = absurd (omega (arith, h))
 one_reached (suc (suc (suc (suc q)))) c l h m = absurd (omega arith)
 
-one_most : (q k c : ℕ) → q < point_count (frame_of kuhn) → player_at (frame_of kuhn) q ≡ 1 → k < move_count (frame_of kuhn) q → IsClass apart (round_of (frame_of kuhn) (at_point q)) c
+one_most : (q k c : ℕ) → q < point_count (frame_of kuhn) → player_at (frame_of kuhn) q ≡ 1 → k < move_count (frame_of kuhn) q
+    → IsClass apart (round_of (frame_of kuhn) (at_point q)) c
     → class_worth (frame_of kuhn) apart one_values q k c ≤ℤ one_values (at_point q) c
 unfolding ancestor round_of last_step payoff_to player_at move_count leads_to
 one_most zero zero zero l h i m = absurd (omega (arith, m.0))
@@ -87,7 +88,8 @@ one_most (suc (suc zero)) (suc (suc k)) c l h i m = absurd (omega arith)
 one_most (suc (suc (suc zero))) k c l h i m = absurd (omega (arith, h))
 one_most (suc (suc (suc (suc q)))) k c l h i m = absurd (omega arith)
 
-one_first : (q k c : ℕ) → q < point_count (frame_of kuhn) → player_at (frame_of kuhn) q ≡ 1 → IsClass apart (round_of (frame_of kuhn) (at_point q)) c → k < one_move q c
+one_first : (q k c : ℕ) → q < point_count (frame_of kuhn) → player_at (frame_of kuhn) q ≡ 1 → IsClass apart (round_of (frame_of kuhn) (at_point q)) c
+    → k < one_move q c
     → class_worth (frame_of kuhn) apart one_values q k c <ℤ one_values (at_point q) c
 unfolding ancestor round_of last_step payoff_to player_at move_count leads_to
 one_first zero k zero l h m i = absurd (omega (arith, m.0))
@@ -184,7 +186,8 @@ two_reached (suc (suc (suc zero))) (suc (suc (suc zero))) l h m = refl
 two_reached (suc (suc (suc zero))) (suc (suc (suc (suc c)))) l h m = absurd (omega (arith, m.1))
 two_reached (suc (suc (suc (suc q)))) c l h m = absurd (omega arith)
 
-two_most : (q k c : ℕ) → q < point_count (frame_of kuhn) → player_at (frame_of kuhn) q ≡ 2 → k < move_count (frame_of kuhn) q → IsClass apart (round_of (frame_of kuhn) (at_point q)) c
+two_most : (q k c : ℕ) → q < point_count (frame_of kuhn) → player_at (frame_of kuhn) q ≡ 2 → k < move_count (frame_of kuhn) q
+    → IsClass apart (round_of (frame_of kuhn) (at_point q)) c
     → class_worth (frame_of kuhn) apart two_values q k c ≤ℤ two_values (at_point q) c
 unfolding ancestor round_of last_step payoff_to player_at move_count leads_to
 two_most zero k c l h i m = absurd (omega (arith, h))
@@ -213,7 +216,8 @@ two_most (suc (suc (suc zero))) (suc zero) (suc (suc (suc (suc c)))) l h i m = a
 two_most (suc (suc (suc zero))) (suc (suc k)) c l h i m = absurd (omega arith)
 two_most (suc (suc (suc (suc q)))) k c l h i m = absurd (omega arith)
 
-two_first : (q k c : ℕ) → q < point_count (frame_of kuhn) → player_at (frame_of kuhn) q ≡ 2 → IsClass apart (round_of (frame_of kuhn) (at_point q)) c → k < two_move q c
+two_first : (q k c : ℕ) → q < point_count (frame_of kuhn) → player_at (frame_of kuhn) q ≡ 2 → IsClass apart (round_of (frame_of kuhn) (at_point q)) c
+    → k < two_move q c
     → class_worth (frame_of kuhn) apart two_values q k c <ℤ two_values (at_point q) c
 unfolding ancestor round_of last_step payoff_to player_at move_count leads_to
 two_first zero k c l h m i = absurd (omega (arith, h))

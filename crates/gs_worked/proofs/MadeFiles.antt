@@ -1,5 +1,6 @@
 -- Made files are read back: their lines make a table, and the table states the game.
-use Rattle.std.proofs.Common.{◌≡◌, ℕ, suc, ◌≤◌, true, false, List, [], ◌∷◌, ◌++◌, length, codes, Some, None, pos, refl, ap, ◌∙◌, subst, inl, inr, arith, append_assoc, option_map, map, Option}
+use Rattle.std.proofs.Common.{◌≡◌, ℕ, suc, ◌≤◌, true, false, List, [], ◌∷◌, ◌++◌, length, codes, Some, None, pos, refl, ap, ◌∙◌, subst, inl, inr, arith}
+use Rattle.std.proofs.Common.{append_assoc, option_map, map, Option}
 use Rattle.std.proofs.{lemmas.Fmt.{IsAscii-decimal}, lemmas.Str.{IsAscii-append, IsUtf8-from_ascii, is_utf8-from_IsUtf8}, lemmas.Option.{same_Some}}
 use Rattle.std.specs.{Prelude.{flat_map}, Fmt.{decimal}, Str.{IsAscii}}
 use Rattle.toml.specs.{Data.{Data, string, integer, array, table, Items, no_items, item, Members, no_members, member}, Parse.{lines, parse_document, skip_bom}}

@@ -1,5 +1,6 @@
 -- A program in three rows and its path, step by step.
-use Rattle.std.proofs.{Common.{◌≡◌, ◌≢◌, ℕ, zero, suc, ◌+◌, ◌<◌, ◌≤◌, ◌&&◌, Bool, true, false, List, [], ◌∷◌, length, take, refl, sym, ap, ◌∙◌, subst, inr, arith, nat_lt, unsigned_abs}, lemmas.Int.{ints}}
+use Rattle.std.proofs.Common.{◌≡◌, ◌≢◌, ℕ, zero, suc, ◌+◌, ◌<◌, ◌≤◌, ◌&&◌, Bool, true, false, List, [], ◌∷◌, length, take, refl, sym, ap, ◌∙◌, subst, inr}
+use Rattle.std.proofs.{Common.{arith, nat_lt, unsigned_abs}, lemmas.Int.{ints}}
 use Rattle.std.proofs.{Math.Nat.{eq-one_of_dvd-one}, lemmas.Bool.{and_parts, ltb-true}}
 use Rattle.std.specs.Prelude.{IsTrue, ℤ, pos, negsuc, ◌-ℤ◌, ◌*ℤ◌, ◌≤ℤ◌, ◌<ℤ◌, slice_index_or}
 use Prim.Native.Nat.{◌∣◌}

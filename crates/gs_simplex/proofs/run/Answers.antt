@@ -9,12 +9,14 @@ use Rattle.gs_simplex.proofs.run.Goals as goal
 taken : (n : ℕ) (xs ys : Listing) → length xs ≡ n → take n (xs ++ ys) ≡ xs
 taken n xs ys e = take_at xs ys n e
 
-end_rows : (p : Program) (o : Listing) (limit n : ℕ) (l l' : Listing) (t : Table) (xs : List ℤ) → IsEnd p o limit n l t → l' ≡ l → xs ≡ t.numbers.items → IsTableOf p l' xs
+end_rows : (p : Program) (o : Listing) (limit n : ℕ) (l l' : Listing) (t : Table) (xs : List ℤ) → IsEnd p o limit n l t → l' ≡ l → xs ≡ t.numbers.items
+    → IsTableOf p l' xs
 end_rows p o limit n l l' t xs u el ex =
     let P : Listing → Type 0 = λ x. IsTableOf p x xs in let Q : List ℤ → Type 0 = λ x. IsTableOf p l x in
     subst P (sym el) (subst Q (sym ex) (rows_of_so_far u.state.so_far))
 
-best_of : (p : Program) (o : Listing) (limit n : ℕ) (l l' : Listing) (t : Table) (b : Best) → IsSmallTable p → IsEnd p o limit n l t → l' ≡ l → IsBestTable p l' n b → IsBest p o limit b
+best_of : (p : Program) (o : Listing) (limit n : ℕ) (l l' : Listing) (t : Table) (b : Best) → IsSmallTable p → IsEnd p o limit n l t → l' ≡ l
+    → IsBestTable p l' n b → IsBest p o limit b
 best_of p o limit n l l' t b small u el w =
     let stop : PathStops p o limit (ends n l) = ends_stops n u.state.so_far u.state.table u.within u.none in
     let P : ℕ → Type 0 = λ k. PathStops p o limit (ends k b.basis.items) in let Q : Listing → Type 0 = λ x. PathStops p o limit (ends n x) in
@@ -33,16 +35,19 @@ err_answer p o limit (Err x) s e h = let P : Stop → Type 0 = λ y. IsStop p o 
 
 pub returns-in_err-basis : goal.returns-in_err-basis
 returns-in_err-basis c =
-    err_answer c.args.p.now c.args.opening.now c.args.limit c.from_residual.result c.in_err-basis.field-0.0 c.from_residual.ensures.1 (c.in_err-basis.ensures c.args.limit)
+    err_answer c.args.p.now c.args.opening.now c.args.limit c.from_residual.result c.in_err-basis.field-0.0 c.from_residual.ensures.1
+    (c.in_err-basis.ensures c.args.limit)
 
 pub best-requires-clause-rows : goal.best-requires-clause-rows
 best-requires-clause-rows c =
     let l = c.follow.new.basis in let b = c.in_ok-basis.field-0.basis in
-    end_rows c.args.p.now c.args.opening.now c.args.limit c.in_ok-pivots.pivots l (take b.len (l ++ drop (length l) b.items)) c.follow.new.table c.deref.result.now c.in_ok-pivots.ensures
+    end_rows c.args.p.now c.args.opening.now c.args.limit c.in_ok-pivots.pivots l (take b.len (l ++ drop (length l) b.items)) c.follow.new.table
+    c.deref.result.now c.in_ok-pivots.ensures
     (taken b.len l (drop (length l) b.items) (omega (arith, c.follow.auto.basis, c.deref_mut.ensures.len))) c.deref.ensures.value
 
 pub returns : goal.returns
 returns c =
     let l = c.follow.new.basis in let b = c.in_ok-basis.field-0.basis in
-    best_of c.args.p.now c.args.opening.now c.args.limit c.in_ok-pivots.pivots l (take b.len (l ++ drop (length l) b.items)) c.follow.new.table c.in_ok-best.field-0 c.in_ok-basis.ensures.small c.in_ok-pivots.ensures
+    best_of c.args.p.now c.args.opening.now c.args.limit c.in_ok-pivots.pivots l (take b.len (l ++ drop (length l) b.items)) c.follow.new.table
+    c.in_ok-best.field-0 c.in_ok-basis.ensures.small c.in_ok-pivots.ensures
     (taken b.len l (drop (length l) b.items) (omega (arith, c.follow.auto.basis, c.deref_mut.ensures.len))) c.in_ok-best.ensures

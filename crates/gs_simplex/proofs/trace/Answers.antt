@@ -5,7 +5,8 @@ use Rattle.std.specs.Result.{IsErrAnd}
 use Rattle.gs_simplex.proofs.{Paths.{rows_at}, Kept.{multiple_kept}, Traces.{trace_of}}
 use Rattle.gs_simplex.proofs.trace.Goals as goal
 
-err_answer : (p : Program) (o : Listing) (limit : ℕ) (r : Result PathTrace Stop) (s : Stop) → IsErrAnd r (λ x. x ≡ s) → IsStop p o limit s → IsTraceAnswer p o limit r
+err_answer : (p : Program) (o : Listing) (limit : ℕ) (r : Result PathTrace Stop) (s : Stop) → IsErrAnd r (λ x. x ≡ s) → IsStop p o limit s
+    → IsTraceAnswer p o limit r
 err_answer p o limit (Ok t) s e h = absurd e
 err_answer p o limit (Err x) s e h = let P : Stop → Type 0 = λ y. IsStop p o limit y in subst P (sym e) h
 
@@ -18,7 +19,8 @@ same_so_far p o t l xs ys e u = let P : List ℤ → Type 0 = λ x. IsSoFar p o 
 
 pub returns-in_err-basis : goal.returns-in_err-basis
 returns-in_err-basis c =
-    err_answer c.args.p.now c.args.opening.now c.args.limit c.from_residual.result c.in_err-basis.field-0.0 c.from_residual.ensures.1 (c.in_err-basis.ensures c.args.limit)
+    err_answer c.args.p.now c.args.opening.now c.args.limit c.from_residual.result c.in_err-basis.field-0.0 c.from_residual.ensures.1
+    (c.in_err-basis.ensures c.args.limit)
 
 pub aim_value-start-requires-clause-multiple : goal.aim_value-start-requires-clause-multiple
 aim_value-start-requires-clause-multiple c =
@@ -28,7 +30,8 @@ aim_value-start-requires-clause-multiple c =
 pub aim_value-aim-requires-clause-multiple : goal.aim_value-aim-requires-clause-multiple
 aim_value-aim-requires-clause-multiple c =
     let p = c.args.p.now in let o = c.args.opening.now in let n = c.in_ok-_pivots._pivots in let l = c.follow.new.basis in let xs = c.deref-3.result.now in
-    multiple_of p o (length o + n) l xs (same_so_far p o (length o + n) l c.follow.new.table.numbers.items xs c.deref-3.ensures.value c.in_ok-_pivots.ensures.0.state.so_far)
+    multiple_of p o (length o + n) l xs (same_so_far p o (length o + n) l c.follow.new.table.numbers.items xs c.deref-3.ensures.value
+    c.in_ok-_pivots.ensures.0.state.so_far)
 
 pub returns : goal.returns
 returns c =
@@ -36,7 +39,15 @@ returns c =
     let at = c.in_ok-basis.field-0 in let held = c.follow.new.table in let end = c.in_ok-_pivots.ensures.0 in
     let xs0 = c.deref.result.now in let xs = c.deref-3.result.now in
     let T : List ℤ → Type 0 = λ x. IsTable p x in let N : List ℤ → Type 0 = λ x. NoneEnters p l (table_aim p x) in
-    trace_of p o c.args.limit n (record { start = c.aim_value-start.result; turns = c.follow.new.self.turns; bases = c.follow.new.self.bases; aim = c.aim_value-aim.result }) o l xs0 xs
-    c.in_ok-basis.ensures.small c.requires.opens (same_so_far p o (length o) o at.table.numbers.items xs0 c.deref.ensures.value c.in_ok-basis.ensures.state.so_far) c.aim_value-start.ensures
-    (same_so_far p o (length o + n) l held.numbers.items xs c.deref-3.ensures.value end.state.so_far) (subst T (sym c.deref-3.ensures.value) end.state.table) end.within (subst N (sym c.deref-3.ensures.value) end.none)
+    trace_of p o c.args.limit n (record {
+      start = c.aim_value-start.result;
+      turns = c.follow.new.self.turns;
+      bases = c.follow.new.self.bases;
+      aim =
+          c.aim_value-aim.result;
+    }) o l xs0 xs
+    c.in_ok-basis.ensures.small c.requires.opens (same_so_far p o (length o) o at.table.numbers.items xs0 c.deref.ensures.value
+    c.in_ok-basis.ensures.state.so_far) c.aim_value-start.ensures
+    (same_so_far p o (length o + n) l held.numbers.items xs c.deref-3.ensures.value end.state.so_far) (subst T (sym c.deref-3.ensures.value) end.state.table)
+    end.within (subst N (sym c.deref-3.ensures.value) end.none)
     c.aim_value-aim.ensures c.in_ok-_pivots.ensures.1

@@ -10,7 +10,8 @@ pub returns-clause-bound : goal.returns-clause-bound
 returns-clause-bound c =
     let a = c.args.form.now in
     IfOk-weaker c.put_all.result _ _
-    (λ x h. first_gains_most (abstract_frame a) (form_in_range a) (lists_of a) (form_classes a) (form_lossless a) c.args.player (form_walked a c.args.player c.requires.some c.requires.two) (class_plan (abstract_frame a) (lists_of a) x)
+    (λ x h. first_gains_most (abstract_frame a) (form_in_range a) (lists_of a) (form_classes a) (form_lossless a) c.args.player
+    (form_walked a c.args.player c.requires.some c.requires.two) (class_plan (abstract_frame a) (lists_of a) x)
     (class_plan (abstract_frame a) (lists_of a) c.args.other.now) h)
     c.put_all.ensures.best
 
@@ -18,6 +19,8 @@ pub returns-clause-paid : goal.returns-clause-paid
 returns-clause-paid c =
     let a = c.args.form.now in
     IfOk-weaker c.put_all.result _ _
-    (λ x h. first_is_paid (abstract_frame a) (form_in_range a) (lists_of a) (form_classes a) (form_lossless a) (exchanged_one (game_of (game_in a).game)) c.args.player c.requires.some c.requires.two
-    (form_walked a c.args.player c.requires.some c.requires.two) (class_plan (abstract_frame a) (lists_of a) x) (class_plan (abstract_frame a) (lists_of a) c.args.other.now) h)
+    (λ x h. first_is_paid (abstract_frame a) (form_in_range a) (lists_of a) (form_classes a) (form_lossless a) (exchanged_one (game_of (game_in a).game))
+    c.args.player c.requires.some c.requires.two
+    (form_walked a c.args.player c.requires.some c.requires.two) (class_plan (abstract_frame a) (lists_of a) x)
+    (class_plan (abstract_frame a) (lists_of a) c.args.other.now) h)
     c.put_all.ensures.best

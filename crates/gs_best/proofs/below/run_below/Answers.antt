@@ -16,11 +16,16 @@ pub descendants_in-requires-clause-in_range : goal.descendants_in-requires-claus
 descendants_in-requires-clause-in_range c =
     let a = c.args.form.now in
     let held : c.signals.result.now ≡ a.lossless.now.signals.now = c.signals.ensures.held ∙ ap (λ (l : Lossless). l.signals.now) c.lossless.ensures in
-    omega (arith, form_count a c.signals.result.now held c.args.from c.requires.some (omega (arith, c.requires.onward, c.requires.top)), c.first_of-member.ensures.within)
+    omega (
+      arith,
+      form_count a c.signals.result.now held c.args.from c.requires.some (omega (arith, c.requires.onward, c.requires.top)),
+      c.first_of-member.ensures.within,
+    )
 
 pub returns : goal.returns
 returns c =
     let a = c.args.form.now in
     let held : c.signals.result.now ≡ a.lossless.now.signals.now = c.signals.ensures.held ∙ ap (λ (l : Lossless). l.signals.now) c.lossless.ensures in
-    let run = subst (λ (s : Signals). IsRunIn (frame_of (rules_of s)) c.args.to c.args.from c.first_of-member.result c.descendants_in.result.first c.descendants_in.result.end) held c.descendants_in.ensures in
+    let run = subst (λ (s : Signals). IsRunIn (frame_of (rules_of s)) c.args.to c.args.from c.first_of-member.result c.descendants_in.result.first
+    c.descendants_in.result.end) held c.descendants_in.ensures in
     subst (λ s. IsRunIn (form_frame a) c.args.to c.args.from s c.descendants_in.result.first c.descendants_in.result.end) c.first_of-member.ensures.value run

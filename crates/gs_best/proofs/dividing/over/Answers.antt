@@ -9,5 +9,6 @@ returns c =
     let d = c.from.result in
     let fits : FitsSigned w128 d = record { sfits = c.from.type_inv } in
     let some : pos 0 <ℤ d = omega (arith, ints, c.from.ensures, c.requires) in
-    let is = quot_is w128 c.args.together d c.ranges.together fits (quot_fits w128 c.args.together d c.ranges.together some) ∙ ap (int_div c.args.together) c.from.ensures in
+    let is = quot_is w128 c.args.together d c.ranges.together fits (quot_fits w128 c.args.together d c.ranges.together some)
+    ∙ ap (int_div c.args.together) c.from.ensures in
     record { quotient = is; share = λ share sum. is ∙ exact c.args.together share c.args.members c.requires sum }

@@ -19,4 +19,9 @@ returns-clause-value c = is (goal.at.returns-clause-value c).After-size
 pub returns-clause-members : goal.returns-clause-members
 returns-clause-members c =
     let a = c.args.form.now in
-    omega (arith, is (goal.at.returns-clause-members c).After-size, some_member (abstract_frame a) (lists_of a) (form_classes a) c.args.round c.args.class c.requires.some c.requires.top c.requires.class)
+    omega (
+      arith,
+      is (goal.at.returns-clause-members c).After-size,
+      some_member (abstract_frame a) (lists_of a) (form_classes a) c.args.round c.args.class
+          c.requires.some c.requires.top c.requires.class,
+    )

@@ -10,11 +10,13 @@ pub loop-class-preserved : goal.loop-class-preserved
 loop-class-preserved c =
     let a = c.args.form.now in
     let F = λ (k : ℕ). gathered_below (abstract_frame a) (lists_of a) c.args.row.round c.args.from (row_from c.args.row.values.now c.args.row.start) (k + 1) in
-    row_more F c.loop-class.sums c.loop-class.class _ (pos 0) (omega (arith, c.loop-class-test.true, c.class_total-class-end.ensures.value, c.loop-class.auto.sums, c.requires.wide))
+    row_more F c.loop-class.sums c.loop-class.class _ (pos 0)
+    (omega (arith, c.loop-class-test.true, c.class_total-class-end.ensures.value, c.loop-class.auto.sums, c.requires.wide))
     (to_z-of_z w128 c.sum_below.result (record { sfits = c.sum_below.type_inv }) ∙ c.sum_below.ensures) c.loop-class.invariant
 
 pub returns : goal.returns
 returns c =
     let a = c.args.form.now in
     let F = gathered_below (abstract_frame a) (lists_of a) c.args.row.round c.args.from (row_from c.args.row.values.now c.args.row.start) in
-    λ e le. by_class F c.loop-class.sums c.loop-class.class (pos 0) c.loop-class.invariant e le.0 (omega (arith, le.1, c.class_total-class-end.ensures.value, c.loop-class-test.false))
+    λ e le. by_class F c.loop-class.sums c.loop-class.class (pos 0) c.loop-class.invariant e le.0
+    (omega (arith, le.1, c.class_total-class-end.ensures.value, c.loop-class-test.false))

@@ -7,5 +7,6 @@ use Rattle.gs_best.proofs.gathering.read_row.Goals as goal
 pub returns-then-row-from-clause-gathered : goal.returns-then-row-from-clause-gathered
 returns-then-row-from-clause-gathered c =
     let a = c.args.form.now in
-    row_gathers (abstract_frame a) (form_in_range a) (lists_of a) (form_classes a) c.args.row.round c.args.from c.if-row-from.true c.requires.some (omega (arith, c.requires.row.later, c.requires.row.top)) c.args.row.values.now c.args.row.start c.class_total-count.result
+    row_gathers (abstract_frame a) (form_in_range a) (lists_of a) (form_classes a) c.args.row.round c.args.from c.if-row-from.true c.requires.some
+    (omega (arith, c.requires.row.later, c.requires.row.top)) c.args.row.values.now c.args.row.start c.class_total-count.result
     c.class_total-count.ensures.value

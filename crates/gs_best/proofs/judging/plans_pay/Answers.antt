@@ -15,4 +15,9 @@ pub payoff_in-requires-clause-numbers : goal.payoff_in-requires-clause-numbers
 payoff_in-requires-clause-numbers c =
     let f = abstract_frame c.args.form.now in
     let w = form_walked c.args.form.now 1 (omega arith) (omega arith) in
-    λ z l. omega (arith, c.requires.room.numbers (round_of f (at_end z)) (w.end_round z l) (w.end_in z l), ap (λ (l : List ℕ). length l) c.deref_mut-2.ensures.value)
+    λ z l. omega (
+      arith,
+      c.requires.room.numbers (round_of f (at_end z)) (w.end_round z l) (w.end_in z l),
+      ap (λ (l : List ℕ). length l)
+          c.deref_mut-2.ensures.value,
+    )

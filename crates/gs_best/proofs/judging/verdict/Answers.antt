@@ -11,24 +11,29 @@ use Rattle.gs_best.proofs.{Rooms.{has_room, holds_all, roomy}, Totals.{paid_smal
 use Rattle.gs_best.proofs.judging.verdict.Goals as goal
 
 paid_is : (c : After-plans_pay-paid) → let f = abstract_frame c.args.form.now in let lists = lists_of c.args.form.now in
-    to_z w128 (of_z w128 c.plans_pay-paid.result) ≡ raw_payoff f (lift f lists (class_plan f lists c.args.one.now)) (lift f lists (class_plan f lists c.args.two.now))
+    to_z w128 (of_z w128 c.plans_pay-paid.result) ≡ raw_payoff f (lift f lists (class_plan f lists c.args.one.now))
+    (lift f lists (class_plan f lists c.args.two.now))
 paid_is c = to_z-of_z w128 c.plans_pay-paid.result (record { sfits = c.plans_pay-paid.type_inv }) ∙ c.plans_pay-paid.ensures.paid
 
 pub lay_out-requires : goal.lay_out-requires
 lay_out-requires c =
     let a = c.args.form.now in
-    holds_all (abstract_frame a) (lists_of a) (form_walked a 1 (omega arith) (omega arith)) c.work.inside.table c.work.inside.scratch (subst (λ l. IsRoomy l c.work.inside.table c.work.inside.scratch) (c.work.view_is ∙ c.requires.room) c.work.invariant)
+    holds_all (abstract_frame a) (lists_of a) (form_walked a 1 (omega arith) (omega arith)) c.work.inside.table c.work.inside.scratch
+    (subst (λ l. IsRoomy l c.work.inside.table c.work.inside.scratch) (c.work.view_is ∙ c.requires.room) c.work.invariant)
 
 pub best_total-requires-clause-rows : goal.best_total-requires-clause-rows
-best_total-requires-clause-rows c = has_room (abstract_frame c.args.form.now) (lists_of c.args.form.now) c.work.inside.table c.work.inside.scratch (subst (λ l. IsRoomy l c.work.inside.table c.work.inside.scratch) (c.work.view_is ∙ c.requires.room) c.work.invariant)
+best_total-requires-clause-rows c = has_room (abstract_frame c.args.form.now) (lists_of c.args.form.now) c.work.inside.table c.work.inside.scratch
+    (subst (λ l. IsRoomy l c.work.inside.table c.work.inside.scratch) (c.work.view_is ∙ c.requires.room) c.work.invariant)
 
 pub judged-requires-clause-paid : goal.judged-requires-clause-paid
 judged-requires-clause-paid c =
     let a = c.args.form.now in
     let paid = paid_is (goal.at.judged-requires-clause-paid c).After-plans_pay-paid in
     let small =
-    paid_small (abstract_frame a) (form_in_range a) (lists_of a) (form_classes a) (form_lossless a) (form_walked a 1 (omega arith) (omega arith)) (form_walked a 2 (omega arith) (omega arith)) (exchanged_one (game_of (game_in a).game))
-    (class_plan (abstract_frame a) (lists_of a) c.args.one.now) (class_plan (abstract_frame a) (lists_of a) c.args.two.now) c.requires.one.plan.plan c.requires.two.plan.plan c.best_total.result c.best_total-2.result c.best_total.ensures.total c.best_total-2.ensures.total
+    paid_small (abstract_frame a) (form_in_range a) (lists_of a) (form_classes a) (form_lossless a) (form_walked a 1 (omega arith) (omega arith))
+    (form_walked a 2 (omega arith) (omega arith)) (exchanged_one (game_of (game_in a).game))
+    (class_plan (abstract_frame a) (lists_of a) c.args.one.now) (class_plan (abstract_frame a) (lists_of a) c.args.two.now) c.requires.one.plan.plan
+    c.requires.two.plan.plan c.best_total.result c.best_total-2.result c.best_total.ensures.total c.best_total-2.ensures.total
     c.best_total.ensures.small c.best_total-2.ensures.small in
     omega (arith, ap unsigned_abs paid, small)
 
@@ -70,8 +75,12 @@ returns-clause-verdict c =
     let one = to_z-of_z w128 b1 (record { sfits = c.best_total.type_inv }) ∙ h1.total_is in
     let two = to_z-of_z w128 b2 (record { sfits = c.best_total-2.type_inv }) ∙ h2.total_is in
     let weight = c.deal_weight.ensures.value in
-    let scale : (n : ℤ) → n *ℤ pos (total_weight f * x.total * y.total) ≡ n *ℤ pos (c.deal_weight.result * x.total * y.total) = λ n. ap (λ w. n *ℤ pos (w * x.total * y.total)) (sym weight) in
-    verdict_from f lists x y h1.values h2.values h1.move h2.move value gap1 gap2 ranged w1 w2 ex classes lossless h1.best h2.best (j.value.positive, j.first.positive, j.second.positive)
+    let scale : (n : ℤ) → n *ℤ pos (total_weight f * x.total * y.total) ≡ n *ℤ pos (c.deal_weight.result * x.total * y.total) =
+    λ n. ap (λ w. n *ℤ pos (w * x.total * y.total)) (sym weight) in
+    verdict_from f lists x y h1.values h2.values h1.move h2.move value gap1 gap2 ranged w1 w2 ex classes lossless h1.best h2.best
+    (j.value.positive, j.first.positive, j.second.positive)
     (scale value.0 ∙ j.value.value ∙ ap (λ z. pos value.1 *ℤ z) paid)
-    (scale gap1.0 ∙ j.first.value ∙ ap (λ z. pos gap1.1 *ℤ (pos x.total *ℤ z -ℤ to_z w128 (of_z w128 c.plans_pay-paid.result))) one ∙ ap (λ z. pos gap1.1 *ℤ (pos x.total *ℤ s1 -ℤ z)) paid)
-    (scale gap2.0 ∙ j.second.value ∙ ap (λ z. pos gap2.1 *ℤ (pos y.total *ℤ z +ℤ to_z w128 (of_z w128 c.plans_pay-paid.result))) two ∙ ap (λ z. pos gap2.1 *ℤ (pos y.total *ℤ s2 +ℤ z)) paid)
+    (scale gap1.0 ∙ j.first.value ∙ ap (λ z. pos gap1.1 *ℤ (pos x.total *ℤ z -ℤ to_z w128 (of_z w128 c.plans_pay-paid.result))) one
+    ∙ ap (λ z. pos gap1.1 *ℤ (pos x.total *ℤ s1 -ℤ z)) paid)
+    (scale gap2.0 ∙ j.second.value ∙ ap (λ z. pos gap2.1 *ℤ (pos y.total *ℤ z +ℤ to_z w128 (of_z w128 c.plans_pay-paid.result))) two
+    ∙ ap (λ z. pos gap2.1 *ℤ (pos y.total *ℤ s2 +ℤ z)) paid)

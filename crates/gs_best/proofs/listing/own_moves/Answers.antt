@@ -14,9 +14,19 @@ push_row-requires c =
     let q = c.loop-point.point in
     let filled = c.requires.filled in
     let inside : q < point_count f = omega (arith, c.loop-point-test.true, c.point_total-point-end.ensures) in
-    let start : c.index.result.now ≡ start_of f (lists_at d) q = get_or_read c.args.table.now.starts.items q _ (omega (arith, inside, filled.laid.holds.starts)) c.index.ensures 0 ∙ filled.laid.places q inside in
-    let all : c.class_total-count.result ≡ classes_at f (lists_at d) q = c.class_total-count.ensures.value ∙ ap (class_count (lists_at d)) c.round_at.ensures.value in
-    omega (arith, start, all, starts_more f (lists_at d) q, starts_le f (lists_at d) (q + 1) (point_count f) (omega (arith, inside)), filled.laid.holds.picks, ap (λ (l : List ℕ). length l) c.deref.ensures.value)
+    let start : c.index.result.now ≡ start_of f (lists_at d) q = get_or_read c.args.table.now.starts.items q _ (omega (arith, inside, filled.laid.holds.starts))
+    c.index.ensures 0 ∙ filled.laid.places q inside in
+    let all : c.class_total-count.result ≡ classes_at f (lists_at d) q = c.class_total-count.ensures.value
+    ∙ ap (class_count (lists_at d)) c.round_at.ensures.value in
+    omega (
+      arith,
+      start,
+      all,
+      starts_more f (lists_at d) q,
+      starts_le f (lists_at d) (q + 1) (point_count f) (omega (arith, inside)),
+      filled.laid.holds.picks,
+      ap (λ (l : List ℕ). length l) c.deref.ensures.value,
+    )
 
 pub loop-point-preserved : goal.loop-point-preserved
 loop-point-preserved c =
@@ -34,13 +44,24 @@ loop-point-preserved c =
           let own : player_at f q ≡ p = sym c.chooser.ensures ∙ w.if-chooser-side.true in
           let from = w.index.result.now in
           let count = w.class_total-count.result in
-          let start : from ≡ start_of f (lists_at d) q = get_or_read c.args.table.now.starts.items q _ (omega (arith, inside, filled.laid.holds.starts)) w.index.ensures 0 ∙ filled.laid.places q inside in
+          let start : from ≡ start_of f (lists_at d) q = get_or_read c.args.table.now.starts.items q _ (omega (arith, inside, filled.laid.holds.starts))
+          w.index.ensures 0 ∙ filled.laid.places q inside in
           let all : count ≡ classes_at f (lists_at d) q = w.class_total-count.ensures.value ∙ ap (class_count (lists_at d)) w.round_at.ensures.value in
-          let room : from + count ≤ length picks = omega (arith, start, all, starts_more f (lists_at d) q, starts_le f (lists_at d) (q + 1) (point_count f) (omega (arith, inside)), filled.laid.holds.picks) in
-          let same : c.if-chooser-side.moves.items ≡ xs ++ take count (drop from picks) = ap (λ (v : Vec ℕ Global). v.items) w.moves-is ∙ w.in_ok-push_row.ensures ∙ ap (λ (l : List ℕ). xs ++ take count (drop from l)) w.deref.ensures.value in
+          let room : from + count ≤ length picks = omega (
+            arith,
+            start,
+            all,
+            starts_more f (lists_at d) q,
+            starts_le f (lists_at d) (q + 1) (point_count f)
+                (omega (arith, inside)),
+            filled.laid.holds.picks,
+          ) in
+          let same : c.if-chooser-side.moves.items ≡ xs ++ take count (drop from picks) = ap (λ (v : Vec ℕ Global). v.items) w.moves-is
+          ∙ w.in_ok-push_row.ensures ∙ ap (λ (l : List ℕ). xs ++ take count (drop from l)) w.deref.ensures.value in
           record {
             long = ap (λ (zs : List ℕ). length zs) same ∙ longer f (lists_at d) p picks xs q from count own i.long start all room;
-            listed = subst (λ zs. AreListed f (lists_at d) p picks zs (q + 1)) (sym same) (listed_more f (lists_at d) p picks xs q from count own i.long start all room i.listed);
+            listed = subst (λ zs. AreListed f (lists_at d) p picks zs (q + 1)) (sym same)
+                (listed_more f (lists_at d) p picks xs q from count own i.long start all room i.listed);
           }
       | else-chooser-side w ↦
           let other = λ (e : player_at f q ≡ p). w.if-chooser-side.false (c.chooser.ensures ∙ e) in

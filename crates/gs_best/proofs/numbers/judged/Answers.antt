@@ -11,35 +11,63 @@ use Rattle.gs_best.proofs.numbers.judged.Goals as goal
 scale_is : (c : After-scaled-scale) → to_z w128 (of_z w128 c.scaled-scale.result) ≡ pos (c.args.weight * c.args.totals.0 * c.args.totals.1)
 scale_is c =
     to_z-of_z w128 c.scaled-scale.result (record { sfits = c.scaled-scale.type_inv })
-    ∙ over_scale (c.args.weight * c.args.totals.0) c.args.totals.1 c.scaled-scale.result _ c.scaled-scale.ensures (to_z-of_z w128 c.from.result (record { sfits = c.from.type_inv }) ∙ c.from.ensures)
+    ∙ over_scale (c.args.weight * c.args.totals.0) c.args.totals.1 c.scaled-scale.result _ c.scaled-scale.ensures
+    (to_z-of_z w128 c.from.result (record { sfits = c.from.type_inv }) ∙ c.from.ensures)
 
 positive : (c : After-scaled-scale) → pos 0 <ℤ to_z w128 (of_z w128 c.scaled-scale.result)
-positive c = omega (arith, ints, scale_is c, products_positive c.args.weight c.args.totals.0 c.args.totals.1 c.requires.weight.0 c.requires.one.0 c.requires.two.0)
+positive c = omega (
+  arith,
+  ints,
+  scale_is c,
+  products_positive c.args.weight c.args.totals.0 c.args.totals.1 c.requires.weight.0 c.requires.one.0
+      c.requires.two.0,
+)
 
 -- what each best answer gains with the other's total, and the gaps
 first : (c : After-scaled) → c.scaled.result ≡ pos c.args.totals.0 *ℤ c.args.best.0
-first c = c.scaled.ensures ∙ ap (λ z. pos c.args.totals.0 *ℤ z) (to_z-of_z w128 c.args.best.0 (fits_signed_from_abs w128 c.args.best.0 (omega (arith, c.requires.first))))
+first c = c.scaled.ensures ∙ ap (λ z. pos c.args.totals.0 *ℤ z)
+    (to_z-of_z w128 c.args.best.0 (fits_signed_from_abs w128 c.args.best.0 (omega (arith, c.requires.first))))
 
 second : (c : After-scaled-2) → c.scaled-2.result ≡ pos c.args.totals.1 *ℤ c.args.best.1
-second c = c.scaled-2.ensures ∙ ap (λ z. pos c.args.totals.1 *ℤ z) (to_z-of_z w128 c.args.best.1 (fits_signed_from_abs w128 c.args.best.1 (omega (arith, c.requires.second))))
+second c = c.scaled-2.ensures ∙ ap (λ z. pos c.args.totals.1 *ℤ z)
+    (to_z-of_z w128 c.args.best.1 (fits_signed_from_abs w128 c.args.best.1 (omega (arith, c.requires.second))))
 
-gap_one : (c : After-minus-gap1) → c.scaled.result ≡ pos c.args.totals.0 *ℤ c.args.best.0 → to_z w128 (of_z w128 c.minus-gap1.result) ≡ pos c.args.totals.0 *ℤ c.args.best.0 -ℤ c.args.paid
+gap_one : (c : After-minus-gap1) → c.scaled.result ≡ pos c.args.totals.0 *ℤ c.args.best.0
+    → to_z w128 (of_z w128 c.minus-gap1.result) ≡ pos c.args.totals.0 *ℤ c.args.best.0 -ℤ c.args.paid
 gap_one c is =
     let gap : c.minus-gap1.result ≡ pos c.args.totals.0 *ℤ c.args.best.0 -ℤ c.args.paid =
-    omega (arith, ints, c.minus-gap1.ensures, is, to_z-of_z w128 c.scaled.result (record { sfits = c.scaled.type_inv }), to_z-of_z w128 c.args.paid c.ranges.paid) in
+    omega (
+      arith,
+      ints,
+      c.minus-gap1.ensures,
+      is,
+      to_z-of_z w128 c.scaled.result (record { sfits = c.scaled.type_inv }),
+      to_z-of_z w128 c.args.paid
+          c.ranges.paid,
+    ) in
     to_z-of_z w128 c.minus-gap1.result (record { sfits = c.minus-gap1.type_inv }) ∙ gap
 
-gap_two : (c : After-plus-gap2) → c.scaled-2.result ≡ pos c.args.totals.1 *ℤ c.args.best.1 → to_z w128 (of_z w128 c.plus-gap2.result) ≡ pos c.args.totals.1 *ℤ c.args.best.1 +ℤ c.args.paid
+gap_two : (c : After-plus-gap2) → c.scaled-2.result ≡ pos c.args.totals.1 *ℤ c.args.best.1
+    → to_z w128 (of_z w128 c.plus-gap2.result) ≡ pos c.args.totals.1 *ℤ c.args.best.1 +ℤ c.args.paid
 gap_two c is =
     let gap : c.plus-gap2.result ≡ pos c.args.totals.1 *ℤ c.args.best.1 +ℤ c.args.paid =
-    omega (arith, ints, c.plus-gap2.ensures, is, to_z-of_z w128 c.scaled-2.result (record { sfits = c.scaled-2.type_inv }), to_z-of_z w128 c.args.paid c.ranges.paid) in
+    omega (
+      arith,
+      ints,
+      c.plus-gap2.ensures,
+      is,
+      to_z-of_z w128 c.scaled-2.result (record { sfits = c.scaled-2.type_inv }),
+      to_z-of_z w128 c.args.paid
+          c.ranges.paid,
+    ) in
     to_z-of_z w128 c.plus-gap2.result (record { sfits = c.plus-gap2.type_inv }) ∙ gap
 
 pub plus-gap2-requires : goal.plus-gap2-requires
 plus-gap2-requires c =
     let x1 = pos c.args.totals.1 *ℤ c.args.best.1 in
     let wrapped = to_z-of_z w128 c.scaled-2.result (record { sfits = c.scaled-2.type_inv }) in
-    let e = ap unsigned_abs (turned_sum c.scaled-2.result x1 c.args.paid _ _ (second (goal.at.plus-gap2-requires c).After-scaled-2) wrapped (to_z-of_z w128 c.args.paid c.ranges.paid)) in
+    let e = ap unsigned_abs (turned_sum c.scaled-2.result x1 c.args.paid _ _ (second (goal.at.plus-gap2-requires c).After-scaled-2) wrapped
+    (to_z-of_z w128 c.args.paid c.ranges.paid)) in
     omega (arith, e, abs_sum x1 c.args.paid, scaled_small c.args.totals.1 c.args.best.1 c.requires.two.1 c.requires.second, c.requires.paid)
 
 pub fraction-requires-clause-positive : goal.fraction-requires-clause-positive
@@ -56,13 +84,30 @@ fraction-requires-2-clause-fits c =
     let at = goal.at.fraction-requires-2-clause-fits c in
     let x0 = pos c.args.totals.0 *ℤ c.args.best.0 in
     let gap = ap unsigned_abs (gap_one at.After-minus-gap1 (first at.After-scaled)) in
-    omega (arith, ints, gap, abs_is (x0 -ℤ c.args.paid), abs_is x0, abs_is c.args.paid, scaled_small c.args.totals.0 c.args.best.0 c.requires.one.1 c.requires.first, c.requires.paid)
+    omega (
+      arith,
+      ints,
+      gap,
+      abs_is (x0 -ℤ c.args.paid),
+      abs_is x0,
+      abs_is c.args.paid,
+      scaled_small c.args.totals.0 c.args.best.0 c.requires.one.1
+          c.requires.first,
+      c.requires.paid,
+    )
 
 pub fraction-requires-3-clause-fits : goal.fraction-requires-3-clause-fits
 fraction-requires-3-clause-fits c =
     let at = goal.at.fraction-requires-3-clause-fits c in
     let gap = ap unsigned_abs (gap_two at.After-plus-gap2 (second at.After-scaled-2)) in
-    omega (arith, gap, abs_sum (pos c.args.totals.1 *ℤ c.args.best.1) c.args.paid, scaled_small c.args.totals.1 c.args.best.1 c.requires.two.1 c.requires.second, c.requires.paid)
+    omega (
+      arith,
+      gap,
+      abs_sum (pos c.args.totals.1 *ℤ c.args.best.1) c.args.paid,
+      scaled_small c.args.totals.1 c.args.best.1 c.requires.two.1
+          c.requires.second,
+      c.requires.paid,
+    )
 
 pub returns : goal.returns
 returns c =
@@ -71,6 +116,8 @@ returns c =
     let scale = scale_is at.After-scaled-scale in
     record {
       value = over_turn _ _ c.args.paid (pos n) c.fraction.result c.fraction.ensures (to_z-of_z w128 c.args.paid c.ranges.paid) scale;
-      first = over_turn _ _ (pos c.args.totals.0 *ℤ c.args.best.0 -ℤ c.args.paid) (pos n) c.fraction-2.result c.fraction-2.ensures (gap_one at.After-minus-gap1 (first at.After-scaled)) scale;
-      second = over_turn _ _ (pos c.args.totals.1 *ℤ c.args.best.1 +ℤ c.args.paid) (pos n) c.fraction-3.result c.fraction-3.ensures (gap_two at.After-plus-gap2 (second at.After-scaled-2)) scale;
+      first = over_turn _ _ (pos c.args.totals.0 *ℤ c.args.best.0 -ℤ c.args.paid) (pos n) c.fraction-2.result c.fraction-2.ensures
+          (gap_one at.After-minus-gap1 (first at.After-scaled)) scale;
+      second = over_turn _ _ (pos c.args.totals.1 *ℤ c.args.best.1 +ℤ c.args.paid) (pos n) c.fraction-3.result c.fraction-3.ensures
+          (gap_two at.After-plus-gap2 (second at.After-scaled-2)) scale;
     }

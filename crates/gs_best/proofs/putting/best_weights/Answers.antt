@@ -10,5 +10,7 @@ returns-clause-puts c =
     let old = c.in_ok-weights.weights in
     let new = c.put_moves.new.weights in
     let full : length new ≡ old.len = omega (arith, c.put_moves.auto.weights, ap (λ (l : List ℕ). length l) c.deref_mut.ensures.value, old.ok.0) in
-    subst (λ l. ArePutBefore (frame_at d) (lists_at d) d.player (moves_of (frame_at d) (lists_at d) c.args.table.now.picks.items) l (point_count (frame_at d))) (sym (written old.len new (drop (length new) old.items) full))
-    (subst (λ l. ArePutBefore (frame_at d) (lists_at d) d.player (moves_of (frame_at d) (lists_at d) l) new (point_count (frame_at d))) c.deref-2.ensures.value c.put_moves.ensures)
+    subst (λ l. ArePutBefore (frame_at d) (lists_at d) d.player (moves_of (frame_at d) (lists_at d) c.args.table.now.picks.items) l (point_count (frame_at d)))
+    (sym (written old.len new (drop (length new) old.items) full))
+    (subst (λ l. ArePutBefore (frame_at d) (lists_at d) d.player (moves_of (frame_at d) (lists_at d) l) new (point_count (frame_at d))) c.deref-2.ensures.value
+    c.put_moves.ensures)

@@ -7,11 +7,13 @@ use Rattle.gs_best.proofs.{MemberValues.{filled_best, filled_values}, Players.{w
 use Rattle.gs_best.proofs.putting.put_all.Goals as goal
 
 best : (c : In_ok-weights) → let s = c.args.side.now in
-    IsFirstBestPlan (frame_at s) (lists_at s) s.player (lifted (frame_at s) (lists_at s) s.other.now) (plan_of (frame_at s) (lists_at s) 1 c.in_ok-weights.weights.items)
+    IsFirstBestPlan (frame_at s) (lists_at s) s.player (lifted (frame_at s) (lists_at s) s.other.now)
+    (plan_of (frame_at s) (lists_at s) 1 c.in_ok-weights.weights.items)
 best c =
     let s = c.args.side.now in
     let t = c.args.table.now in
-    put_is_best (frame_at s) (lists_at s) s.player (lifted (frame_at s) (lists_at s) s.other.now) (filled_values s t c.requires.filled) (moves_at s t.picks.items)
+    put_is_best (frame_at s) (lists_at s) s.player (lifted (frame_at s) (lists_at s) s.other.now) (filled_values s t c.requires.filled)
+    (moves_at s t.picks.items)
     c.in_ok-weights.weights.items (filled_best s t c.requires.filled) c.in_ok-weights.ensures.puts
 
 pub returns-clause-plan : goal.returns-clause-plan
@@ -19,7 +21,8 @@ returns-clause-plan c =
     let s = c.args.side.now in
     record {
       player_is = refl;
-      plan = put_is_plan (frame_at s) (form_in_range s.form.now) (lists_at s) (form_classes s.form.now) s.player (walked s) (lifted (frame_at s) (lists_at s) s.other.now)
+      plan = put_is_plan (frame_at s) (form_in_range s.form.now) (lists_at s) (form_classes s.form.now) s.player (walked s)
+          (lifted (frame_at s) (lists_at s) s.other.now)
           c.in_ok-weights.weights.items c.in_ok-weights.ensures.long (best (goal.at.returns-clause-plan c).In_ok-weights);
     }
 

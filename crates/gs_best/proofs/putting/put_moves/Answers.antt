@@ -24,7 +24,8 @@ loop-point-preserved c =
           record {
             long = ap length w.weights-is ∙ (let k = w.put_point.auto.weights in omega (arith, k, i.long));
             puts = subst (λ zs. ArePutBefore f lists p move zs (q + 1)) (sym w.weights-is)
-                (puts_more f (form_in_range a) lists (form_classes a) p (form_walked a p c.requires.some c.requires.two) move q xs ys inside i.puts w.put_point.ensures.kept w.put_point.ensures.here);
+                (puts_more f (form_in_range a) lists (form_classes a) p (form_walked a p c.requires.some c.requires.two) move q xs ys inside i.puts
+                w.put_point.ensures.kept w.put_point.ensures.here);
             clear = subst (λ zs. IsClear (slots_before f lists p (q + 1)) zs) (sym w.weights-is) w.put_point.ensures.clear;
           }
       | else-chooser-player w ↦
@@ -32,7 +33,8 @@ loop-point-preserved c =
           record {
             long = ap length w.weights-is ∙ i.long;
             puts = subst (λ zs. ArePutBefore f lists p move zs (q + 1)) (sym w.weights-is) (puts_same f lists p move q c.loop-point.weights i.puts other);
-            clear = subst (λ zs. IsClear (slots_before f lists p (q + 1)) zs) (sym w.weights-is) (λ k l. i.clear k (omega (arith, l, slots_none f lists p q other)));
+            clear = subst (λ zs. IsClear (slots_before f lists p (q + 1)) zs) (sym w.weights-is)
+                (λ k l. i.clear k (omega (arith, l, slots_none f lists p q other)));
           }
     ]
 

@@ -9,28 +9,40 @@ use Rattle.gs_best.proofs.{PointStarts.{place_before}, AllOn.{put_here, put_kept
 use Rattle.gs_best.proofs.putting.put_point.Goals as goal
 
 -- the round's classes, and the one at hand
-all : (c : After-class_total-before-end) → c.class_total-before-end.result ≡ class_count (lists_of c.args.form.now) (round_of (abstract_frame c.args.form.now) (at_point c.args.point))
+all : (c : After-class_total-before-end) → c.class_total-before-end.result ≡ class_count (lists_of c.args.form.now)
+    (round_of (abstract_frame c.args.form.now) (at_point c.args.point))
 all c = c.class_total-before-end.ensures.value ∙ ap (class_count (lists_of c.args.form.now)) c.round_at.ensures.value
 
 class : (c : In-loop-before) → IsClass (lists_of c.args.form.now) (round_of (abstract_frame c.args.form.now) (at_point c.args.point)) (c.loop-before.before + 1)
-class c = (omega arith, omega (arith, c.class_total-before-end.ensures.value ∙ ap (class_count (lists_of c.args.form.now)) c.round_at.ensures.value, c.loop-before-test.true))
+class c = (
+  omega arith,
+  omega (
+    arith,
+    c.class_total-before-end.ensures.value ∙ ap (class_count (lists_of c.args.form.now)) c.round_at.ensures.value,
+    c.loop-before-test.true,
+  ),
+)
 
 -- its move
-pick : (c : In-loop-before) → get_or c.args.picks.now (get_or c.args.starts.now c.args.point 0 + c.loop-before.before) 0 ≡ moves_of (abstract_frame c.args.form.now) (lists_of c.args.form.now) c.args.picks.now c.args.point (c.loop-before.before + 1)
+pick : (c : In-loop-before) → get_or c.args.picks.now (get_or c.args.starts.now c.args.point 0 + c.loop-before.before) 0 ≡ moves_of
+    (abstract_frame c.args.form.now) (lists_of c.args.form.now) c.args.picks.now c.args.point (c.loop-before.before + 1)
 pick c =
     let q = c.args.point in
     let before = c.loop-before.before in
-    let place : get_or c.args.starts.now q 0 + before ≡ start_of (abstract_frame c.args.form.now) (lists_of c.args.form.now) q + (before + 1 - 1) = omega (arith, c.requires.places q c.requires.point) in
+    let place : get_or c.args.starts.now q 0 + before ≡ start_of (abstract_frame c.args.form.now) (lists_of c.args.form.now) q +
+    (before + 1 - 1) = omega (arith, c.requires.places q c.requires.point) in
     ap (λ n. get_or c.args.picks.now n 0) place
 
-in_moves : (c : In-loop-before) → moves_of (abstract_frame c.args.form.now) (lists_of c.args.form.now) c.args.picks.now c.args.point (c.loop-before.before + 1) < move_count (abstract_frame c.args.form.now) c.args.point
+in_moves : (c : In-loop-before) → moves_of (abstract_frame c.args.form.now) (lists_of c.args.form.now) c.args.picks.now c.args.point
+    (c.loop-before.before + 1) < move_count (abstract_frame c.args.form.now) c.args.point
 in_moves c = c.requires.moves c.args.point (c.loop-before.before + 1) c.requires.point c.requires.own (class c)
 
 pub bounds-picks-start : goal.bounds-picks-start
 bounds-picks-start c =
     let a = c.args.form.now in
     let f = abstract_frame a in
-    let place = place_before f (lists_of a) c.args.point (c.loop-before.before + 1) (point_count f) (class (goal.at.bounds-picks-start c).In-loop-before) c.requires.point in
+    let place = place_before f (lists_of a) c.args.point (c.loop-before.before + 1) (point_count f) (class (goal.at.bounds-picks-start c).In-loop-before)
+    c.requires.point in
     omega (arith, c.requires.places c.args.point c.requires.point, place, c.requires.picks)
 
 pub coming-came-requires-clause-long : goal.coming-came-requires-clause-long
@@ -38,7 +50,14 @@ coming-came-requires-clause-long c =
     let f = abstract_frame c.args.form.now in
     let lists = lists_of c.args.form.now in
     let q = c.args.point in
-    omega (arith, c.loop-before.auto.weights, c.requires.long, ap (λ p. slots_before f lists p q) c.requires.own, slots_le f lists c.args.player q (point_count f) (omega (arith, c.requires.point)))
+    omega (
+      arith,
+      c.loop-before.auto.weights,
+      c.requires.long,
+      ap (λ p. slots_before f lists p q) c.requires.own,
+      slots_le f lists c.args.player q
+          (point_count f) (omega (arith, c.requires.point)),
+    )
 
 pub slot-slot-requires-clause-choice : goal.slot-slot-requires-clause-choice
 slot-slot-requires-clause-choice c = let at = (goal.at.slot-slot-requires-clause-choice c).In-loop-before in omega (arith, pick at, in_moves at)
@@ -67,11 +86,25 @@ loop-before-preserved c =
     let there : slot ≡ slots_before f lists p q + (before * many + move q (before + 1)) = omega (arith, at, whose, ap (λ k. k * many) one) in
     let row : (before + 1) * many ≡ before * many + many = omega arith in
     let rows = mul-le-mul_right many class.1 in
-    let inside : slot < length weights = omega (arith, there, in_moves, slots_own f lists p q c.requires.own, slots_le f lists p (q + 1) (point_count f) (omega (arith, c.requires.point)), rows, row, c.loop-before.auto.weights, c.requires.long) in
-    let is : came ≡ number_before f (lift f lists (plan_of f lists 1 weights)) (last_step f p (at_point q)) (round_of f (at_point q)) (first_member lists (round_of f (at_point q)) (before + 1)) =
+    let inside : slot < length weights = omega (
+      arith,
+      there,
+      in_moves,
+      slots_own f lists p q c.requires.own,
+      slots_le f lists p (q + 1) (point_count f)
+          (omega (arith, c.requires.point)),
+      rows,
+      row,
+      c.loop-before.auto.weights,
+      c.requires.long,
+    ) in
+    let is : came ≡ number_before f (lift f lists (plan_of f lists 1 weights)) (last_step f p (at_point q)) (round_of f (at_point q))
+    (first_member lists (round_of f (at_point q)) (before + 1)) =
     c.coming-came.ensures
-    ∙ ap (λ p. number_before f (lift f lists (plan_of f lists 1 weights)) (last_step f p (at_point q)) (round_of f (at_point q)) (first_member lists (round_of f (at_point q)) (before + 1))) c.requires.own in
-    let clear : IsClear (slots_before f lists p q + (before + 1 - 1) * many) weights = λ k lk. c.loop-before.invariant.clear k (omega (arith, lk, ap (λ k. k * many) one)) in
+    ∙ ap (λ p. number_before f (lift f lists (plan_of f lists 1 weights)) (last_step f p (at_point q)) (round_of f (at_point q))
+    (first_member lists (round_of f (at_point q)) (before + 1))) c.requires.own in
+    let clear : IsClear (slots_before f lists p q + (before + 1 - 1) * many) weights = λ k lk. c.loop-before.invariant.clear k
+    (omega (arith, lk, ap (λ k. k * many) one)) in
     let same : AgreeBefore slot weights (set weights slot came) = λ j lj. get_or-set_other weights slot j came 0 (omega (arith, lj)) in
     record {
       kept = λ k lk. get_or-set_other weights slot k came 0 (omega (arith, lk, there)) ∙ c.loop-before.invariant.kept k lk;
@@ -89,7 +122,8 @@ loop-before-preserved c =
     }
 
 pub returns-clause-here : goal.returns-clause-here
-returns-clause-here c = λ e le. c.loop-before.invariant.here e le.0 (omega (arith, le.1, all (goal.at.returns-clause-here c).After-class_total-before-end, c.loop-before-test.false))
+returns-clause-here c = λ e le. c.loop-before.invariant.here e le.0
+    (omega (arith, le.1, all (goal.at.returns-clause-here c).After-class_total-before-end, c.loop-before-test.false))
 
 pub returns-clause-clear : goal.returns-clause-clear
 returns-clause-clear c =

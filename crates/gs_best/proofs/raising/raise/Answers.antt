@@ -18,19 +18,26 @@ loop-class-preserved c =
     let G : ℕ → ℕ = λ k. cond (test k) choice (get_or was k 0) in
     let fb : FitsSigned w128 (get_or c.loop-class.best i (pos 0)) = search rules in
     let fw : FitsSigned w128 (get_or worths i (pos 0)) = search rules in
-    let told : c.is_raised.result ≡ test i = simp to_z-of_z at c.is_raised.ensures ∙ ap (λ z. raises choice z (get_or worths i (pos 0))) (inv.rest_best i (omega arith)) in
+    let told : c.is_raised.result ≡ test i = simp to_z-of_z at c.is_raised.ensures
+    ∙ ap (λ z. raises choice z (get_or worths i (pos 0))) (inv.rest_best i (omega arith)) in
     elim c.if-is_raised.branch [
       | then-is_raised w ↦
           let yes : test i ≡ true = sym told ∙ w.if-is_raised.true in record {
-            best = λ k l. ap (λ x. get_or x k (pos 0)) w.best-is ∙ row_more F c.loop-class.best i _ (pos 0) (omega arith) (to_z-of_z w128 (get_or worths i (pos 0)) fw ∙ sym (ap (λ b. cond b (get_or worths i (pos 0)) (get_or old i (pos 0))) yes)) inv.best k l;
-            moves = λ k l. ap (λ x. get_or x k 0) w.moves-is ∙ row_more G c.loop-class.moves i choice 0 (omega arith) (sym (ap (λ b. cond b choice (get_or was i 0)) yes)) inv.moves k l;
+            best = λ k l. ap (λ x. get_or x k (pos 0)) w.best-is
+                ∙ row_more F c.loop-class.best i _ (pos 0) (omega arith)
+                (to_z-of_z w128 (get_or worths i (pos 0)) fw ∙ sym (ap (λ b. cond b (get_or worths i (pos 0)) (get_or old i (pos 0))) yes)) inv.best k l;
+            moves = λ k l. ap (λ x. get_or x k 0) w.moves-is ∙ row_more G c.loop-class.moves i choice 0 (omega arith)
+                (sym (ap (λ b. cond b choice (get_or was i 0)) yes)) inv.moves k l;
             rest_best = λ k l. ap (λ x. get_or x k (pos 0)) w.best-is ∙ rest_more c.loop-class.best old i _ (pos 0) inv.rest_best k l;
             rest_moves = λ k l. ap (λ x. get_or x k 0) w.moves-is ∙ rest_more c.loop-class.moves was i choice 0 inv.rest_moves k l;
           }
       | else-is_raised w ↦
           let no : test i ≡ false = sym told ∙ w.if-is_raised.false in record {
-            best = λ k l. ap (λ x. get_or x k (pos 0)) w.best-is ∙ row_keeps F c.loop-class.best i (pos 0) (inv.rest_best i (omega arith) ∙ sym (ap (λ b. cond b (get_or worths i (pos 0)) (get_or old i (pos 0))) no)) inv.best k l;
-            moves = λ k l. ap (λ x. get_or x k 0) w.moves-is ∙ row_keeps G c.loop-class.moves i 0 (inv.rest_moves i (omega arith) ∙ sym (ap (λ b. cond b choice (get_or was i 0)) no)) inv.moves k l;
+            best = λ k l. ap (λ x. get_or x k (pos 0)) w.best-is
+                ∙ row_keeps F c.loop-class.best i (pos 0) (inv.rest_best i (omega arith)
+                ∙ sym (ap (λ b. cond b (get_or worths i (pos 0)) (get_or old i (pos 0))) no)) inv.best k l;
+            moves = λ k l. ap (λ x. get_or x k 0) w.moves-is ∙ row_keeps G c.loop-class.moves i 0
+                (inv.rest_moves i (omega arith) ∙ sym (ap (λ b. cond b choice (get_or was i 0)) no)) inv.moves k l;
             rest_best = λ k l. ap (λ x. get_or x k (pos 0)) w.best-is ∙ inv.rest_best k (omega arith);
             rest_moves = λ k l. ap (λ x. get_or x k 0) w.moves-is ∙ inv.rest_moves k (omega arith);
           }

@@ -17,7 +17,9 @@ returns c =
     let f = frame_at s in
     let a = s.form.now in
     let worth = end_worth f s.player (lifted f (lists_at s) s.other.now) c.args.end (first_member (lists_at s) (round_of f (at_end c.args.end)) c.args.class) in
-    let share = end_share f (form_in_range a) (lists_at s) (form_classes a) (form_lossless a) s.player (walked s) (plan_at s) c.args.end c.args.class c.requires.end c.requires.class in
+    let share = end_share f (form_in_range a) (lists_at s) (form_classes a) (form_lossless a) s.player (walked s)
+    (plan_at s) c.args.end c.args.class c.requires.end c.requires.class in
     let size = c.size_of-members.ensures.value ∙ ap (λ j. class_size (lists_at s) j c.args.class) c.end_round.ensures.value in
     to_z-of_z w128 c.over.result (record { sfits = c.over.type_inv })
-    ∙ c.over.ensures.share worth (to_z-of_z w128 c.end_sum-together.result (record { sfits = c.end_sum-together.type_inv }) ∙ c.end_sum-together.ensures ∙ share ∙ ap (λ n. worth *ℤ pos n) (sym size))
+    ∙ c.over.ensures.share worth (to_z-of_z w128 c.end_sum-together.result (record { sfits = c.end_sum-together.type_inv }) ∙ c.end_sum-together.ensures ∙ share
+    ∙ ap (λ n. worth *ℤ pos n) (sym size))

@@ -8,37 +8,75 @@ use Rattle.gs_best.specs.{Tables.{classes_at, start_of}, Sides.{frame_at, lists_
 use Rattle.gs_best.proofs.{Placed.{IsRow}, SpotRows.{point_row}, sharing.share_point.Goals.{After-index}}
 use Rattle.gs_best.proofs.sharing.share_point.Goals as goal
 
-row : (c : After-index) → IsRow (classes_at (frame_at c.args.side.now) (lists_at c.args.side.now)) (point_count (frame_at c.args.side.now)) c.args.point c.index.result.now (classes_at (frame_at c.args.side.now) (lists_at c.args.side.now) c.args.point)
+row : (c : After-index) → IsRow (classes_at (frame_at c.args.side.now) (lists_at c.args.side.now)) (point_count (frame_at c.args.side.now)) c.args.point
+    c.index.result.now (classes_at (frame_at c.args.side.now) (lists_at c.args.side.now) c.args.point)
 row c = point_row (frame_at c.args.side.now) (lists_at c.args.side.now) c.args.table.now c.requires.laid c.args.point _ _ c.requires.point c.index.ensures refl
 
 pub index-requires-in-loop-class : goal.index-requires-in-loop-class
 index-requires-in-loop-class c =
     let r = row (goal.at.index-requires-in-loop-class c).After-index in
-    omega (arith, r.within, c.requires.laid.holds.totals, c.args.table.now.totals.ok.0, c.loop-class-test.true, c.class_total-class-end.ensures.value, ap (class_count (lists_at c.args.side.now)) c.round_at-round.ensures.value)
+    omega (
+      arith,
+      r.within,
+      c.requires.laid.holds.totals,
+      c.args.table.now.totals.ok.0,
+      c.loop-class-test.true,
+      c.class_total-class-end.ensures.value,
+      ap (class_count (lists_at c.args.side.now)) c.round_at-round.ensures.value,
+    )
 
 pub bounds-values-place : goal.bounds-values-place
 bounds-values-place c =
     let r = row (goal.at.bounds-values-place c).After-index in
-    omega (arith, r.within, c.requires.room, c.loop-class.auto.values, c.loop-class-test.true, c.class_total-class-end.ensures.value, ap (class_count (lists_at c.args.side.now)) c.round_at-round.ensures.value)
+    omega (
+      arith,
+      r.within,
+      c.requires.room,
+      c.loop-class.auto.values,
+      c.loop-class-test.true,
+      c.class_total-class-end.ensures.value,
+      ap (class_count
+          (lists_at c.args.side.now)) c.round_at-round.ensures.value,
+    )
 
 pub loop-class-preserved : goal.loop-class-preserved
 loop-class-preserved c =
     let r = row (goal.at.loop-class-preserved c).After-index in
     let inside : c.index.result.now + c.loop-class.class < length c.loop-class.values =
-    omega (arith, r.within, c.requires.room, c.loop-class.auto.values, c.loop-class-test.true, c.class_total-class-end.ensures.value, ap (class_count (lists_at c.args.side.now)) c.round_at-round.ensures.value) in
+    omega (
+      arith,
+      r.within,
+      c.requires.room,
+      c.loop-class.auto.values,
+      c.loop-class-test.true,
+      c.class_total-class-end.ensures.value,
+      ap (class_count
+          (lists_at c.args.side.now)) c.round_at-round.ensures.value,
+    ) in
     let start = c.index.result.now in
     let class = c.loop-class.class in
     let v = c.index-in-loop-class.result.now in
     let fits : FitsSigned w128 v = search rules in
     let read : to_z w128 (of_z w128 v) ≡ get_or c.args.table.now.totals.items (start + class) (pos 0) =
     to_z-of_z w128 v fits ∙ get_or_read c.args.table.now.totals.items (start + class) v
-    (omega (arith, r.within, c.requires.laid.holds.totals, c.loop-class-test.true, c.class_total-class-end.ensures.value, ap (class_count (lists_at c.args.side.now)) c.round_at-round.ensures.value)) c.index-in-loop-class.ensures (pos 0) in
+    (omega (
+      arith,
+      r.within,
+      c.requires.laid.holds.totals,
+      c.loop-class-test.true,
+      c.class_total-class-end.ensures.value,
+      ap (class_count
+          (lists_at c.args.side.now)) c.round_at-round.ensures.value,
+    )) c.index-in-loop-class.ensures (pos 0) in
     record {
       here = λ k share l is. ⊎_elim
-          (λ (same : k ≡ class). get_or-set_at c.loop-class.values (start + class) (start + k) _ (pos 0) (omega (arith, same)) inside ∙ to_z-of_z w128 c.over.result (record { sfits = c.over.type_inv }) ∙ c.over.ensures.share share
+          (λ (same : k ≡ class). get_or-set_at c.loop-class.values (start + class) (start + k) _ (pos 0) (omega (arith, same)) inside
+          ∙ to_z-of_z w128 c.over.result (record { sfits = c.over.type_inv }) ∙ c.over.ensures.share share
           (read ∙ ap (λ i. get_or c.args.table.now.totals.items (start + i) (pos 0)) (sym same) ∙ is
-          ∙ ap (λ n. share *ℤ pos (class_size (lists_at c.args.side.now) c.round_at-round.result (n + 1))) same ∙ ap (λ n. share *ℤ pos n) (sym c.size_of.ensures.value)))
-          (λ (other : k ≡ class → ⊥). get_or-set_other c.loop-class.values (start + class) (start + k) _ (pos 0) (λ e. omega (arith, e, other)) ∙ c.loop-class.invariant.here k share (omega (arith, l, other)) is)
+          ∙ ap (λ n. share *ℤ pos (class_size (lists_at c.args.side.now) c.round_at-round.result (n + 1))) same
+          ∙ ap (λ n. share *ℤ pos n) (sym c.size_of.ensures.value)))
+          (λ (other : k ≡ class → ⊥). get_or-set_other c.loop-class.values (start + class) (start + k) _ (pos 0) (λ e. omega (arith, e, other))
+          ∙ c.loop-class.invariant.here k share (omega (arith, l, other)) is)
           (cases_eq k class);
       before = λ i l. get_or-set_other c.loop-class.values (start + class) i _ (pos 0) (λ e. omega (arith, e, l)) ∙ c.loop-class.invariant.before i l;
     }
@@ -51,5 +89,12 @@ returns-clause-here c =
     λ k share lc is.
     let place : c.index.result.now + k ≡ start_of (frame_at s) (lists_at s) c.args.point + k = omega (arith, r.start_is) in
     ap (λ i. get_or c.loop-class.values i (pos 0)) (sym place)
-    ∙ c.loop-class.invariant.here k share (omega (arith, lc.1, c.loop-class-test.false, c.class_total-class-end.ensures.value, ap (class_count (lists_at s)) round))
+    ∙ c.loop-class.invariant.here k share (omega (
+      arith,
+      lc.1,
+      c.loop-class-test.false,
+      c.class_total-class-end.ensures.value,
+      ap (class_count
+          (lists_at s)) round,
+    ))
     (ap (λ i. get_or c.args.table.now.totals.items i (pos 0)) place ∙ is ∙ ap (λ j. share *ℤ pos (class_size (lists_at s) j (k + 1))) (sym round))

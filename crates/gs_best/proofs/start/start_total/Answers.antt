@@ -13,7 +13,8 @@ use Rattle.gs_best.proofs.start.start_total.Goals as goal
 held : (c : After-row_to-totals) → let s = c.args.side.now in
     IsRowOf (frame_at s) (lists_at s) (totals_at s c.args.table.now.totals.items) (frame_at s).start c.row_to-totals.result
 held c = let s = c.args.side.now in
-    subst (λ t. IsRowOf (frame_at s) (lists_at s) (totals_at s c.args.table.now.totals.items) t c.row_to-totals.result) c.start_at-target.ensures c.row_to-totals.ensures.held
+    subst (λ t. IsRowOf (frame_at s) (lists_at s) (totals_at s c.args.table.now.totals.items) t c.row_to-totals.result) c.start_at-target.ensures
+    c.row_to-totals.ensures.held
 
 pub row_to-totals-requires-clause-inside : goal.row_to-totals-requires-clause-inside
 row_to-totals-requires-clause-inside c = subst (IsInside (frame_at c.args.side.now)) (sym c.start_at-target.ensures) (walked c.args.side.now).start_in
@@ -39,11 +40,13 @@ sum_between-requires-clause-modest c =
 
 sum_is : (c : After-sum_between) → let s = c.args.side.now in
     IsRowOf (frame_at s) (lists_at s) (totals_at s c.args.table.now.totals.items) (frame_at s).start c.row_to-totals.result
-    → to_z w128 (of_z w128 c.sum_between.result) ≡ sum_z (totals_at s c.args.table.now.totals.items (frame_at s).start) (classes_in (lists_at s) (round_of (frame_at s) (frame_at s).start))
+    → to_z w128 (of_z w128 c.sum_between.result) ≡ sum_z (totals_at s c.args.table.now.totals.items (frame_at s).start)
+    (classes_in (lists_at s) (round_of (frame_at s) (frame_at s).start))
 sum_is c held =
     let s = c.args.side.now in
     to_z-of_z w128 c.sum_between.result (record { sfits = c.sum_between.type_inv }) ∙ c.sum_between.ensures
-    ∙ row_sum s c.args.table.now.totals.items (frame_at s).start (walked s).start_in c.row_to-totals.result held c.class_total-count.result c.class_total-count.ensures.value
+    ∙ row_sum s c.args.table.now.totals.items (frame_at s).start (walked s).start_in c.row_to-totals.result held c.class_total-count.result
+    c.class_total-count.ensures.value
 
 pub returns-clause-total : goal.returns-clause-total
 returns-clause-total c =
@@ -52,8 +55,10 @@ returns-clause-total c =
     let t = c.args.table.now in
     let at = goal.at.returns-clause-total c in
     let round = in_round (frame_at s) s.player (walked s) (frame_at s).start (walked s).start_in in
-    subst (IsBestTotal (frame_at s) (lists_at s) s.player (lifted (frame_at s) (lists_at s) s.other.now)) (sym (sum_is at.After-sum_between (held at.After-row_to-totals)))
-    (best_total (frame_at s) (form_in_range a) (lists_at s) (form_classes s.form.now) (form_lossless a) s.player (walked s) (plan_at s) (totals_at s t.totals.items) (moves_at s t.picks.items) c.requires.best round.0 round.1)
+    subst (IsBestTotal (frame_at s) (lists_at s) s.player (lifted (frame_at s) (lists_at s) s.other.now))
+    (sym (sum_is at.After-sum_between (held at.After-row_to-totals)))
+    (best_total (frame_at s) (form_in_range a) (lists_at s) (form_classes s.form.now) (form_lossless a) s.player (walked s) (plan_at s)
+    (totals_at s t.totals.items) (moves_at s t.picks.items) c.requires.best round.0 round.1)
 
 pub returns-clause-small : goal.returns-clause-small
 returns-clause-small c =

@@ -5,8 +5,10 @@ use Rattle.gs_best.specs.Tables.{classes_at, start_of}
 use Rattle.gs_best.proofs.{Placed.{row_next}, PointStarts.{starts_few}, tables.value_total.Goals.{After-class_total-total}}
 use Rattle.gs_best.proofs.tables.value_total.Goals as goal
 
-next : (c : After-class_total-total) → c.loop-point.total + c.class_total-total.result ≡ start_of (abstract_frame c.args.form.now) (lists_of c.args.form.now) (c.loop-point.point + 1)
-next c = row_next (classes_at (abstract_frame c.args.form.now) (lists_of c.args.form.now)) c.loop-point.point _ _ c.loop-point.invariant (c.class_total-total.ensures.value ∙ ap (class_count (lists_of c.args.form.now)) c.round_at.ensures.value)
+next : (c : After-class_total-total) → c.loop-point.total + c.class_total-total.result ≡ start_of (abstract_frame c.args.form.now) (lists_of c.args.form.now)
+    (c.loop-point.point + 1)
+next c = row_next (classes_at (abstract_frame c.args.form.now) (lists_of c.args.form.now)) c.loop-point.point _ _ c.loop-point.invariant
+    (c.class_total-total.ensures.value ∙ ap (class_count (lists_of c.args.form.now)) c.round_at.ensures.value)
 
 pub overflow_add-total : goal.overflow_add-total
 overflow_add-total c =

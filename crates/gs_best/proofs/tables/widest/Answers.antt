@@ -11,5 +11,12 @@ loop-before-preserved c =
           (λ (same : round ≡ i + 1). omega (arith, c.max-most.ensures, c.class_total.ensures.value, ap (class_count (lists_of c.args.form.now)) same))
           (λ other. omega (arith, c.max-most.ensures, c.loop-before.invariant.wide round some (omega (arith, top, other))))
           (cases_eq round (i + 1));
-      least = λ n h. omega (arith, c.max-most.ensures, c.class_total.ensures.value, c.loop-before.invariant.least n h, h (i + 1) (omega arith) (omega (arith, c.loop-before-test.true, c.round_total-before-end.ensures.value)));
+      least = λ n h. omega (
+        arith,
+        c.max-most.ensures,
+        c.class_total.ensures.value,
+        c.loop-before.invariant.least n h,
+        h (i + 1) (omega arith)
+            (omega (arith, c.loop-before-test.true, c.round_total-before-end.ensures.value)),
+      );
     }

@@ -19,10 +19,13 @@ read_row-requires-clause-some c = some_at c.args.at.now
 
 pub read_row-requires-clause-row : goal.read_row-requires-clause-row
 read_row-requires-clause-row c =
-    later_row c.args.at.now c.args.choice c.requires.choice c.row_to-below.result (held (goal.at.read_row-requires-clause-row c).After-row_to-below) c.row_to-below.ensures.room
+    later_row c.args.at.now c.args.choice c.requires.choice c.row_to-below.result (held (goal.at.read_row-requires-clause-row c).After-row_to-below)
+    c.row_to-below.ensures.room
 
 pub read_row-requires-clause-wide : goal.read_row-requires-clause-wide
-read_row-requires-clause-wide c = let at = c.args.at.now in c.requires.wide at.round (some_at at) (omega (arith, at.round_is, (walked at.side).point_in at.point at.inside))
+read_row-requires-clause-wide c = let at = c.args.at.now in c.requires.wide at.round (some_at at)
+    (omega (arith, at.round_is, (walked at.side).point_in at.point at.inside))
 
 pub returns-clause-worths : goal.returns-clause-worths
-returns-clause-worths c = worths_by c.args.at.now c.args.choice c.requires.choice c.row_to-below.result (held (goal.at.returns-clause-worths c).After-row_to-below) c.read_row.result.now c.read_row.ensures.gathered
+returns-clause-worths c = worths_by c.args.at.now c.args.choice c.requires.choice c.row_to-below.result
+    (held (goal.at.returns-clause-worths c).After-row_to-below) c.read_row.result.now c.read_row.ensures.gathered

@@ -18,13 +18,17 @@ kept : (c : In-Some) → AreKept (frame_at c.args.side.now) (lists_at c.args.sid
 kept c = c.requires.ends c.in-Some.kept c.in-Some.is
 
 row : (c : After-index) → c.in-Point.point < point_count (frame_at c.args.side.now)
-    → IsRow (classes_at (frame_at c.args.side.now) (lists_at c.args.side.now)) (point_count (frame_at c.args.side.now)) c.in-Point.point c.index.result.now (class_count (lists_at c.args.side.now) c.round_at.result)
-row c l = point_row (frame_at c.args.side.now) (lists_at c.args.side.now) c.args.table.now c.requires.laid c.in-Point.point _ _ l c.index.ensures (ap (class_count (lists_at c.args.side.now)) c.round_at.ensures.value)
+    → IsRow (classes_at (frame_at c.args.side.now) (lists_at c.args.side.now)) (point_count (frame_at c.args.side.now)) c.in-Point.point c.index.result.now
+    (class_count (lists_at c.args.side.now) c.round_at.result)
+row c l = point_row (frame_at c.args.side.now) (lists_at c.args.side.now) c.args.table.now c.requires.laid c.in-Point.point _ _ l c.index.ensures
+    (ap (class_count (lists_at c.args.side.now)) c.round_at.ensures.value)
 
 paid : (c : After-index-in-Some) → c.in-End.end < end_count (frame_at c.args.side.now)
     → AreKept (frame_at c.args.side.now) (lists_at c.args.side.now) c.args.side.now.player (plan_at c.args.side.now) c.in-Some.kept.now
-    → IsRow (end_classes (frame_at c.args.side.now) (lists_at c.args.side.now)) (end_count (frame_at c.args.side.now)) c.in-End.end c.index-in-Some.result.now (class_count (lists_at c.args.side.now) c.end_round-round.result)
-paid c n k = end_row c.args.side.now c.in-Some.kept.now k c.in-End.end _ _ n c.index-in-Some.ensures (ap (class_count (lists_at c.args.side.now)) c.end_round-round.ensures.value)
+    → IsRow (end_classes (frame_at c.args.side.now) (lists_at c.args.side.now)) (end_count (frame_at c.args.side.now)) c.in-End.end c.index-in-Some.result.now
+    (class_count (lists_at c.args.side.now) c.end_round-round.result)
+paid c n k = end_row c.args.side.now c.in-Some.kept.now k c.in-End.end _ _ n c.index-in-Some.ensures
+    (ap (class_count (lists_at c.args.side.now)) c.end_round-round.ensures.value)
 
 pub round_at-requires : goal.round_at-requires
 round_at-requires c = point (goal.at.round_at-requires c).In-Point
@@ -47,7 +51,8 @@ pub returns-in-Point-clause-held : goal.returns-in-Point-clause-held
 returns-in-Point-clause-held c =
     let at = goal.at.returns-in-Point-clause-held c in
     let s = c.args.side.now in
-    held_at_point s c.args.table.now.totals.items _ (target_of c.args.target) c.in-Point.point (ap target_of c.in-Point.is) c.round_at.ensures.value (row at.After-index (point at.In-Point)).start_is c.deref.ensures.value
+    held_at_point s c.args.table.now.totals.items _ (target_of c.args.target) c.in-Point.point (ap target_of c.in-Point.is) c.round_at.ensures.value
+    (row at.After-index (point at.In-Point)).start_is c.deref.ensures.value
 
 pub returns-in-Point-clause-room : goal.returns-in-Point-clause-room
 returns-in-Point-clause-room c =
@@ -60,7 +65,8 @@ returns-in-Some-clause-held c =
     let s = c.args.side.now in
     let k = kept at.In-Some in
     let n = end at.In-End in
-    held_at_end s c.args.table.now.totals.items _ c.in-Some.kept.now k (target_of c.args.target) c.in-End.end (ap target_of c.in-End.is) n c.end_round-round.ensures.value (paid at.After-index-in-Some n k).start_is c.deref-in-Some.ensures.value
+    held_at_end s c.args.table.now.totals.items _ c.in-Some.kept.now k (target_of c.args.target) c.in-End.end
+    (ap target_of c.in-End.is) n c.end_round-round.ensures.value (paid at.After-index-in-Some n k).start_is c.deref-in-Some.ensures.value
 
 pub returns-in-Some-clause-room : goal.returns-in-Some-clause-room
 returns-in-Some-clause-room c =

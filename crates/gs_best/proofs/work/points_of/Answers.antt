@@ -15,12 +15,14 @@ loop-point-preserved c =
     let more = sum_range_more (λ q. cond (round_of f (at_point q) == c.args.round) 1 0) q in
     elim c.if-round_at-round.branch [
       | then-round_at-round w ↦
-          let here = ap (λ b. cond {A = ℕ} b 1 0) ((Decides-eqb (round_of f (at_point q)) c.args.round).1 (sym c.round_at.ensures.value ∙ w.if-round_at-round.true)) in record {
+          let here = ap (λ b. cond {A = ℕ} b 1 0) ((Decides-eqb (round_of f (at_point q)) c.args.round).1
+          (sym c.round_at.ensures.value ∙ w.if-round_at-round.true)) in record {
             count_is = omega (arith, more, here, i.count_is, w.count-is);
             within = omega (arith, i.within, w.count-is);
           }
       | else-round_at-round w ↦
-          let here = ap (λ b. cond {A = ℕ} b 1 0) (not_eq (round_of f (at_point q)) c.args.round (λ e. w.if-round_at-round.false (c.round_at.ensures.value ∙ e))) in record {
+          let here = ap (λ b. cond {A = ℕ} b 1 0) (not_eq (round_of f (at_point q)) c.args.round
+          (λ e. w.if-round_at-round.false (c.round_at.ensures.value ∙ e))) in record {
             count_is = omega (arith, more, here, i.count_is, w.count-is);
             within = omega (arith, i.within, w.count-is);
           }

@@ -20,5 +20,6 @@ loop-before-preserved c =
     let front : List (ℕ × ℕ) = map size (range_with_len 1 i) in
     let join : ℕ × ℕ → List (ℕ × ℕ) = λ s. front ++ s ∷ [] in
     let behind : List (ℕ × ℕ) → List (ℕ × ℕ) = λ l. l ++ size_of new ∷ [] in
-    ap (map size_of) c.in_ok-push.ensures.items ∙ map-append size_of c.loop-before.sizes.items (new ∷ []) ∙ ap behind c.loop-before.invariant ∙ ap join here ∙ sym (map-append size (range_with_len 1 i) (range_with_len (1 + i) 1))
+    ap (map size_of) c.in_ok-push.ensures.items ∙ map-append size_of c.loop-before.sizes.items (new ∷ []) ∙ ap behind c.loop-before.invariant ∙ ap join here
+    ∙ sym (map-append size (range_with_len 1 i) (range_with_len (1 + i) 1))
     ∙ ap (map size) (sym (range_append 1 i 1))

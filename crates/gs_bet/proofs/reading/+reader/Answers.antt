@@ -12,12 +12,19 @@ act_of-returns t c = rw (act_is, c.in_ok-player.ensures.read, c.in_ok-rest.ensur
 pub moves_of-returns-in_err-next : goal.moves_of-returns-in_err-next
 moves_of-returns-in_err-next t c =
     let p = err_from_is_err_and c.from_residual.result c.from_residual.ensures.1 in
-    rw (p.1, p.2) (fails_here c.in_err-next.field-0.0 (inner_at (act_at c.args.left)) (26 - length c.loop-moves.moves.items) (plain_moves c.loop-moves.moves.items) c.loop-moves.rest.now _ (omega arith) c.loop-moves.invariant.read
+    rw (p.1, p.2) (fails_here c.in_err-next.field-0.0 (inner_at (act_at c.args.left)) (26 - length c.loop-moves.moves.items)
+    (plain_moves c.loop-moves.moves.items) c.loop-moves.rest.now _ (omega arith) c.loop-moves.invariant.read
     (rw c.deref.ensures.value at c.in_err-next.ensures))
 
 -- the moves once one more is pushed, and their number
-pushed : (t : ℕ) (c : moves_of-After-len t) → Pushed (inner_at (act_at c.args.left)) c.loop-moves.moves.items c.push.new.self.items c.loop-moves.rest.now c.in_ok-next.behind.now (moves_at (inner_at (act_at c.args.left)) 26 none c.args.bytes.now)
-pushed t c = record { room = c.loop-moves.invariant.room; so_far = c.loop-moves.invariant.read; next = rw (c.in_ok-push.ensures.items, plain_push) (rw c.deref.ensures.value at c.in_ok-next.ensures) }
+pushed : (t : ℕ) (c : moves_of-After-len t) → Pushed (inner_at (act_at c.args.left)) c.loop-moves.moves.items c.push.new.self.items c.loop-moves.rest.now
+    c.in_ok-next.behind.now (moves_at (inner_at (act_at c.args.left)) 26 none c.args.bytes.now)
+pushed t c = record {
+  room = c.loop-moves.invariant.room;
+  so_far = c.loop-moves.invariant.read;
+  next = rw (c.in_ok-push.ensures.items, plain_push)
+      (rw c.deref.ensures.value at c.in_ok-next.ensures);
+}
 
 counted : (t : ℕ) (c : moves_of-After-len t) → c.len.result ≡ length c.push.new.self.items
 counted t c = search rules
@@ -26,19 +33,23 @@ pub moves_of-returns-in_err-more : goal.moves_of-returns-in_err-more
 moves_of-returns-in_err-more t c =
     let p = err_from_is_err_and c.from_residual-in_err-more.result c.from_residual-in_err-more.ensures.1 in
     let w = (goal.at.moves_of-returns-in_err-more t c).After-len in
-    rw (p.1, p.2) (pushed_fails c.in_err-more.field-0.0 (inner_at (act_at c.args.left)) c.loop-moves.moves.items c.push.new.self.items c.loop-moves.rest.now c.in_ok-next.behind.now _ (pushed t w) (rw (counted t w) at c.in_err-more.ensures))
+    rw (p.1, p.2) (pushed_fails c.in_err-more.field-0.0 (inner_at (act_at c.args.left)) c.loop-moves.moves.items c.push.new.self.items c.loop-moves.rest.now
+    c.in_ok-next.behind.now _ (pushed t w) (rw (counted t w) at c.in_err-more.ensures))
 
 pub moves_of-returns-then-not-more : goal.moves_of-returns-then-not-more
 moves_of-returns-then-not-more t c =
     let w = (goal.at.moves_of-returns-then-not-more t c).After-len in
-    pushed_ends (inner_at (act_at c.args.left)) c.loop-moves.moves.items c.push.new.self.items c.loop-moves.rest.now c.in_ok-next.behind.now c.in_ok-more.others.now _ (pushed t w) (rw (counted t w, c.if-not-more.true) at c.in_ok-more.ensures)
+    pushed_ends (inner_at (act_at c.args.left)) c.loop-moves.moves.items c.push.new.self.items c.loop-moves.rest.now c.in_ok-next.behind.now
+    c.in_ok-more.others.now _ (pushed t w) (rw (counted t w, c.if-not-more.true) at c.in_ok-more.ensures)
 
 pub moves_of-loop-moves-preserved : goal.moves_of-loop-moves-preserved
 moves_of-loop-moves-preserved t c =
     let w = (goal.at.moves_of-loop-moves-preserved t c).After-len in
-    let h : more_at (length c.push.new.self.items) c.in_ok-next.behind.now ≡ Ok (true, c.in_ok-more.others.now) = rw (counted t w, c.if-not-more.false) at c.in_ok-more.ensures in
+    let h : more_at (length c.push.new.self.items) c.in_ok-next.behind.now ≡ Ok (true, c.in_ok-more.others.now) = rw (counted t w, c.if-not-more.false) at
+    c.in_ok-more.ensures in
     let grown : length c.push.new.self.items ≡ length c.loop-moves.moves.items + 1 = search rules in
     record {
-      read = pushed_goes (inner_at (act_at c.args.left)) c.loop-moves.moves.items c.push.new.self.items c.loop-moves.rest.now c.in_ok-next.behind.now c.in_ok-more.others.now _ (pushed t w) grown h;
+      read = pushed_goes (inner_at (act_at c.args.left)) c.loop-moves.moves.items c.push.new.self.items c.loop-moves.rest.now c.in_ok-next.behind.now
+          c.in_ok-more.others.now _ (pushed t w) grown h;
       room = more_room _ _ _ h;
     }

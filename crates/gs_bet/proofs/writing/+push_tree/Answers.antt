@@ -7,11 +7,14 @@ use Rattle.gs_bet.proofs.writing.+push_tree.Goals as goal
 
 pub loop-next-init : goal.loop-next-init
 loop-next-init t c =
-    let is_act : plain c.args.tree.now ≡ act (out-Act c.in-Act.act).player (plain_moves c.deref-next-items.result.now) = rw (c.in-Act.is, c.deref-next-items.ensures.value) (plain-act c.in-Act.act ∙ plain_act-out c.in-Act.act) in
+    let is_act : plain c.args.tree.now ≡ act (out-Act c.in-Act.act).player (plain_moves c.deref-next-items.result.now) =
+    rw (c.in-Act.is, c.deref-next-items.ensures.value) (plain-act c.in-Act.act ∙ plain_act-out c.in-Act.act) in
     let sound : Prints (act (out-Act c.in-Act.act).player (plain_moves c.deref-next-items.result.now)) = rw is_act at c.requires in
     let small : (out-Act c.in-Act.act).player < 3 = small_player (out-Act c.in-Act.act).player (plain_moves c.deref-next-items.result.now) sound in
-    let digit : encode_utf8 c.from.result ≡ (48 + (out-Act c.in-Act.act).player) ∷ [] = c.in_ok-push-in-Act.ensures.ascii (omega arith) ∙ ap (λ (k : ℕ). k ∷ []) c.from.ensures in
-    let pushed : string_bytes c.push-in-Act.new.self ≡ string_bytes c.args.out.now ++ (48 + (out-Act c.in-Act.act).player) ∷ [] = c.in_ok-push-in-Act.ensures.bytes ∙ ap (λ (x : List ℕ). string_bytes c.args.out.now ++ x) digit in
+    let digit : encode_utf8 c.from.result ≡ (48 + (out-Act c.in-Act.act).player) ∷ [] = c.in_ok-push-in-Act.ensures.ascii (omega arith)
+    ∙ ap (λ (k : ℕ). k ∷ []) c.from.ensures in
+    let pushed : string_bytes c.push-in-Act.new.self ≡ string_bytes c.args.out.now
+    ++ (48 + (out-Act c.in-Act.act).player) ∷ [] = c.in_ok-push-in-Act.ensures.bytes ∙ ap (λ (x : List ℕ). string_bytes c.args.out.now ++ x) digit in
     record {
       text = rw (is_act, pushed) (simp append_assoc);
       sound = sound_moves (out-Act c.in-Act.act).player (plain_moves c.deref-next-items.result.now) sound;

@@ -15,8 +15,11 @@ loop-signal-preserved c =
     let signal_of : Place → ℕ = λ p. p.signal in
     let next : c.place_of.result.signal ≡ 0 + n = c.place_of.ensures.signal ∙ omega arith in
     record {
-      each = subst (All (IsPlace g)) (sym c.in_ok-push.ensures.items) (All-push (IsPlace g) old c.place_of.result c.loop-signal.invariant.each c.place_of.ensures.place);
-      small = subst (All (λ (p : Place). p.strength < 2 ^ 32)) (sym c.in_ok-push.ensures.items) (All-push (λ (p : Place). p.strength < 2 ^ 32) old c.place_of.result c.loop-signal.invariant.small (omega arith));
-      all = ap (map signal_of) c.in_ok-push.ensures.items ∙ map-append signal_of old (c.place_of.result ∷ []) ∙ ap (λ xs. xs ++ c.place_of.result.signal ∷ []) c.loop-signal.invariant.all
+      each = subst (All (IsPlace g)) (sym c.in_ok-push.ensures.items)
+          (All-push (IsPlace g) old c.place_of.result c.loop-signal.invariant.each c.place_of.ensures.place);
+      small = subst (All (λ (p : Place). p.strength < 2 ^ 32)) (sym c.in_ok-push.ensures.items)
+          (All-push (λ (p : Place). p.strength < 2 ^ 32) old c.place_of.result c.loop-signal.invariant.small (omega arith));
+      all = ap (map signal_of) c.in_ok-push.ensures.items ∙ map-append signal_of old (c.place_of.result ∷ [])
+          ∙ ap (λ xs. xs ++ c.place_of.result.signal ∷ []) c.loop-signal.invariant.all
           ∙ ap (λ (x : ℕ). range_with_len 0 n ++ x ∷ []) next ∙ sym (range_append 0 n 1);
     }

@@ -27,13 +27,23 @@ loop-at-preserved c =
     let kept : to_z w128 (of_z w128 c.won.result) ≡ c.won.result = to_z-of_z w128 c.won.result fits in
     let paid : c.won.result ≡ paid_by c.args.pays numbers p (take n places) =
     c.won.ensures.value
-    ∙ won_is c.args.pays numbers (take n places) here p come.passed come.at.board come.at.strength (weaker_before worth places c.requires.order n d l r here c.at-here.ensures) in
+    ∙ won_is c.args.pays numbers (take n places) here p come.passed come.at.board come.at.strength
+    (weaker_before worth places c.requires.order n d l r here c.at-here.ensures) in
     let inside : All (λ (q : Place). q.signal < length c.loop-at.sums) places = λ i e m. omega (arith, c.requires.sums i e m) in
     record {
-      walked = go_up worth places c.requires.order n d l r here c.at-here.ensures c.from.result c.past-before.result c.from.ensures c.past-before.ensures c.loop-at.invariant.walked;
-      few = omega (arith, come_within worth places c.requires.order n d l r here c.at-here.ensures c.from.result c.past-before.result c.past-before.ensures, c.from.ensures, c.type_inv.numbers p.signal, c.loop-at.invariant.few);
-      paid = λ k e m. written places c.requires.apart c.loop-at.sums inside (λ k q z. z ≡ paid_by c.args.pays numbers q (take k places)) n d (to_z w128 (of_z w128 c.won.result)) l k e (omega arith)
+      walked = go_up worth places c.requires.order n d l r here c.at-here.ensures c.from.result c.past-before.result c.from.ensures c.past-before.ensures
+          c.loop-at.invariant.walked;
+      few = omega (
+        arith,
+        come_within worth places c.requires.order n d l r here c.at-here.ensures c.from.result c.past-before.result c.past-before.ensures,
+        c.from.ensures,
+        c.type_inv.numbers p.signal,
+        c.loop-at.invariant.few,
+      );
+      paid = λ k e m. written places c.requires.apart c.loop-at.sums inside (λ k q z. z ≡ paid_by c.args.pays numbers q (take k places)) n d
+          (to_z w128 (of_z w128 c.won.result)) l k e (omega arith)
           (λ is. kept ∙ paid) (λ ne. c.loop-at.invariant.paid k e (omega (arith, m, ne)));
-      small = λ k e m. written places c.requires.apart c.loop-at.sums inside (λ k q z. unsigned_abs z < 2 ^ 120) n d (to_z w128 (of_z w128 c.won.result)) l k e (omega arith)
+      small = λ k e m. written places c.requires.apart c.loop-at.sums inside (λ k q z. unsigned_abs z < 2 ^ 120) n d (to_z w128 (of_z w128 c.won.result)) l k e
+          (omega arith)
           (λ is. subst (λ z. unsigned_abs z < 2 ^ 120) (sym kept) c.won.ensures.small) (λ ne. c.loop-at.invariant.small k e (omega (arith, m, ne)));
     }

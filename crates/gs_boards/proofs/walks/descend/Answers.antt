@@ -9,17 +9,20 @@ as_small : (a b : ℤ) → a ≡ b → unsigned_abs b < 2 ^ 120 → unsigned_abs
 as_small a b e h = subst (λ z. unsigned_abs z < 2 ^ 120) (sym e) h
 
 pub lost-requires-clause-within : goal.lost-requires-clause-within
-lost-requires-clause-within c = (come_down (place_worth c.args.pays c.args.numbers.now) _ c.requires.order _ _ (omega arith) _ _ c.at-here.ensures (one_back _ _ _ _ c.loop-at-test.true c.loop-at.invariant.walked)).within
+lost-requires-clause-within c = (come_down (place_worth c.args.pays c.args.numbers.now) _ c.requires.order _ _ (omega arith) _ _ c.at-here.ensures
+    (one_back _ _ _ _ c.loop-at-test.true c.loop-at.invariant.walked)).within
 
 pub overflow_add-sums : goal.overflow_add-sums
 overflow_add-sums c =
     let n : ℕ = c.loop-at.at - 1 in
     let d : Place = record { board = 0; strength = 0; win = 0; signal = 0 } in
     let was = c.loop-at.invariant.same n d (omega arith) in
-    (added (get_or c.loop-at.sums (get_or c.args.places.now n d).signal (pos 0)) c.lost.result (as_small _ _ was (c.requires.small n d (omega arith))) c.lost.ensures.small).fits
+    (added (get_or c.loop-at.sums (get_or c.args.places.now n d).signal (pos 0)) c.lost.result (as_small _ _ was (c.requires.small n d (omega arith)))
+    c.lost.ensures.small).fits
 
 pub past-behind-requires-clause-within : goal.past-behind-requires-clause-within
-past-behind-requires-clause-within c = (come_down (place_worth c.args.pays c.args.numbers.now) _ c.requires.order _ _ (omega arith) _ _ c.at-here.ensures (one_back _ _ _ _ c.loop-at-test.true c.loop-at.invariant.walked)).within
+past-behind-requires-clause-within c = (come_down (place_worth c.args.pays c.args.numbers.now) _ c.requires.order _ _ (omega arith) _ _ c.at-here.ensures
+    (one_back _ _ _ _ c.loop-at-test.true c.loop-at.invariant.walked)).within
 
 pub loop-at-preserved : goal.loop-at-preserved
 loop-at-preserved c =
@@ -36,7 +39,8 @@ loop-at-preserved c =
     let was : get_or c.loop-at.sums p.signal (pos 0) ≡ get_or c.args.sums.now p.signal (pos 0) = c.loop-at.invariant.same n d (omega arith) in
     let lost : c.lost.result ≡ paid_by c.args.pays numbers p (drop (n + 1) places) =
     c.lost.ensures.value
-    ∙ lost_is c.args.pays numbers (drop (n + 1) places) here p come.passed come.at.board come.at.strength (stronger_behind worth places c.requires.order n d l r here c.at-here.ensures) in
+    ∙ lost_is c.args.pays numbers (drop (n + 1) places) here p come.passed come.at.board come.at.strength
+    (stronger_behind worth places c.requires.order n d l r here c.at-here.ensures) in
     let more = added (get_or c.loop-at.sums p.signal (pos 0)) c.lost.result (as_small _ _ was (c.requires.small n d l)) c.lost.ensures.small in
     let paid : to_z w128 (of_z w128 (to_z w128 (of_z w128 (get_or c.loop-at.sums p.signal (pos 0))) +ℤ to_z w128 (of_z w128 c.lost.result)))
     ≡ get_or c.args.sums.now p.signal (pos 0) +ℤ paid_by c.args.pays numbers p (drop (n + 1) places) =
@@ -45,9 +49,16 @@ loop-at-preserved c =
     let v : ℤ = to_z w128 (of_z w128 (to_z w128 (of_z w128 (get_or c.loop-at.sums p.signal (pos 0))) +ℤ to_z w128 (of_z w128 c.lost.result))) in
     record {
       within = omega arith;
-      walked = go_down worth places c.requires.order n d l r here c.at-here.ensures c.worth.result c.past-behind.result c.worth.ensures.value c.past-behind.ensures (one_back _ _ _ _ c.loop-at-test.true c.loop-at.invariant.walked);
-      few = omega (arith, come_within worth places c.requires.order n d l r here c.at-here.ensures c.worth.result c.past-behind.result c.past-behind.ensures, c.worth.ensures.small, c.loop-at.invariant.few);
-      paid = λ k e from m. written places c.requires.apart c.loop-at.sums inside (λ k q z. z ≡ get_or c.args.sums.now q.signal (pos 0) +ℤ paid_by c.args.pays numbers q (drop (k + 1) places)) n d v l k e m
+      walked = go_down worth places c.requires.order n d l r here c.at-here.ensures c.worth.result c.past-behind.result c.worth.ensures.value
+          c.past-behind.ensures (one_back _ _ _ _ c.loop-at-test.true c.loop-at.invariant.walked);
+      few = omega (
+        arith,
+        come_within worth places c.requires.order n d l r here c.at-here.ensures c.worth.result c.past-behind.result c.past-behind.ensures,
+        c.worth.ensures.small,
+        c.loop-at.invariant.few,
+      );
+      paid = λ k e from m. written places c.requires.apart c.loop-at.sums inside
+          (λ k q z. z ≡ get_or c.args.sums.now q.signal (pos 0) +ℤ paid_by c.args.pays numbers q (drop (k + 1) places)) n d v l k e m
           (λ is. paid) (λ ne. c.loop-at.invariant.paid k e (omega (arith, from, ne)) m);
       same = λ k e m. written places c.requires.apart c.loop-at.sums inside (λ k q z. z ≡ get_or c.args.sums.now q.signal (pos 0)) n d v l k e (omega arith)
           (λ is. absurd (omega (arith, is, m))) (λ ne. c.loop-at.invariant.same k e (omega arith));

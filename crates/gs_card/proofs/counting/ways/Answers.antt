@@ -11,7 +11,8 @@ loop-i-preserved c =
     let card : ℕ = c.index-cards-i.result in
     let number : c.from.result ≡ card = c.from.ensures ∙ c.number.ensures in
     let InRange : List ℕ → Type 0 = λ g. All (λ x. x < length left) g in
-    let within : get_or c.cards-cards.result.now c.loop-i.i card < length left = subst InRange (sym c.cards-cards.ensures.cards) c.requires.in_range c.loop-i.i card (omega arith) in
+    let within : get_or c.cards-cards.result.now c.loop-i.i card < length left = subst InRange (sym c.cards-cards.ensures.cards) c.requires.in_range c.loop-i.i
+    card (omega arith) in
     let here : card < length left = omega (arith, within, c.index-cards-i.is) in
     let copies : c.from-copies.result ≡ get_or left card 0 = c.from-copies.ensures ∙ ap (λ k. get_or left k 0) number in
     let rest : c.saturating_sub.result ≡ get_or left card 0 - c.times-taken.result = c.saturating_sub.ensures ∙ ap (λ k. k - c.times-taken.result) copies in

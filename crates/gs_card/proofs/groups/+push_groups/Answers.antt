@@ -19,16 +19,21 @@ loop-card-preserved t c =
     elim c.if-index-gt0.branch [
       | then-index-gt0+in_ok-push-2+in_ok-push_groups w ↦
           let there : 0 < slice_index left card = omega arith in
-          let pushed : w.push-then-index-gt0.new.self.items ≡ front ++ card ∷ [] = w.in_ok-push-2.ensures.items ∙ ap (λ l. l ++ w.new.result ∷ []) c.loop-card.invariant.front_kept ∙ ap (λ x. front ++ x ∷ []) w.new.ensures in
-          let lowered : slice_set c.loop-card.left.items card (w.index_mut.result.now - 1) ≡ slice_set left card (slice_index left card - 1) = grind (arith, common_steps) in
+          let pushed : w.push-then-index-gt0.new.self.items ≡ front ++ card ∷ [] = w.in_ok-push-2.ensures.items
+          ∙ ap (λ l. l ++ w.new.result ∷ []) c.loop-card.invariant.front_kept ∙ ap (λ x. front ++ x ∷ []) w.new.ensures in
+          let lowered : slice_set c.loop-card.left.items card (w.index_mut.result.now - 1) ≡ slice_set left card (slice_index left card - 1) =
+          grind (arith, common_steps) in
           record {
-            found = rw (w.out-is) (groups_step-taken start c.loop-card.out.items w.push_groups.new.out.items front _ (c.args.size - 1) left _ c.args.least card le there c.loop-card.invariant.found pushed lowered w.in_ok-push_groups.ensures.found);
+            found = rw (w.out-is) (groups_step-taken start c.loop-card.out.items w.push_groups.new.out.items front _ (c.args.size - 1) left _ c.args.least card
+                le there c.loop-card.invariant.found pushed lowered w.in_ok-push_groups.ensures.found);
             front_kept = rw (w.front-is) (grind (arith, common_steps, w.pop.ensures, w.in_ok-push_groups.ensures.kept, pushed));
-            left_kept = rw (w.left-is) (raised_again left _ card _ within there (w.in_ok-push_groups.ensures.left_kept ∙ lowered) w.index_mut-then-index-gt0.ensures.value);
+            left_kept = rw (w.left-is) (raised_again left _ card _ within there (w.in_ok-push_groups.ensures.left_kept ∙ lowered)
+                w.index_mut-then-index-gt0.ensures.value);
             same_len = search rules;
           }
       | else-index-gt0 w ↦ record {
-        found = rw (w.out-is) (groups_step-none start c.loop-card.out.items front (c.args.size - 1) left c.args.least card le (omega arith) c.loop-card.invariant.found);
+        found = rw (w.out-is) (groups_step-none start c.loop-card.out.items front (c.args.size - 1) left c.args.least card le
+            (omega arith) c.loop-card.invariant.found);
         front_kept = search rules;
         left_kept = search rules;
         same_len = search rules;
@@ -39,5 +44,6 @@ pub returns-clause-found : goal.returns-clause-found
 returns-clause-found t c =
     let n : c.loop-card.card - c.args.least ≡ length c.args.left.now.items - c.args.least = omega arith in
     let step = groups_above-step c.args.size c.args.left.now.items c.args.least (omega arith) in
-    c.loop-card.invariant.found ∙ ap (λ k. c.args.out.now.items ++ map (λ g. c.args.front.now.items ++ g) (flat_map (groups_with (groups_above (c.args.size - 1)) c.args.left.now.items) (range_with_len c.args.least k))) n
+    c.loop-card.invariant.found ∙ ap (λ k. c.args.out.now.items
+    ++ map (λ g. c.args.front.now.items ++ g) (flat_map (groups_with (groups_above (c.args.size - 1)) c.args.left.now.items) (range_with_len c.args.least k))) n
     ∙ ap (λ k. c.args.out.now.items ++ map (λ g. c.args.front.now.items ++ g) k) (sym step)

@@ -13,7 +13,8 @@ use Rattle.gs_certificate.proofs.ends.sums_in.Goals as goal
 inside : (c : In-loop-end) → c.loop-end.end < end_count (frame_at c.args.side.now)
 inside c = omega (arith, c.loop-end-test.true, c.end_total-ends.ensures)
 
-fitting : (c : In-loop-end) (n : ℕ) → IsWide (frame_at c.args.side.now) (lists_at c.args.side.now) n → class_count (lists_at c.args.side.now) (round_of (frame_at c.args.side.now) (at_end c.loop-end.end)) ≤ n
+fitting : (c : In-loop-end) (n : ℕ) → IsWide (frame_at c.args.side.now) (lists_at c.args.side.now) n
+    → class_count (lists_at c.args.side.now) (round_of (frame_at c.args.side.now) (at_end c.loop-end.end)) ≤ n
 fitting c n wide =
     let d = c.args.side.now in
     let z = c.loop-end.end in
@@ -28,7 +29,8 @@ end_sums-requires-clause-room c = omega (arith, fitting (goal.at.end_sums-requir
 pub loop-end-init : goal.loop-end-init
 loop-end-init c =
     let d = c.args.side.now in
-    none_kept (frame_at d) (lists_at d) d.player (class_plan (frame_at d) (lists_at d) d.other.now) c.in_ok-starts.starts.items c.new-sums.result.items (ap length c.in_ok-starts.ensures.items)
+    none_kept (frame_at d) (lists_at d) d.player (class_plan (frame_at d) (lists_at d) d.other.now) c.in_ok-starts.starts.items c.new-sums.result.items
+    (ap length c.in_ok-starts.ensures.items)
 
 pub loop-end-preserved : goal.loop-end-preserved
 loop-end-preserved c =
@@ -42,11 +44,19 @@ loop-end-preserved c =
     let n = c.class_total-count.result in
     let paid = c.end_sums.new.sums in
     let count : n ≡ class_count ls (round_of f (at_end z)) = c.class_total-count.ensures.value ∙ ap (class_count ls) c.end_round.ensures.value in
-    let wide : n ≤ length paid = omega (arith, count, fitting (goal.at.loop-end-preserved c).In-loop-end _ c.requires.row, c.loop-end.auto.row, c.end_sums.auto.sums) in
+    let wide : n ≤ length paid = omega (
+      arith,
+      count,
+      fitting (goal.at.loop-end-preserved c).In-loop-end _ c.requires.row,
+      c.loop-end.auto.row,
+      c.end_sums.auto.sums,
+    ) in
     let long = length-take-le n paid wide ∙ count in
     let more = kept_more f ls d.player y z starts sums (take n paid) c.loop-end.invariant long
-    (λ k lk. get_or-take n paid (k - 1) (pos 0) (omega (arith, lk.0, lk.1, count)) ∙ (let at : k - 1 ≡ 0 + (k - 1) = omega arith in ap (λ i. get_or paid i (pos 0)) at) ∙ c.end_sums.ensures.here k lk) in
-    let places : c.push.new.self.items ≡ starts ++ length sums ∷ [] = c.in_ok-push.ensures.items ∙ ap (λ m. starts ++ m ∷ []) (c.len.ensures ∙ c.loop-end.sums.ok.0) in
+    (λ k lk. get_or-take n paid (k - 1) (pos 0) (omega (arith, lk.0, lk.1, count))
+    ∙ (let at : k - 1 ≡ 0 + (k - 1) = omega arith in ap (λ i. get_or paid i (pos 0)) at) ∙ c.end_sums.ensures.here k lk) in
+    let places : c.push.new.self.items ≡ starts ++ length sums ∷ [] = c.in_ok-push.ensures.items
+    ∙ ap (λ m. starts ++ m ∷ []) (c.len.ensures ∙ c.loop-end.sums.ok.0) in
     let all : c.extend_from_slice.new.self.items ≡ sums ++ take n paid = c.in_ok-extend_from_slice.ensures.items in
     subst (λ xs. AreKept f ls d.player y (z + 1) xs c.extend_from_slice.new.self.items) (sym places)
     (subst (λ xs. AreKept f ls d.player y (z + 1) (starts ++ length sums ∷ []) xs) (sym all) more)

@@ -27,7 +27,8 @@ told c e =
     subst (λ b. TellsWhether b (number <ℤ worth) (worth ≤ℤ number)) e
     (both_tell (size p n c.requires.class) number worth _ _ (some_size p n c.requires.class)
     (read_back c.total_at-number.result _ (record { sfits = c.total_at-number.type_inv }) c.total_at-number.ensures.value ∙ here_is p n c.requires.class)
-    (read_back c.worth_of.result _ (record { sfits = c.worth_of.type_inv }) c.worth_of.ensures.value ∙ worth_is p n c.requires.class c.loop-choice.choice (in_moves c)))
+    (read_back c.worth_of.result _ (record { sfits = c.worth_of.type_inv }) c.worth_of.ensures.value
+    ∙ worth_is p n c.requires.class c.loop-choice.choice (in_moves c)))
 
 pub returns-then-number-worth_of : goal.returns-then-number-worth_of
 returns-then-number-worth_of c =
@@ -41,7 +42,8 @@ loop-choice-preserved c m lm =
     let high = told (goal.at.loop-choice-preserved c).After-worth_of c.if-number-worth_of.false in
     ⊎_elim
     (λ (same : m ≡ c.loop-choice.choice).
-    subst (λ i. class_worth (frame_at k.side) (lists_at k.side) (claimed k) p.point i c.args.class ≤ℤ claimed k (at_point p.point) c.args.class) (sym same) high)
+    subst (λ i. class_worth (frame_at k.side) (lists_at k.side) (claimed k) p.point i c.args.class ≤ℤ claimed k (at_point p.point) c.args.class)
+    (sym same) high)
     (λ (other : m ≡ c.loop-choice.choice → ⊥). c.loop-choice.invariant m (omega arith))
     (cases_eq m c.loop-choice.choice)
 

@@ -16,6 +16,7 @@ returns c =
     let f = frame_at k.side in
     let n = c.args.class in
     let lc = c.requires.class in
-    both_tell (size p n lc) (claimed k (at_point p.point) n) (sum_z (λ m. class_worth f (lists_at k.side) (claimed k) p.point m n) (choices_at f p.point)) _ _ (some_size p n lc)
+    both_tell (size p n lc) (claimed k (at_point p.point) n) (sum_z (λ m. class_worth f (lists_at k.side) (claimed k) p.point m n) (choices_at f p.point)) _ _
+    (some_size p n lc)
     (read_back c.total_at.result _ (record { sfits = c.total_at.type_inv }) c.total_at.ensures.value ∙ here_is p n lc)
     (read_back c.worths_of.result _ (record { sfits = c.worths_of.type_inv }) c.worths_of.ensures ∙ worths_are p n lc)

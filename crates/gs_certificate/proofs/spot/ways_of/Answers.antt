@@ -18,4 +18,5 @@ way_from-requires-clause-onward c =
     let s = p.claim.side in
     let m = c.loop-choice.choice in
     subst (IsFrom p.point) (sym c.target_at-to.ensures)
-    (not_before p.point (leads_to (frame_at s) p.point m) ((walked s).later p.point m p.inside (omega (arith, c.loop-choice-test.true, c.move_total-choice-end.ensures.value))))
+    (not_before p.point (leads_to (frame_at s) p.point m)
+    ((walked s).later p.point m p.inside (omega (arith, c.loop-choice-test.true, c.move_total-choice-end.ensures.value))))

@@ -9,7 +9,8 @@ use Rattle.gs_certificate.proofs.PlainTexts.{kept, narrow_is}
 use Rattle.gs_certificate.proofs.straight.narrow_in.Goals as goal
 
 -- the number, as it is handed on, is small
-narrow : (negative : Bool) (size wide : ℕ) (z : ℤ) → wide ≡ size → size < 10 ^ 18 → z ≡ number_with_sign negative wide → (z ≡ number_with_sign negative size) × (unsigned_abs z < 2 ^ 90)
+narrow : (negative : Bool) (size wide : ℕ) (z : ℤ) → wide ≡ size → size < 10 ^ 18 → z ≡ number_with_sign negative wide → (z ≡ number_with_sign negative size)
+    × (unsigned_abs z < 2 ^ 90)
 narrow negative size wide z same few is =
     let so : z ≡ number_with_sign negative size = is ∙ ap (number_with_sign negative) same in
     let long : unsigned_abs z ≡ size = ap unsigned_abs so ∙ size_of negative size in
@@ -30,7 +31,8 @@ returns-in-34-clause-text c =
     let plain = c.is_plain.ensures c.if-not-is_plain.false in
     let no_minus_zero = ap (λ (k : ℕ). negative && (k == 0)) (sym c.from.ensures) ∙ sym c.if-is_minus_zero.ensures in
     let text = narrow_is c.args.bytes.now digits negative size count c.sign-negative.ensures c.digits_in-size.ensures plain.0 plain.1 no_minus_zero in
-    text ∙ ap (λ (x : ℤ). signed_decimal x ++ drop count digits) (sym n.0 ∙ kept z n.1) ∙ ap (λ (q : List ℕ). signed_decimal (to_z w128 (of_z w128 z)) ++ q) (sym (rest_is digits count))
+    text ∙ ap (λ (x : ℤ). signed_decimal x ++ drop count digits) (sym n.0 ∙ kept z n.1) ∙ ap (λ (q : List ℕ). signed_decimal (to_z w128 (of_z w128 z)) ++ q)
+    (sym (rest_is digits count))
 
 pub returns-in-34-clause-small : goal.returns-in-34-clause-small
 returns-in-34-clause-small c =

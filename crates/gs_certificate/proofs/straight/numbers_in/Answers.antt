@@ -12,6 +12,7 @@ loop-preserved c =
     let small : unsigned_abs z < 2 ^ 90 = c.in_ok-number.ensures.small in
     let one_more : zs ++ z ∷ [] ≡ c.push.new.self.items = ap (λ (x : ℤ). zs ++ x ∷ []) (kept z small) ∙ sym c.in_ok-push.ensures.items in
     record {
-      text = subst (λ (all : List ℤ). c.args.bytes.now ≡ opened all ++ next) one_more (goes_on c.args.bytes.now c.loop.left.now c.in_ok-number.rest.now next zs z c.loop.invariant.text c.in_ok-number.ensures.text c.in-Ok.ensures);
+      text = subst (λ (all : List ℤ). c.args.bytes.now ≡ opened all ++ next) one_more
+          (goes_on c.args.bytes.now c.loop.left.now c.in_ok-number.rest.now next zs z c.loop.invariant.text c.in_ok-number.ensures.text c.in-Ok.ensures);
       small = subst (All (λ (x : ℤ). unsigned_abs x < 2 ^ 90)) one_more (All-push (λ (x : ℤ). unsigned_abs x < 2 ^ 90) zs z c.loop.invariant.small small);
     }

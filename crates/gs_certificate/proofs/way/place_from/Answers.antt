@@ -10,10 +10,18 @@ pub loop-point-init : goal.loop-point-init
 loop-point-init c = c.requires.start
 
 -- where the numbers of the next point start
-next_is : (c : After-class_total-place) → let a = c.args.form.now in c.loop-point.place + c.class_total-place.result ≡ start_of (abstract_frame a) (lists_of a) (c.loop-point.point + 1)
+next_is : (c : After-class_total-place) → let a = c.args.form.now in c.loop-point.place + c.class_total-place.result ≡ start_of (abstract_frame a) (lists_of a)
+    (c.loop-point.point + 1)
 next_is c =
     let a = c.args.form.now in
-    omega (arith, c.loop-point.invariant, c.class_total-place.ensures.value, ap (class_count (lists_of a)) c.round_at.ensures.value, starts_more (abstract_frame a) (lists_of a) c.loop-point.point)
+    omega (
+      arith,
+      c.loop-point.invariant,
+      c.class_total-place.ensures.value,
+      ap (class_count (lists_of a)) c.round_at.ensures.value,
+      starts_more
+          (abstract_frame a) (lists_of a) c.loop-point.point,
+    )
 
 pub overflow_add-place : goal.overflow_add-place
 overflow_add-place c =

@@ -52,7 +52,8 @@ scaled-requires c =
     let at = (goal.at.scaled-requires c).In-Point in
     let l = few at in
     let m = number at in
-    let up = product_le c.from.result (unsigned_abs (read at)) 200000 (2 ^ 90) (omega (arith, l, c.from.ensures, c.size_of-members.ensures.value)) (omega (arith, m)) in
+    let up = product_le c.from.result (unsigned_abs (read at)) 200000 (2 ^ 90) (omega (arith, l, c.from.ensures, c.size_of-members.ensures.value))
+    (omega (arith, m)) in
     omega (arith, up)
 
 pub returns-in-Point-clause-small : goal.returns-in-Point-clause-small

@@ -31,7 +31,8 @@ loop-class-preserved c =
     let v = to_z w128 (of_z w128 c.total_at.result) in
     let k = c.args.claim.now in
     let size = class_size (lists_at k.side) c.args.way.round in
-    let value : to_z w128 (of_z w128 c.plus-sum.result) ≡ S +ℤ v = to_z-of_z w128 c.plus-sum.result (record { sfits = c.plus-sum.type_inv }) ∙ c.plus-sum.ensures in
+    let value : to_z w128 (of_z w128 c.plus-sum.result) ≡ S +ℤ v = to_z-of_z w128 c.plus-sum.result (record { sfits = c.plus-sum.type_inv })
+    ∙ c.plus-sum.ensures in
     let s = abs_sum S v in
     let small = ap unsigned_abs (to_z-of_z w128 c.total_at.result (record { sfits = c.total_at.type_inv })) in
     let first = c.args.first in

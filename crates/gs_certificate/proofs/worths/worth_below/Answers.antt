@@ -47,8 +47,14 @@ returns-clause-value c =
     let s = p.claim.side in
     let run = c.classes_below-run.result in
     read_back c.totals_between.result _ (record { sfits = c.totals_between.type_inv }) c.totals_between.ensures.value
-    ∙ sym (gathered_run (frame_at s) (lists_at s) (to at).round p.here.round c.args.class run.first run.end (together p.claim (target_of (to at).to)) c.classes_below-run.ensures)
+    ∙ sym (gathered_run (frame_at s) (lists_at s) (to at).round p.here.round c.args.class run.first run.end (together p.claim (target_of (to at).to))
+    c.classes_below-run.ensures)
     ∙ worth_at p (to at) (way at) c.args.choice c.args.class (leads at)
 
 pub returns-clause-small : goal.returns-clause-small
-returns-clause-small c = omega (arith, ap unsigned_abs (read_back c.totals_between.result c.totals_between.result (record { sfits = c.totals_between.type_inv }) refl), c.totals_between.ensures.small)
+returns-clause-small c = omega (
+  arith,
+  ap unsigned_abs (read_back c.totals_between.result c.totals_between.result (record { sfits = c.totals_between.type_inv })
+      refl),
+  c.totals_between.ensures.small,
+)

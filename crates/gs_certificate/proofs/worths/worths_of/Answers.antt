@@ -27,5 +27,7 @@ pub returns : goal.returns
 returns c =
     let k = c.args.spot.now.claim in
     let q = c.args.spot.now.point in
-    let all : c.loop-choice.choice ≡ move_count (frame_at k.side) q = omega (arith, c.loop-choice-test.false, c.loop-choice.auto.choice-end, c.move_total-choice-end.ensures.value) in
-    c.loop-choice.invariant.sum_is ∙ ap (λ n. sum_z (λ m. total_worth (frame_at k.side) (lists_at k.side) (together k) q m c.args.class) (range_with_len 0 n)) all
+    let all : c.loop-choice.choice ≡ move_count (frame_at k.side) q =
+    omega (arith, c.loop-choice-test.false, c.loop-choice.auto.choice-end, c.move_total-choice-end.ensures.value) in
+    c.loop-choice.invariant.sum_is ∙ ap (λ n. sum_z (λ m. total_worth (frame_at k.side) (lists_at k.side) (together k) q m c.args.class)
+    (range_with_len 0 n)) all

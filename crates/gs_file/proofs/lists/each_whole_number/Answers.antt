@@ -9,7 +9,8 @@ loop-item-preserved c =
     let n = c.loop-item.item-index in
     let grown : c.push.new.self.items ≡ c.loop-item.numbers.items ++ c.in_ok-number.number ∷ [] = search rules in
     let given = ap (λ x. whole_number c.args.place (view x)) (sym c.item-item.is) ∙ c.in_ok-number.ensures in
-    rw grown (goes_on (λ n. whole_number c.args.place) view c.loop-item.numbers.items c.args.items.now n (n + 1) c.item-item.result c.in_ok-number.number _ c.loop-item-test.true given c.loop-item.invariant)
+    rw grown (goes_on (λ n. whole_number c.args.place) view c.loop-item.numbers.items c.args.items.now n (n + 1) c.item-item.result c.in_ok-number.number _
+    c.loop-item-test.true given c.loop-item.invariant)
 
 pub returns : goal.returns
 returns c =
@@ -23,5 +24,7 @@ returns-in_err-number c =
     let why = c.in_err-number.field-0.0 in
     let total = each (λ n. whole_number c.args.place) 1 (map view c.args.items.now) in
     let here : Fails why (whole_number c.args.place (view c.item-item.result)) = c.in_err-number.ensures in
-    let fails : Fails why total = breaks_off (λ n. whole_number c.args.place) view why c.loop-item.numbers.items c.args.items.now n (n + 1) c.item-item.result total c.loop-item-test.true (subst (λ x. Fails why (whole_number c.args.place (view x))) c.item-item.is here) c.loop-item.invariant in
+    let fails : Fails why total = breaks_off (λ n. whole_number c.args.place) view why c.loop-item.numbers.items c.args.items.now n
+    (n + 1) c.item-item.result total c.loop-item-test.true (subst (λ x. Fails why (whole_number c.args.place (view x))) c.item-item.is here)
+    c.loop-item.invariant in
     rw (e.1, e.2) fails

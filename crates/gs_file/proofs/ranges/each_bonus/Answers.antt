@@ -16,8 +16,10 @@ loop-number-preserved c =
     let here = subst (λ y. within c.top.result 1 9 y ≡ Ok new) (to_z-of_z w64 z fits) c.in_ok-bonus.ensures.gives in
     let grown : c.push.new.self.items ≡ old ++ new ∷ [] = c.in_ok-push.ensures.items in
     record {
-      so_far = rw grown (goes_on (λ n. within (top Bonus) 1 9) (λ z. z) old c.args.numbers.now n (n + 1) (pos 0) new _ c.loop-number-test.true (subst (λ p. within p 1 9 z ≡ Ok new) c.top.ensures here) c.loop-number.invariant.so_far);
-      range = subst (All (λ (n : ℕ). (0 < n) × (n ≤ 9))) (sym grown) (All-push (λ (n : ℕ). (0 < n) × (n ≤ 9)) old new c.loop-number.invariant.range c.in_ok-bonus.ensures.range);
+      so_far = rw grown (goes_on (λ n. within (top Bonus) 1 9) (λ z. z) old c.args.numbers.now n (n + 1) (pos 0) new _ c.loop-number-test.true
+          (subst (λ p. within p 1 9 z ≡ Ok new) c.top.ensures here) c.loop-number.invariant.so_far);
+      range = subst (All (λ (n : ℕ). (0 < n) × (n ≤ 9))) (sym grown)
+          (All-push (λ (n : ℕ). (0 < n) × (n ≤ 9)) old new c.loop-number.invariant.range c.in_ok-bonus.ensures.range);
       count = ap length grown ∙ length-append old (new ∷ []) ∙ ap (λ k. k + 1) c.loop-number.invariant.count;
     }
 
@@ -25,7 +27,8 @@ pub returns : goal.returns
 returns c =
     let n = c.loop-number.number-index in
     record {
-      gives = is_done (λ n. within (top Bonus) 1 9) (λ z. z) c.loop-number.bonuses.items c.args.numbers.now n (n + 1) _ c.loop-number-test.false c.loop-number.invariant.so_far;
+      gives = is_done (λ n. within (top Bonus) 1 9) (λ z. z) c.loop-number.bonuses.items c.args.numbers.now n
+          (n + 1) _ c.loop-number-test.false c.loop-number.invariant.so_far;
       range = c.loop-number.invariant.range;
       count = omega (arith, c.loop-number.invariant.count, c.loop-number-test.false, c.loop-number.auto.number-index-end);
     }
@@ -39,5 +42,6 @@ returns-in_err-bonus c =
     let fits : FitsSigned w64 z = search rules in
     let here = subst (λ y. Fails why (within c.top.result 1 9 y)) (to_z-of_z w64 z fits) c.in_err-bonus.ensures.gives in
     let total = each (λ n. within (top Bonus) 1 9) 1 c.args.numbers.now in
-    let fails : Fails why total = breaks_off (λ n. within (top Bonus) 1 9) (λ z. z) why c.loop-number.bonuses.items c.args.numbers.now n (n + 1) (pos 0) total c.loop-number-test.true (subst (λ p. Fails why (within p 1 9 z)) c.top.ensures here) c.loop-number.invariant.so_far in
+    let fails : Fails why total = breaks_off (λ n. within (top Bonus) 1 9) (λ z. z) why c.loop-number.bonuses.items c.args.numbers.now n (n + 1)
+    (pos 0) total c.loop-number-test.true (subst (λ p. Fails why (within p 1 9 z)) c.top.ensures here) c.loop-number.invariant.so_far in
     record { gives = rw (e.1, e.2) fails; range = rw e.1 tt; count = rw e.1 tt }

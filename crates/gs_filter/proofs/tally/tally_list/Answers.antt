@@ -2,7 +2,8 @@ use Rattle.std.proofs.Common.{◌≡◌, length, arith, take, ap, ◌∙◌, Vec
 use Rattle.gs_model.specs.Numbering.{greatest}
 use Rattle.gs_filter.specs.declared.tally.Tally.{Tally}
 use Rattle.gs_filter.proofs.TallyLaws.{length-tallies_of, turn_new, turn_old, size_fits, counted_more}
-use Rattle.gs_filter.proofs.tally.tally_list.Goals.{then-class-eq0-via-then-class-eq0, then-class-eq0-via-else-class-eq0+then-class-seen, then-class-seen-2+in_ok-push, else-class-seen-2}
+use Rattle.gs_filter.proofs.tally.tally_list.Goals.{then-class-eq0-via-then-class-eq0, then-class-eq0-via-else-class-eq0+then-class-seen}
+use Rattle.gs_filter.proofs.tally.tally_list.Goals.{then-class-seen-2+in_ok-push, else-class-seen-2}
 use Rattle.gs_filter.proofs.tally.tally_list.Goals as goal
 
 pub returns-then-class-eq0-clause-unseen : goal.returns-then-class-eq0-clause-unseen
@@ -20,19 +21,23 @@ returns-then-class-eq0-clause-unseen c =
 
 pub overflow_add-index_mut : goal.overflow_add-index_mut
 overflow_add-index_mut c =
-    let s = size_fits c.args.list.now c.loop-at.at c.loop-at.tallies.items c.loop-at-test.true c.loop-at.invariant.tallied c.loop-at.invariant.counted c.index_mut.result.now (omega arith) (omega (arith, c.loop-at.tallies.ok.0))
+    let s = size_fits c.args.list.now c.loop-at.at c.loop-at.tallies.items c.loop-at-test.true c.loop-at.invariant.tallied c.loop-at.invariant.counted
+    c.index_mut.result.now (omega arith) (omega (arith, c.loop-at.tallies.ok.0))
     c.index_mut.ensures.value in
     omega arith
 
 pub loop-at-preserved : goal.loop-at-preserved
 loop-at-preserved c =
-    let more = counted_more c.args.list.now c.loop-at.at c.loop-at.tallies.items c.loop-at-test.true c.loop-at.invariant.tallied c.loop-at.invariant.counted (omega arith) (omega (arith, c.loop-at.tallies.ok.0)) in
+    let more = counted_more c.args.list.now c.loop-at.at c.loop-at.tallies.items c.loop-at-test.true c.loop-at.invariant.tallied c.loop-at.invariant.counted
+    (omega arith) (omega (arith, c.loop-at.tallies.ok.0)) in
     elim c.if-class-seen-2.branch [
       | then-class-seen-2+in_ok-push w ↦
-          let e = turn_new c.args.list.now c.loop-at.at c.loop-at.tallies.items c.loop-at-test.true c.loop-at.invariant.tallied c.loop-at.invariant.counted (omega (arith, c.loop-at.tallies.ok.0)) (omega (arith, c.loop-at.tallies.ok.0)) in
+          let e = turn_new c.args.list.now c.loop-at.at c.loop-at.tallies.items c.loop-at-test.true c.loop-at.invariant.tallied c.loop-at.invariant.counted
+          (omega (arith, c.loop-at.tallies.ok.0)) (omega (arith, c.loop-at.tallies.ok.0)) in
           record { tallied = ap (λ (v : Vec Tally Global). v.items) w.tallies-is ∙ w.in_ok-push.ensures.items ∙ e; counted = more }
       | else-class-seen-2 w ↦
-          let e = turn_old c.args.list.now c.loop-at.at c.loop-at.tallies.items c.loop-at-test.true c.loop-at.invariant.tallied c.loop-at.invariant.counted w.index_mut.result.now (omega arith) (omega (arith, c.loop-at.tallies.ok.0))
+          let e = turn_old c.args.list.now c.loop-at.at c.loop-at.tallies.items c.loop-at-test.true c.loop-at.invariant.tallied c.loop-at.invariant.counted
+          w.index_mut.result.now (omega arith) (omega (arith, c.loop-at.tallies.ok.0))
           w.index_mut.ensures.value in
           record { tallied = ap (λ (v : Vec Tally Global). v.items) w.tallies-is ∙ e; counted = more }
     ]

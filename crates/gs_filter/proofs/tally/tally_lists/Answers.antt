@@ -7,13 +7,16 @@ use Rattle.gs_filter.proofs.tally.tally_lists.Goals as goal
 pub loop-round-preserved : goal.loop-round-preserved
 loop-round-preserved c =
     let top : c.loop-round.round ≤ length (rows c.args.lists.now) = omega (arith, length-rows c.args.lists.now) in
-    let made : c.in-Ok.list.items ≡ tallies_of (list_of (rows c.args.lists.now) c.loop-round.round) = c.in-Ok.ensures.tallied ∙ ap tallies_of c.of_round.ensures in
+    let made : c.in-Ok.list.items ≡ tallies_of (list_of (rows c.args.lists.now) c.loop-round.round) = c.in-Ok.ensures.tallied
+    ∙ ap tallies_of c.of_round.ensures in
     record {
       tallied =
           ap rows c.in_ok-push-in-Ok.ensures.items
-          ∙ made_more tallies_of (rows c.args.lists.now) c.loop-round.tallies.items c.loop-round.round c.in-Ok.list (omega arith) top c.loop-round.invariant.tallied made;
+          ∙ made_more tallies_of (rows c.args.lists.now) c.loop-round.tallies.items c.loop-round.round c.in-Ok.list
+          (omega arith) top c.loop-round.invariant.tallied made;
       numbered = λ r some below. ⊎_elim
           (λ before. c.loop-round.invariant.numbered r some before)
-          (λ from. let here : c.loop-round.round ≡ r = omega arith in subst (λ k. IsNumbered (list_of (rows c.args.lists.now) k)) here (subst IsNumbered c.of_round.ensures c.in-Ok.ensures.numbered))
+          (λ from. let here : c.loop-round.round ≡ r = omega arith in subst (λ k. IsNumbered (list_of (rows c.args.lists.now) k)) here
+          (subst IsNumbered c.of_round.ensures c.in-Ok.ensures.numbered))
           (cases_lt r c.loop-round.round);
     }

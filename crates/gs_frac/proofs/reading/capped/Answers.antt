@@ -9,4 +9,5 @@ pub more_digits-value-requires-clause-digit : goal.more_digits-value-requires-cl
 more_digits-value-requires-clause-digit c = omega (arith, (digit_in c.args.bytes.now c.loop-b.b-index c.requires c.loop-b-test.true).1)
 
 pub loop-b-preserved : goal.loop-b-preserved
-loop-b-preserved c = c.more_digits-value.ensures ∙ capped_more c.args.bytes.now c.loop-b.b-index c.loop-b.value (2 ^ 127) c.requires c.loop-b-test.true c.loop-b.invariant
+loop-b-preserved c = c.more_digits-value.ensures ∙ capped_more c.args.bytes.now c.loop-b.b-index c.loop-b.value
+    (2 ^ 127) c.requires c.loop-b-test.true c.loop-b.invariant

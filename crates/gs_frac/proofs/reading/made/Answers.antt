@@ -2,11 +2,13 @@ use Rattle.std.proofs.{Common.{◌≡◌, inl, inr, ◌<◌, arith, ◌∙◌, s
 use Rattle.std.specs.Int.{w128}
 use Rattle.gs_frac.specs.{Texts.{number_with_sign}, Gcd.{gcd_of}}
 use Rattle.gs_frac.proofs.Made.{wide, unreduced, reduces, fraction_is}
-use Rattle.gs_frac.proofs.reading.made.Goals.{then-num-ge-LIMIT-via-then-num-ge-LIMIT, then-num-ge-LIMIT-via-else-num-ge-LIMIT+then-den-ge-LIMIT, then-den-eq0-via-then-den-eq0, then-den-eq0-via-else-den-eq0+then-gcd-ne1}
+use Rattle.gs_frac.proofs.reading.made.Goals.{then-num-ge-LIMIT-via-then-num-ge-LIMIT, then-num-ge-LIMIT-via-else-num-ge-LIMIT+then-den-ge-LIMIT}
+use Rattle.gs_frac.proofs.reading.made.Goals.{then-den-eq0-via-then-den-eq0, then-den-eq0-via-else-den-eq0+then-gcd-ne1}
 use Rattle.gs_frac.proofs.reading.made.Goals as goal
 
 pub returns-then-num-ge-LIMIT : goal.returns-then-num-ge-LIMIT
-returns-then-num-ge-LIMIT c = wide c.args.negative c.args.num c.args.den (elim c.then-num-ge-LIMIT.branch [ then-num-ge-LIMIT-via-then-num-ge-LIMIT w ↦ inl w.if-num-ge-LIMIT.true | then-num-ge-LIMIT-via-else-num-ge-LIMIT+then-den-ge-LIMIT w ↦ inr w.if-den-ge-LIMIT.true ])
+returns-then-num-ge-LIMIT c = wide c.args.negative c.args.num c.args.den
+    (elim c.then-num-ge-LIMIT.branch [ then-num-ge-LIMIT-via-then-num-ge-LIMIT w ↦ inl w.if-num-ge-LIMIT.true | then-num-ge-LIMIT-via-else-num-ge-LIMIT+then-den-ge-LIMIT w ↦ inr w.if-den-ge-LIMIT.true ])
 
 pub returns-then-den-eq0 : goal.returns-then-den-eq0
 returns-then-den-eq0 c =

@@ -6,5 +6,6 @@ use Rattle.gs_game.proofs.betting.+count_ends.Goals as goal
 
 pub loop-next-init : goal.loop-next-init
 loop-next-init t c =
-    let is_act : plain c.args.tree.now ≡ act (out-Act c.in-Act.act).player (plain_moves c.deref-next-items.result.now) = rw (c.in-Act.is, c.deref-next-items.ensures.value) (plain-act c.in-Act.act ∙ plain_act-out c.in-Act.act) in
+    let is_act : plain c.args.tree.now ≡ act (out-Act c.in-Act.act).player (plain_moves c.deref-next-items.result.now) =
+    rw (c.in-Act.is, c.deref-next-items.ensures.value) (plain-act c.in-Act.act ∙ plain_act-out c.in-Act.act) in
     record { rest = rw is_act (omega arith); small = omega arith }

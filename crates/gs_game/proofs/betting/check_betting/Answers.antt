@@ -10,15 +10,18 @@ returns-in_err-check_evens c =
 pub returns-in_err-check_uneven : goal.returns-in_err-check_uneven
 returns-in_err-check_uneven c =
     let p = err_from_is_err_and c.from_residual-in_err-check_uneven.result c.from_residual-in_err-check_uneven.ensures.1 in
-    rw (p.1, p.2) (uneven_fault c.args.game.now c.deref.result.now c.deref-2.result.now c.in_err-check_uneven.field-0.0 c.deref.ensures.value c.in_ok-check_evens.ensures c.deref-2.ensures.value c.in_err-check_uneven.ensures)
+    rw (p.1, p.2) (uneven_fault c.args.game.now c.deref.result.now c.deref-2.result.now c.in_err-check_uneven.field-0.0 c.deref.ensures.value
+    c.in_ok-check_evens.ensures c.deref-2.ensures.value c.in_err-check_uneven.ensures)
 
 pub returns-in_err-check_put : goal.returns-in_err-check_put
 returns-in_err-check_put c =
     let p = err_from_is_err_and c.from_residual-in_err-check_put.result c.from_residual-in_err-check_put.ensures.1 in
-    let pass = evens_pass c.args.game.now c.deref.result.now c.deref-2.result.now c.deref.ensures.value c.in_ok-check_evens.ensures c.deref-2.ensures.value c.in_ok-check_uneven.ensures in
+    let pass = evens_pass c.args.game.now c.deref.result.now c.deref-2.result.now c.deref.ensures.value c.in_ok-check_evens.ensures c.deref-2.ensures.value
+    c.in_ok-check_uneven.ensures in
     rw (p.1, p.2) (put_fault c.args.game.now c.in_err-check_put.field-0.0 pass c.in_err-check_put.ensures)
 
 pub returns : goal.returns
 returns c =
-    let pass = evens_pass c.args.game.now c.deref.result.now c.deref-2.result.now c.deref.ensures.value c.in_ok-check_evens.ensures c.deref-2.ensures.value c.in_ok-check_uneven.ensures in
+    let pass = evens_pass c.args.game.now c.deref.result.now c.deref-2.result.now c.deref.ensures.value c.in_ok-check_evens.ensures c.deref-2.ensures.value
+    c.in_ok-check_uneven.ensures in
     lines_decide c.args.game.now c.check_lines.result pass c.in_ok-check_put.ensures c.check_lines.ensures

@@ -1,4 +1,5 @@
-use Rattle.std.proofs.Common.{◌≡◌, ◌<◌, ◌-◌, ◌∙◌, ℕ, List, count_by, drop, length-drop, nat_lt, refl, sym, ap, min, length, slice_index, get_or, take, take_all, arith}
+use Rattle.std.proofs.Common.{◌≡◌, ◌<◌, ◌-◌, ◌∙◌, ℕ, List, count_by, drop, length-drop, nat_lt, refl, sym, ap, min, length, slice_index, get_or, take, take_all}
+use Rattle.std.proofs.Common.{arith}
 use Rattle.gs_game.proofs.{CountSteps.{count_rest, last_kinds, nothing_more, with_card, rest_more, rest_all, next_group, restored}, RoundSteps.{split_number}}
 use Rattle.gs_game.specs.Sequences.{count_sequences}
 use Rattle.gs_game.proofs.counting.+counter.Goals as goal
@@ -33,7 +34,8 @@ count_from-loop-card-preserved t c =
 pub count_from-returns-in-len1-up-clause-count : goal.count_from-returns-in-len1-up-clause-count
 count_from-returns-in-len1-up-clause-count t c =
     c.count_from.ensures.count
-    ∙ ap (λ (n : ℕ). min n c.args.cap) (sym (next_group c.args.later.now _ c.args.left.now c.args.least c.args.size (get_or c.args.later.now 0 0) c.if-size-eq0.true (split_number c.args.later.now c.in-len1-up.len_at_least)))
+    ∙ ap (λ (n : ℕ). min n c.args.cap) (sym (next_group c.args.later.now _ c.args.left.now c.args.least c.args.size
+    (get_or c.args.later.now 0 0) c.if-size-eq0.true (split_number c.args.later.now c.in-len1-up.len_at_least)))
 
 pub count_from-returns-then-take_nothing-clause-count : goal.count_from-returns-then-take_nothing-clause-count
 count_from-returns-then-take_nothing-clause-count t c =
@@ -42,8 +44,11 @@ count_from-returns-then-take_nothing-clause-count t c =
     let one : (rest : List ℕ) → count_sequences rest later ≡ 1 = λ rest. nothing_more later rest (c.take_nothing.ensures.0 c.if-take_nothing.true) in
     let size : c.args.size - 1 ≡ 0 = omega (arith, c.if-size-eq1.true) in
     let all = rest_all later left c.args.size c.args.least (omega (arith, c.if-size-eq1.true)) in
-    let none : count_rest later left (c.args.size - 1) c.args.least ≡ count_rest later left 0 c.args.least = ap (λ n. count_rest later left n c.args.least) size in
+    let none : count_rest later left (c.args.size - 1) c.args.least ≡ count_rest later left 0 c.args.least =
+    ap (λ n. count_rest later left n c.args.least) size in
     let kinds = last_kinds later left c.args.least one c.requires in
-    let whole : take (length left - c.args.least) (drop c.args.least left) ≡ drop c.args.least left = take_all (length left - c.args.least) (drop c.args.least left) (omega (arith, length-drop c.args.least left)) in
-    let read : c.kinds_left.result ≡ count_by (λ copies. nat_lt 0 copies) (drop c.args.least left) = c.kinds_left.ensures ∙ ap (λ (l : List ℕ). count_by (λ copies. nat_lt 0 copies) l) whole in
+    let whole : take (length left - c.args.least) (drop c.args.least left) ≡ drop c.args.least left = take_all (length left - c.args.least)
+    (drop c.args.least left) (omega (arith, length-drop c.args.least left)) in
+    let read : c.kinds_left.result ≡ count_by (λ copies. nat_lt 0 copies) (drop c.args.least left) = c.kinds_left.ensures
+    ∙ ap (λ (l : List ℕ). count_by (λ copies. nat_lt 0 copies) l) whole in
     omega (arith, c.min-then-take_nothing.ensures, all, none, kinds, read)

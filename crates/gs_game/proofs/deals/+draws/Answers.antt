@@ -15,11 +15,13 @@ draws-requires t c =
 pub returns-in-len1-up-clause-bound : goal.returns-in-len1-up-clause-bound
 returns-in-len1-up-clause-bound t c =
     let e = split_number c.args.sizes.now c.in-len1-up.len_at_least in
-    rw e (draws_bound c.args.copies (get_or c.args.sizes.now 0 0) (take (length c.args.sizes.now - 1) (drop 1 c.args.sizes.now)) c.choose.result c.draws.result c.requires.few c.choose.ensures c.draws.ensures.bound)
+    rw e (draws_bound c.args.copies (get_or c.args.sizes.now 0 0) (take (length c.args.sizes.now - 1) (drop 1 c.args.sizes.now)) c.choose.result c.draws.result
+    c.requires.few c.choose.ensures c.draws.ensures.bound)
 
 pub overflow_mul-result : goal.overflow_mul-result
 overflow_mul-result t c =
     let e = split_number c.args.sizes.now c.in-len1-up.len_at_least in
     let b : c.choose.result * c.draws.result ≤ power 468 (sum c.args.sizes.now) =
-    rw e (draws_bound c.args.copies (get_or c.args.sizes.now 0 0) (take (length c.args.sizes.now - 1) (drop 1 c.args.sizes.now)) c.choose.result c.draws.result c.requires.few c.choose.ensures c.draws.ensures.bound) in
+    rw e (draws_bound c.args.copies (get_or c.args.sizes.now 0 0) (take (length c.args.sizes.now - 1) (drop 1 c.args.sizes.now)) c.choose.result c.draws.result
+    c.requires.few c.choose.ensures c.draws.ensures.bound) in
     omega (arith, b, power_fits (sum c.args.sizes.now) c.requires.fits)

@@ -9,8 +9,10 @@ returns-in_err-check_signals c =
 
 pub returns-then-count-gt8000000 : goal.returns-then-count-gt8000000
 returns-then-count-gt8000000 c =
-    deals_over c.args.game.now _ c.args.sizes.now c.count_deals-count.result c.in_ok-check_signals.ensures.refusal (c.in_ok-check_signals.ensures.kept ∙ c.requires.left) c.requires.sizes c.count_deals-count.ensures.count c.if-count-gt8000000.true
+    deals_over c.args.game.now _ c.args.sizes.now c.count_deals-count.result c.in_ok-check_signals.ensures.refusal
+    (c.in_ok-check_signals.ensures.kept ∙ c.requires.left) c.requires.sizes c.count_deals-count.ensures.count c.if-count-gt8000000.true
 
 pub returns : goal.returns
 returns c =
-    deals_within c.args.game.now _ c.args.sizes.now c.count_deals-count.result c.in_ok-check_signals.ensures.refusal (c.in_ok-check_signals.ensures.kept ∙ c.requires.left) c.requires.sizes c.count_deals-count.ensures.count c.if-count-gt8000000.false
+    deals_within c.args.game.now _ c.args.sizes.now c.count_deals-count.result c.in_ok-check_signals.ensures.refusal
+    (c.in_ok-check_signals.ensures.kept ∙ c.requires.left) c.requires.sizes c.count_deals-count.ensures.count c.if-count-gt8000000.false

@@ -11,7 +11,8 @@ draws-weight-requires-clause-few c =
     omega (arith, most, copies)
 
 pub draws-weight-requires-clause-small : goal.draws-weight-requires-clause-small
-draws-weight-requires-clause-small c = rw (c.deref-2.ensures.value, c.in_ok-sizes.ensures, c.deref.ensures.value) (sizes_few c.args.game.now.rounds.items c.requires.cards)
+draws-weight-requires-clause-small c = rw (c.deref-2.ensures.value, c.in_ok-sizes.ensures, c.deref.ensures.value)
+    (sizes_few c.args.game.now.rounds.items c.requires.cards)
 
 pub draws-weight-requires-clause-fits : goal.draws-weight-requires-clause-fits
 draws-weight-requires-clause-fits c =
@@ -20,7 +21,8 @@ draws-weight-requires-clause-fits c =
 pub returns-then-weight-gt67108864 : goal.returns-then-weight-gt67108864
 returns-then-weight-gt67108864 c =
     let sizes = c.deref-2.ensures.value ∙ c.in_ok-sizes.ensures ∙ ap (λ (rs : List Round). deal_sizes (map round_rules rs)) c.deref.ensures.value in
-    weight_over c.args.game.now c.all_copies.result c.draws-weight.result c.deref-2.result.now (c.all_copies.ensures ∙ ap sum c.counts-counts.ensures.counts) sizes c.draws-weight.ensures.ways c.if-weight-gt67108864.true
+    weight_over c.args.game.now c.all_copies.result c.draws-weight.result c.deref-2.result.now (c.all_copies.ensures ∙ ap sum c.counts-counts.ensures.counts)
+    sizes c.draws-weight.ensures.ways c.if-weight-gt67108864.true
 
 pub check_counts-requires-clause-few : goal.check_counts-requires-clause-few
 check_counts-requires-clause-few c = (cards_pass c.args.game.now c.requires.cards c.requires.checked).few
@@ -29,11 +31,13 @@ pub returns-in_err-count : goal.returns-in_err-count
 returns-in_err-count c =
     let p = err_from_is_err_and c.from_residual-in_err-count.result c.from_residual-in_err-count.ensures.1 in
     let sizes = c.deref-2.ensures.value ∙ c.in_ok-sizes.ensures ∙ ap (λ (rs : List Round). deal_sizes (map round_rules rs)) c.deref.ensures.value in
-    let weight = weight_within c.args.game.now c.all_copies.result c.draws-weight.result c.deref-2.result.now (c.all_copies.ensures ∙ ap sum c.counts-counts.ensures.counts) sizes c.draws-weight.ensures.ways c.if-weight-gt67108864.false in
+    let weight = weight_within c.args.game.now c.all_copies.result c.draws-weight.result c.deref-2.result.now
+    (c.all_copies.ensures ∙ ap sum c.counts-counts.ensures.counts) sizes c.draws-weight.ensures.ways c.if-weight-gt67108864.false in
     rw (p.1, p.2) (counts_fault c.args.game.now c.in_err-count.field-0.0 weight.passes c.in_err-count.ensures)
 
 pub returns : goal.returns
 returns c =
     let sizes = c.deref-2.ensures.value ∙ c.in_ok-sizes.ensures ∙ ap (λ (rs : List Round). deal_sizes (map round_rules rs)) c.deref.ensures.value in
-    let weight = weight_within c.args.game.now c.all_copies.result c.draws-weight.result c.deref-2.result.now (c.all_copies.ensures ∙ ap sum c.counts-counts.ensures.counts) sizes c.draws-weight.ensures.ways c.if-weight-gt67108864.false in
+    let weight = weight_within c.args.game.now c.all_copies.result c.draws-weight.result c.deref-2.result.now
+    (c.all_copies.ensures ∙ ap sum c.counts-counts.ensures.counts) sizes c.draws-weight.ensures.ways c.if-weight-gt67108864.false in
     (counts_within c.args.game.now weight.passes c.in_ok-count.ensures.0, weight.weighs, c.in_ok-count.ensures.1)

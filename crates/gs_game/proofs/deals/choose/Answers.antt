@@ -12,4 +12,5 @@ returns-in-2 c = rw (c.in-2.is) (choose_two c.from-n.result _ c.saturating_sub.e
 pub returns-in_default : goal.returns-in_default
 returns-in_default c =
     let three : c.args.size ≡ 3 = omega arith in
-    rw three (choose_three c.from-n.result _ _ c.saturating_sub-in_default.ensures c.saturating_sub-in_default-2.ensures ∙ ap (λ (k : ℕ). choose k 3) c.from-n.ensures)
+    rw three (choose_three c.from-n.result _ _ c.saturating_sub-in_default.ensures c.saturating_sub-in_default-2.ensures
+    ∙ ap (λ (k : ℕ). choose k 3) c.from-n.ensures)

@@ -9,7 +9,8 @@ use Rattle.gs_game.proofs.lines.+follower.Goals as goal
 pub follow_from-numbers_in-requires : goal.follow_from-numbers_in-requires
 follow_from-numbers_in-requires t c =
     let e = split_first c.first-item.result c.args.rounds.now c.in-len1-up.len_at_least c.first-item.is in
-    let h = behind_first (plain c.first-item.result.tree.tree) (plain_trees (take (length c.args.rounds.now - 1) (drop 1 c.args.rounds.now))) c.args.before.points c.args.before.ends (rw e at c.requires) in
+    let h = behind_first (plain c.first-item.result.tree.tree) (plain_trees (take (length c.args.rounds.now - 1) (drop 1 c.args.rounds.now)))
+    c.args.before.points c.args.before.ends (rw e at c.requires) in
     record { evens = h.evens; points = h.points_in_them; ends = h.ends_in_them }
 
 pub follow_from-follow_below-requires : goal.follow_from-follow_below-requires
@@ -21,20 +22,30 @@ follow_from-follow_below-requires t c =
         c.numbers_in.ensures.points,
         (
           c.numbers_in.ensures.ends,
-          first_follows (plain c.first-item.result.tree.tree) (plain_trees (take (length c.args.rounds.now - 1) (drop 1 c.args.rounds.now))) c.args.before.points c.args.before.ends (rw e at c.requires),
+          first_follows (plain c.first-item.result.tree.tree) (plain_trees (take (length c.args.rounds.now - 1) (drop 1 c.args.rounds.now)))
+              c.args.before.points c.args.before.ends (rw e at c.requires),
         ),
       ),
     )
 
 pub follow_below-follow_act-requires : goal.follow_below-follow_act-requires
 follow_below-follow_act-requires t c =
-    let is_act : plain c.args.tree.now ≡ act (out-Act c.in-Act.act).player (plain_moves (out-Act c.in-Act.act).moves.items) = rw c.in-Act.is (plain-act c.in-Act.act ∙ plain_act-out c.in-Act.act) in
+    let is_act : plain c.args.tree.now ≡ act (out-Act c.in-Act.act).player (plain_moves (out-Act c.in-Act.act).moves.items) = rw c.in-Act.is
+    (plain-act c.in-Act.act ∙ plain_act-out c.in-Act.act) in
     let steps = ap (λ (b : Bet). steps_of (steps_in (plain_trees c.args.rest.now)) b) is_act in (
       omega (arith, steps, c.decreases),
-      (c.requires.points, (c.requires.ends, moves_follow (plain_trees c.args.rest.now) (out-Act c.in-Act.act).player c.args.before.points c.args.before.ends (plain_moves (out-Act c.in-Act.act).moves.items) (rw is_act at c.requires.room))),
+      (
+        c.requires.points,
+        (
+          c.requires.ends,
+          moves_follow (plain_trees c.args.rest.now) (out-Act c.in-Act.act).player c.args.before.points c.args.before.ends
+              (plain_moves (out-Act c.in-Act.act).moves.items) (rw is_act at c.requires.room),
+        ),
+      ),
     )
 
 pub follow_below-returns-in-len1-up : goal.follow_below-returns-in-len1-up
 follow_below-returns-in-len1-up t c =
-    let is_act : plain c.args.tree.now ≡ act (out-Act c.in-Act.act).player (plain_moves (out-Act c.in-Act.act).moves.items) = rw c.in-Act.is (plain-act c.in-Act.act ∙ plain_act-out c.in-Act.act) in
+    let is_act : plain c.args.tree.now ≡ act (out-Act c.in-Act.act).player (plain_moves (out-Act c.in-Act.act).moves.items) = rw c.in-Act.is
+    (plain-act c.in-Act.act ∙ plain_act-out c.in-Act.act) in
     rw (is_act, split_number c.args.text.now c.in-len1-up.len_at_least) c.follow_act.ensures

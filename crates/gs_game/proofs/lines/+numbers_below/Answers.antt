@@ -7,7 +7,8 @@ use Rattle.gs_game.proofs.lines.+numbers_below.Goals as goal
 
 pub loop-next-init : goal.loop-next-init
 loop-next-init t c =
-    let is_act : plain c.args.tree.now ≡ act (out-Act c.in-Act.act).player (plain_moves c.deref-next-items.result.now) = rw (c.in-Act.is, c.deref-next-items.ensures.value) (plain-act c.in-Act.act ∙ plain_act-out c.in-Act.act) in
+    let is_act : plain c.args.tree.now ≡ act (out-Act c.in-Act.act).player (plain_moves c.deref-next-items.result.now) =
+    rw (c.in-Act.is, c.deref-next-items.ensures.value) (plain-act c.in-Act.act ∙ plain_act-out c.in-Act.act) in
     record { points = rw is_act (omega arith); ends = rw is_act (omega arith); falls = rw is_act (omega arith) }
 
 pub numbers_below-below-requires : goal.numbers_below-below-requires

@@ -10,21 +10,28 @@ use Rattle.gs_game.proofs.walk.+walker.Goals as goal
 pub walk_from-returns-in-empty : goal.walk_from-returns-in-empty
 walk_from-returns-in-empty t c =
     let e = empty_list c.args.rounds.now c.in-empty.len_below in
-    ended c.push_end.result _ _ _ _ _ c.shown.result (show_end (place_of c.args.place (length c.args.walk.now.points.items) (length c.args.walk.now.ends.items))) _
-    (ap (λ v. v.items) c.push_end.ensures.points) c.push_end.ensures.ends refl (c.shown.ensures (length c.args.walk.now.points.items) (length c.args.walk.now.ends.items)) (rw e refl)
+    ended c.push_end.result _ _ _ _ _ c.shown.result (show_end
+    (place_of c.args.place (length c.args.walk.now.points.items) (length c.args.walk.now.ends.items))) _
+    (ap (λ v. v.items) c.push_end.ensures.points) c.push_end.ensures.ends refl
+    (c.shown.ensures (length c.args.walk.now.points.items) (length c.args.walk.now.ends.items)) (rw e refl)
 
 pub walk_below-returns-in-Fold : goal.walk_below-returns-in-Fold
 walk_below-returns-in-Fold t c =
-    ended c.push_end.result _ _ _ _ _ c.folded.result (fold_end (place_of c.args.place (length c.args.walk.now.points.items) (length c.args.walk.now.ends.items))) _
-    (ap (λ v. v.items) c.push_end.ensures.points) c.push_end.ensures.ends refl (c.folded.ensures (length c.args.walk.now.points.items) (length c.args.walk.now.ends.items)) (rw (c.in-Fold.is, plain-fold) refl)
+    ended c.push_end.result _ _ _ _ _ c.folded.result (fold_end
+    (place_of c.args.place (length c.args.walk.now.points.items) (length c.args.walk.now.ends.items))) _
+    (ap (λ v. v.items) c.push_end.ensures.points) c.push_end.ensures.ends refl
+    (c.folded.ensures (length c.args.walk.now.points.items) (length c.args.walk.now.ends.items)) (rw (c.in-Fold.is, plain-fold) refl)
 
 pub walk_act-loop-next-init : goal.walk_act-loop-next-init
 walk_act-loop-next-init t c =
-    let is_act : plain_act c.args.act.now ≡ act (out-Act c.args.act.now).player (plain_moves c.deref-next-items.result.now) = rw c.deref-next-items.ensures.value (plain_act-out c.args.act.now) in
+    let is_act : plain_act c.args.act.now ≡ act (out-Act c.args.act.now).player (plain_moves c.deref-next-items.result.now) =
+    rw c.deref-next-items.ensures.value (plain_act-out c.args.act.now) in
     let walkable = rw is_act at c.requires in
     record {
-      going = rw c.new-arrows.ensures.items (act_begins (plain_trees c.args.rest.now) (out-Act c.args.act.now).player (plain_moves c.deref-next-items.result.now) c.args.place c.args.walk.now.points.items _ _ _ c.in_ok-push.ensures.items
-          (rw (c.own.ensures, c.new.ensures.items) refl) (walkable_moves (plain_trees c.args.rest.now) (out-Act c.args.act.now).player (plain_moves c.deref-next-items.result.now) _ walkable));
+      going = rw c.new-arrows.ensures.items (act_begins (plain_trees c.args.rest.now) (out-Act c.args.act.now).player
+          (plain_moves c.deref-next-items.result.now) c.args.place c.args.walk.now.points.items _ _ _ c.in_ok-push.ensures.items
+          (rw (c.own.ensures, c.new.ensures.items) refl) (walkable_moves (plain_trees c.args.rest.now) (out-Act c.args.act.now).player
+          (plain_moves c.deref-next-items.result.now) _ walkable));
       choice = rw c.new-arrows.ensures.items refl;
       few = few_moves (plain_trees c.args.rest.now) (out-Act c.args.act.now).player c.deref-next-items.result.now _ walkable;
       falls = rw is_act (omega arith);
@@ -33,19 +40,22 @@ walk_act-loop-next-init t c =
 pub walk_act-after-here-requires-clause-one : goal.walk_act-after-here-requires-clause-one
 walk_act-after-here-requires-clause-one t c =
     let step = moves_step c.deref-next-items.result.now c.loop-next.next-index c.next-item.result c.loop-next-test.true c.next-item.is in
-    (move_fits c.args.rest.now (out-Act c.args.act.now).player c.next-item.result.letter c.next-item.result.chips (plain c.next-item.result.next) _ _ _ c.loop-next.invariant.going.fits step).one_in
+    (move_fits c.args.rest.now (out-Act c.args.act.now).player c.next-item.result.letter c.next-item.result.chips
+    (plain c.next-item.result.next) _ _ _ c.loop-next.invariant.going.fits step).one_in
 
 pub walk_act-after-here-requires-clause-two : goal.walk_act-after-here-requires-clause-two
 walk_act-after-here-requires-clause-two t c =
     let step = moves_step c.deref-next-items.result.now c.loop-next.next-index c.next-item.result c.loop-next-test.true c.next-item.is in
-    (move_fits c.args.rest.now (out-Act c.args.act.now).player c.next-item.result.letter c.next-item.result.chips (plain c.next-item.result.next) _ _ _ c.loop-next.invariant.going.fits step).two_in
+    (move_fits c.args.rest.now (out-Act c.args.act.now).player c.next-item.result.letter c.next-item.result.chips
+    (plain c.next-item.result.next) _ _ _ c.loop-next.invariant.going.fits step).two_in
 
 pub walk_act-walk_below-requires : goal.walk_act-walk_below-requires
 walk_act-walk_below-requires t c =
     let step = moves_step c.deref-next-items.result.now c.loop-next.next-index c.next-item.result c.loop-next-test.true c.next-item.is in
     let fallen = rw step at c.loop-next.invariant.falls in (
       omega (arith, fallen, c.decreases),
-      walkable_first (plain_trees c.args.rest.now) (out-Act c.args.act.now).player c.len-point.result c.len-choice.result c.next-item.result.letter c.next-item.result.chips (plain c.next-item.result.next) _ _ _ _
+      walkable_first (plain_trees c.args.rest.now) (out-Act c.args.act.now).player c.len-point.result c.len-choice.result c.next-item.result.letter
+          c.next-item.result.chips (plain c.next-item.result.next) _ _ _ _
           c.loop-next.invariant.going.fits step (c.after-here.ensures (length c.loop-next.walk.points.items) (length c.loop-next.walk.ends.items)),
     )
 
@@ -56,11 +66,15 @@ walk_act-loop-next-preserved t c =
     let number : c.len-point.result ≡ length c.args.walk.now.points.items = search rules in
     let choice : c.len-choice.result ≡ length c.loop-next.arrows.items = search rules in
     let here = c.after-here.ensures (length c.loop-next.walk.points.items) (length c.loop-next.walk.ends.items) in
-    let longer : length c.push-in-loop-next.new.self.items ≡ length c.loop-next.arrows.items + 1 = ap length c.in_ok-push-2.ensures.items ∙ length-append c.loop-next.arrows.items _ in
+    let longer : length c.push-in-loop-next.new.self.items ≡ length c.loop-next.arrows.items + 1 = ap length c.in_ok-push-2.ensures.items
+    ∙ length-append c.loop-next.arrows.items _ in
     record {
-      going = act_goes_on (plain_trees c.args.rest.now) (out-Act c.args.act.now).player c.next-item.result.letter c.next-item.result.chips (plain c.next-item.result.next) _ _ _ c.args.place c.after-here.result
-          c.args.walk.now.points.items c.loop-next.walk.points.items c.walk_below.new.walk.points.items c.args.walk.now.ends.items c.loop-next.walk.ends.items c.walk_below.new.walk.ends.items
-          c.loop-next.arrows.items c.push-in-loop-next.new.self.items c.in_ok-to.to c.loop-next.invariant.going step (rw (number, choice) at here) c.in_ok-to.ensures c.in_ok-push-2.ensures.items;
+      going = act_goes_on (plain_trees c.args.rest.now) (out-Act c.args.act.now).player c.next-item.result.letter c.next-item.result.chips
+          (plain c.next-item.result.next) _ _ _ c.args.place c.after-here.result
+          c.args.walk.now.points.items c.loop-next.walk.points.items c.walk_below.new.walk.points.items c.args.walk.now.ends.items c.loop-next.walk.ends.items
+          c.walk_below.new.walk.ends.items
+          c.loop-next.arrows.items c.push-in-loop-next.new.self.items c.in_ok-to.to c.loop-next.invariant.going step
+          (rw (number, choice) at here) c.in_ok-to.ensures c.in_ok-push-2.ensures.items;
       choice = longer ∙ omega (arith, c.loop-next.invariant.choice);
       few = c.loop-next.invariant.few;
       falls = omega (arith, fallen);
@@ -68,8 +82,11 @@ walk_act-loop-next-preserved t c =
 
 pub walk_act-returns : goal.walk_act-returns
 walk_act-returns t c =
-    let is_act : plain_act c.args.act.now ≡ act (out-Act c.args.act.now).player (plain_moves c.deref-next-items.result.now) = rw c.deref-next-items.ensures.value (plain_act-out c.args.act.now) in
+    let is_act : plain_act c.args.act.now ≡ act (out-Act c.args.act.now).player (plain_moves c.deref-next-items.result.now) =
+    rw c.deref-next-items.ensures.value (plain_act-out c.args.act.now) in
     let number : c.len-point.result ≡ length c.args.walk.now.points.items = search rules in
-    rw is_act (act_ends (plain_trees c.args.rest.now) (out-Act c.args.act.now).player c.len-point.result (plain_moves c.deref-next-items.result.now) _ c.args.place c.args.walk.now.points.items c.loop-next.walk.points.items
-    c.args.walk.now.ends.items c.loop-next.walk.ends.items c.loop-next.arrows c.index_mut.result.now c.loop-next.invariant.going (none_left c.deref-next-items.result.now c.loop-next.next-index c.loop-next-test.false) number
+    rw is_act (act_ends (plain_trees c.args.rest.now) (out-Act c.args.act.now).player c.len-point.result (plain_moves c.deref-next-items.result.now) _
+    c.args.place c.args.walk.now.points.items c.loop-next.walk.points.items
+    c.args.walk.now.ends.items c.loop-next.walk.ends.items c.loop-next.arrows c.index_mut.result.now c.loop-next.invariant.going
+    (none_left c.deref-next-items.result.now c.loop-next.next-index c.loop-next-test.false) number
     c.index_mut.ensures.value)

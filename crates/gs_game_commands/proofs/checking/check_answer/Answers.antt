@@ -10,4 +10,5 @@ returns-in_err-game c =
     exits (Checks c.args.grouping c.args.summary bytes) _ _ c.from_residual.ensures.1 (not_stated says (read_at bytes) _ c.in_err-game.ensures.refused)
 
 pub returns : goal.returns
-returns c = stated (ChecksGame c.args.grouping c.args.summary) (read_at c.args.bytes.now) (valid_view c.in_ok-game.game) c.checked.result c.in_ok-game.ensures.stated c.checked.ensures
+returns c = stated (ChecksGame c.args.grouping c.args.summary) (read_at c.args.bytes.now) (valid_view c.in_ok-game.game) c.checked.result
+    c.in_ok-game.ensures.stated c.checked.ensures

@@ -14,13 +14,16 @@ returns-in_err-_lossless c =
     let says = ChecksGame c.args.grouping c.args.summary in
     exits (says (valid_view c.args.game.now)) _ _ c.from_residual-in_err-_lossless.ensures.1
     (subst (λ (w : ValidGame). StopsFor (says (valid_view w)) c.in_err-_lossless.field-0.0) c.in_ok-signals.ensures
-    (stops_more (SaysNotLossless c.args.grouping (valid_view s.game.now)) (says (valid_view s.game.now)) (check_refuses c.args.grouping c.args.summary (valid_view s.game.now)) _ c.in_err-_lossless.ensures.unlike))
+    (stops_more (SaysNotLossless c.args.grouping (valid_view s.game.now)) (says (valid_view s.game.now))
+    (check_refuses c.args.grouping c.args.summary (valid_view s.game.now)) _ c.in_err-_lossless.ensures.unlike))
 
 pub told-requires : goal.told-requires
-told-requires c = lists_of (rules_of c.in_ok-signals.signals) c.in_ok-classes.classes.parents c.in_ok-classes.classes.lists c.in_ok-classes.ensures.parents c.in_ok-classes.classes.classes
+told-requires c = lists_of (rules_of c.in_ok-signals.signals) c.in_ok-classes.classes.parents c.in_ok-classes.classes.lists c.in_ok-classes.ensures.parents
+    c.in_ok-classes.classes.classes
 
 pub returns : goal.returns
 returns c =
     let s = c.in_ok-signals.signals in
     is_checked c.args.grouping c.args.summary (valid_view c.args.game.now) (rules_of s) (deck_of s) c.in_ok-classes.classes.lists c.in_ok-told.field-0.items
-    (ap (λ v. game_of v.game) c.in_ok-signals.ensures) (ap (λ v. v.game.deck) c.in_ok-signals.ensures) c.in_ok-classes.ensures.grouping c.in_ok-_lossless.ensures.lossless c.in_ok-told.ensures
+    (ap (λ v. game_of v.game) c.in_ok-signals.ensures) (ap (λ v. v.game.deck) c.in_ok-signals.ensures) c.in_ok-classes.ensures.grouping
+    c.in_ok-_lossless.ensures.lossless c.in_ok-told.ensures

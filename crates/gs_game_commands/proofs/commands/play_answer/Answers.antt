@@ -23,14 +23,16 @@ pub returns-in_err-game : goal.returns-in_err-game
 returns-in_err-game c =
     let bytes = c.args.bytes.now in
     let says = Plays c.args.turns in
-    exits (Settles says c.args.grouping bytes) _ _ c.from_residual.ensures.1 (not_stated (OfGrouping c.args.grouping says) (read_at bytes) _ c.in_err-game.ensures.refused)
+    exits (Settles says c.args.grouping bytes) _ _ c.from_residual.ensures.1
+    (not_stated (OfGrouping c.args.grouping says) (read_at bytes) _ c.in_err-game.ensures.refused)
 
 pub returns-in_err-lossless : goal.returns-in_err-lossless
 returns-in_err-lossless c =
     let bytes = c.args.bytes.now in
     let says = Plays c.args.turns in
     exits (Settles says c.args.grouping bytes) _ _ c.from_residual-in_err-lossless.ensures.1
-    (unlike says c.args.grouping bytes c.in_ok-game.game c.in_ok-signals.signals _ c.in_ok-game.ensures.stated c.in_ok-signals.ensures c.in_err-lossless.ensures.unlike)
+    (unlike says c.args.grouping bytes c.in_ok-game.game c.in_ok-signals.signals _ c.in_ok-game.ensures.stated c.in_ok-signals.ensures
+    c.in_err-lossless.ensures.unlike)
 
 pub returns-in_err-form : goal.returns-in_err-form
 returns-in_err-form c =
@@ -41,4 +43,5 @@ returns-in_err-form c =
 
 pub returns : goal.returns
 returns c =
-    said (Plays c.args.turns) c.args.grouping c.args.bytes.now c.in_ok-lossless.lossless (over (goal.at.returns c).In_ok-lossless) c.in_ok-form.form (Ok c.in_ok-played.field-0) c.in_ok-form.ensures.held c.in_ok-form.ensures.small c.in_ok-played.ensures
+    said (Plays c.args.turns) c.args.grouping c.args.bytes.now c.in_ok-lossless.lossless (over (goal.at.returns c).In_ok-lossless) c.in_ok-form.form
+    (Ok c.in_ok-played.field-0) c.in_ok-form.ensures.held c.in_ok-form.ensures.small c.in_ok-played.ensures

@@ -11,7 +11,8 @@ pub returns-in-Isomorphism-clause-unlike : goal.returns-in-Isomorphism-clause-un
 returns-in-Isomorphism-clause-unlike c =
     let v = valid_view c.args.signals.now.game.now in
     let lists = c.args.classes.now.lists in
-    IfErr-weaker c.lossless_classes.result _ _ (λ e h. stops_more (SaysUnlike v lists) (SaysNotLossless c.args.grouping v) (unlike_so c.args.grouping v lists c.requires.grouping) e h) c.lossless_classes.ensures.unlike
+    IfErr-weaker c.lossless_classes.result _ _ (λ e h. stops_more (SaysUnlike v lists) (SaysNotLossless c.args.grouping v)
+    (unlike_so c.args.grouping v lists c.requires.grouping) e h) c.lossless_classes.ensures.unlike
 
 pub known-requires-clause-lossless : goal.known-requires-clause-lossless
 known-requires-clause-lossless c = always_lossless c.args.grouping (rules_of c.args.signals.now) c.args.classes.now.lists c.in-Coarsest.is c.requires.grouping

@@ -17,10 +17,12 @@ returns-in-Ok-trace c = record {
 
 pub unended-requires-clause-stop : goal.unended-requires-clause-stop
 unended-requires-clause-stop c =
-    subst (λ (o : Listing). IsStop c.in-Ok.made.0 o most_pivots c.in-Err-trace.stop) (c.deref.ensures.value ∙ sym c.deref-in-Err-trace.ensures.value) c.in-Err-trace.ensures
+    subst (λ (o : Listing). IsStop c.in-Ok.made.0 o most_pivots c.in-Err-trace.stop) (c.deref.ensures.value ∙ sym c.deref-in-Err-trace.ensures.value)
+    c.in-Err-trace.ensures
 
 pub unended-requires-clause-met : goal.unended-requires-clause-met
 unended-requires-clause-met c =
     let form = c.args.form.now in
-    stop_is_met (abstract_frame form) (lists_of form) (form_is form) c.in-Ok.made.0 c.in-Ok.made.1.items c.in-Ok.ensures.path c.in-Ok.ensures.small c.in-Err-trace.stop
+    stop_is_met (abstract_frame form) (lists_of form) (form_is form) c.in-Ok.made.0 c.in-Ok.made.1.items c.in-Ok.ensures.path c.in-Ok.ensures.small
+    c.in-Err-trace.stop
     (subst (λ (o : Listing). IsStop c.in-Ok.made.0 o most_pivots c.in-Err-trace.stop) c.deref.ensures.value c.in-Err-trace.ensures)

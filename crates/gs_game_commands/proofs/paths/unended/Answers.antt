@@ -6,8 +6,12 @@ use Rattle.gs_game_commands.proofs.paths.unended.Goals as goal
 pub returns-in-Wide : goal.returns-in-Wide
 returns-in-Wide c =
     let w = c.in-Wide in
-    let stops = rw w.is at c.requires.stop in
-    (Overflows (AtStep w.step w.row w.col w.number), (c.args.p.now, c.args.opening.now, c.requires.path, stops.0, stops.1), overflow_is w.step w.row w.col w.number (search rules))
+    let stops = rw w.is at c.requires.stop in (
+      Overflows (AtStep w.step w.row w.col w.number),
+      (c.args.p.now, c.args.opening.now, c.requires.path, stops.0, stops.1),
+      overflow_is w.step w.row w.col
+          w.number (search rules),
+    )
 
 pub returns-in-Pivots : goal.returns-in-Pivots
 returns-in-Pivots c =

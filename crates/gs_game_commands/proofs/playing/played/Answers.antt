@@ -3,4 +3,5 @@ use Rattle.gs_game_commands.proofs.playing.played.Goals as goal
 
 pub returns : goal.returns
 returns c =
-    IfOk-weaker c.text_of.result _ _ (λ text told. record { one = c.in_ok-one.one; two = c.in_ok-one.two; played = c.in_ok-one.ensures.played; told = told }) c.text_of.ensures
+    IfOk-weaker c.text_of.result _ _ (λ text told. record { one = c.in_ok-one.one; two = c.in_ok-one.two; played = c.in_ok-one.ensures.played; told = told })
+    c.text_of.ensures

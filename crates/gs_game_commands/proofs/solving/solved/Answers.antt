@@ -7,4 +7,5 @@ use Rattle.gs_game_commands.proofs.solving.solved.Goals as goal
 pub returns-in_ok-text_of-in-Ok : goal.returns-in_ok-text_of-in-Ok
 returns-in_ok-text_of-in-Ok c =
     let form = c.args.form.now in
-    is_solved (file_game_in form) (lists_of form) c.in-Ok.one c.in-Ok.two c.in_ok-text_of-in-Ok.field-0.items c.in_ok-text_of-in-Ok.ensures (some_deal form.lossless.now.signals.now.game.now) c.in-Ok.ensures
+    is_solved (file_game_in form) (lists_of form) c.in-Ok.one c.in-Ok.two c.in_ok-text_of-in-Ok.field-0.items c.in_ok-text_of-in-Ok.ensures
+    (some_deal form.lossless.now.signals.now.game.now) c.in-Ok.ensures

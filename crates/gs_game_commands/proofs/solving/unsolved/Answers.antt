@@ -8,7 +8,12 @@ pub returns-in-TableTooLarge : goal.returns-in-TableTooLarge
 returns-in-TableTooLarge c = (Too_large (TableNumbers c.in-TableTooLarge.count), rw c.in-TableTooLarge.is at c.requires, refl)
 
 pub returns-in-Wide : goal.returns-in-Wide
-returns-in-Wide c = let w = c.in-Wide in (Overflows (AtStep w.step w.row w.col w.number), rw w.is at c.requires, overflow_is w.step w.row w.col w.number (search rules))
+returns-in-Wide c = let w = c.in-Wide in (
+  Overflows (AtStep w.step w.row w.col w.number),
+  rw w.is at c.requires,
+  overflow_is w.step w.row w.col w.number
+      (search rules),
+)
 
 pub returns-in-Pivots : goal.returns-in-Pivots
 returns-in-Pivots c = (Many_pivots, rw c.in-Pivots.is at c.requires, refl)

@@ -13,7 +13,8 @@ returns-then-is_err g c =
     let short = short_piece c.min-room.result c.in-Ok.count c.take.new.into c.loop-piece.piece c.take.auto.into in (
       (
         c.loop-piece.bytes.items ++ piece,
-        Consumes-trans (left c.args.source.now) (left c.loop-piece.source) (left c.take.new.self) c.loop-piece.bytes.items piece c.loop-piece.invariant.taken c.in-Ok.ensures.bytes.0,
+        Consumes-trans (left c.args.source.now) (left c.loop-piece.source) (left c.take.new.self) c.loop-piece.bytes.items piece c.loop-piece.invariant.taken
+            c.in-Ok.ensures.bytes.0,
         simp length-append (omega arith),
       ),
       c.in-Ok.ensures.cause.ok ∙ c.loop-piece.invariant.faults,

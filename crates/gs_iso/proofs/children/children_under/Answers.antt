@@ -11,7 +11,8 @@ pub edge-requires-clause-in_range : goal.edge-requires-clause-in_range
 edge-requires-clause-in_range c =
     let g = rules_of c.args.signals.now in
     let e : suc c.args.round ≡ c.args.round + 1 = omega arith in
-    let lt : c.loop-child.child < length (signals g (suc c.args.round)) = omega (arith, c.loop-child-test.true, c.children-first.ensures.end, children_within g c.args.round c.args.signal c.requires.in_range) in
+    let lt : c.loop-child.child < length (signals g (suc c.args.round)) =
+    omega (arith, c.loop-child-test.true, c.children-first.ensures.end, children_within g c.args.round c.args.signal c.requires.in_range) in
     subst (λ r. c.loop-child.child < length (signals g r)) e lt
 
 pub bounds-below-child : goal.bounds-below-child
@@ -19,7 +20,15 @@ bounds-below-child c =
     let g = rules_of c.args.signals.now in
     let e : suc c.args.round ≡ c.args.round + 1 = omega arith in
     let n = ap (λ r. length (signals g r)) e in
-    omega (arith, n, c.requires.numbers.long, c.loop-child-test.true, c.children-first.ensures.end, children_within g c.args.round c.args.signal c.requires.in_range)
+    omega (
+      arith,
+      n,
+      c.requires.numbers.long,
+      c.loop-child-test.true,
+      c.children-first.ensures.end,
+      children_within g c.args.round c.args.signal
+          c.requires.in_range,
+    )
 
 pub loop-child-preserved : goal.loop-child-preserved
 loop-child-preserved c =

@@ -9,10 +9,12 @@ loop-signal-preserved c =
     let key = child_part (rules_of c.args.signals.now) c.args.round c.args.numbers.now in
     let n = c.in_ok-mark.ensures in
     let with : ℕ → ℕ × ℕ = λ edge. (edge, get_or c.args.numbers.now c.loop-signal.signal 0) in
-    seen_more child_eq child_exact key _ _ _ _ _ _ (with c.edge.result) c.loop-signal.invariant (ap with (sym c.edge.ensures)) n.stored n.grown n.few n.unique n.some c.in_ok-push.ensures.items
+    seen_more child_eq child_exact key _ _ _ _ _ _ (with c.edge.result) c.loop-signal.invariant (ap with (sym c.edge.ensures)) n.stored n.grown n.few n.unique
+    n.some c.in_ok-push.ensures.items
 
 pub returns-then-are_light : goal.returns-then-are_light
-returns-then-are_light c = marks_light (rules_of c.args.signals.now) c.args.round c.args.numbers.now c.requires.numbers (c.are_light.ensures.0 c.if-are_light.true)
+returns-then-are_light c = marks_light (rules_of c.args.signals.now) c.args.round c.args.numbers.now c.requires.numbers
+    (c.are_light.ensures.0 c.if-are_light.true)
 
 pub returns : goal.returns
 returns c = record {

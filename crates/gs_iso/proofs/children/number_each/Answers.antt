@@ -30,7 +30,9 @@ returns c =
     let count : length numbers ≡ length (signals g r) = omega (arith, c.count-count.ensures.value, c.loop-signal.invariant.long) in
     record {
       long = count;
-      same = λ i j li lj. numbers_are nat_eq Decides-eqb (λ i a. IsSignature mark_lt (marks_under g r marks i) a) c.loop-signal.seen.keys numbers c.loop-signal.invariant.distinct c.loop-signal.invariant.leads
+      same = λ i j li lj. numbers_are nat_eq Decides-eqb (λ i a. IsSignature mark_lt (marks_under g r marks i) a) c.loop-signal.seen.keys numbers
+          c.loop-signal.invariant.distinct c.loop-signal.invariant.leads
           (λ i j. Unit {0}) (λ i j. Isomorphic g r (signal_at g r i) (signal_at g r j))
-          (λ i j a b li lj one ha hb. mark_law_at g r (r + 1) (omega arith) c.requires.before_last c.requires.marks.0 marks c.requires.marks.1 c.requires.marks.2 i j (omega (arith, li, count)) (omega (arith, lj, count)) a b ha hb) i j li lj tt;
+          (λ i j a b li lj one ha hb. mark_law_at g r (r + 1) (omega arith) c.requires.before_last c.requires.marks.0 marks c.requires.marks.1
+          c.requires.marks.2 i j (omega (arith, li, count)) (omega (arith, lj, count)) a b ha hb) i j li lj tt;
     }

@@ -12,7 +12,15 @@ slice_bounds-extend_from_slice-end c =
     let g = rules_of c.args.signals.now in
     let e : suc c.args.round ≡ c.args.round + 1 = omega arith in
     let n = ap (λ r. length (signals g r)) e in
-    omega (arith, n, c.requires.marks, c.children-first.ensures.end, c.children-first.ensures.first, children_within g c.args.round c.args.signal c.requires.in_range)
+    omega (
+      arith,
+      n,
+      c.requires.marks,
+      c.children-first.ensures.end,
+      c.children-first.ensures.first,
+      children_within g c.args.round c.args.signal
+          c.requires.in_range,
+    )
 
 pub returns : goal.returns
 returns c =
@@ -26,7 +34,8 @@ returns c =
     c.in_ok-extend_from_slice.ensures.items
     ∙ ap (λ (l : List ℕ). l ++ slice_range marks c.children-first.result.0 c.children-first.result.1) c.clear.ensures.items
     ∙ ap (λ (k : ℕ). slice_range marks k c.children-first.result.1) c.children-first.ensures.first
-    ∙ slice_run marks first c.children-first.result.1 count (omega (arith, c.children-first.ensures.end)) (omega (arith, n, c.requires.marks, c.children-first.ensures.end, children_within g c.args.round c.args.signal c.requires.in_range)) in
+    ∙ slice_run marks first c.children-first.result.1 count (omega (arith, c.children-first.ensures.end))
+    (omega (arith, n, c.requires.marks, c.children-first.ensures.end, children_within g c.args.round c.args.signal c.requires.in_range)) in
     record {
       moved = subst (λ (l : List ℕ). IsPermutation l c.sort_unstable.new.self.items) run c.sort_unstable.ensures.permutation;
       sorted = c.sort_unstable.ensures.sorted;

@@ -18,4 +18,5 @@ pub loop-at-preserved : goal.loop-at-preserved
 loop-at-preserved c =
     let key = class_key c.args.items.above.now c.args.items.parents.now c.args.items.numbers.now in
     let n = c.in_ok-class.ensures in
-    seen_more child_eq child_exact key _ _ _ _ _ _ _ c.loop-at.invariant (sym c.key-key.ensures) n.stored n.grown n.few n.unique n.some c.in_ok-push-2.ensures.items
+    seen_more child_eq child_exact key _ _ _ _ _ _ _ c.loop-at.invariant (sym c.key-key.ensures) n.stored n.grown n.few n.unique n.some
+    c.in_ok-push-2.ensures.items

@@ -13,7 +13,9 @@ loop-right-preserved g c =
     let lx = c.requires.in_range in
     elim c.if-eq.branch [
       | then-eq+in_ok-push w ↦ subst (AreRowEdges eq xs ys left (right + 1)) (sym (ap items w.edges-is ∙ w.in_ok-push.ensures.items))
-          (row_alike eq xs ys left right c.loop-right.edges.items c.index-ones-left.result c.index-twos-right.result lx (omega arith) c.index-ones-left.is c.index-twos-right.is (sym c.eq.ensures ∙ w.if-eq.true) c.loop-right.invariant)
+          (row_alike eq xs ys left right c.loop-right.edges.items c.index-ones-left.result c.index-twos-right.result lx
+          (omega arith) c.index-ones-left.is c.index-twos-right.is (sym c.eq.ensures ∙ w.if-eq.true) c.loop-right.invariant)
       | else-eq w ↦ subst (AreRowEdges eq xs ys left (right + 1)) (sym (ap items w.edges-is))
-          (row_apart eq xs ys left right c.loop-right.edges.items c.index-ones-left.result c.index-twos-right.result lx (omega arith) c.index-ones-left.is c.index-twos-right.is (sym c.eq.ensures ∙ w.if-eq.false) c.loop-right.invariant)
+          (row_apart eq xs ys left right c.loop-right.edges.items c.index-ones-left.result c.index-twos-right.result lx
+          (omega arith) c.index-ones-left.is c.index-twos-right.is (sym c.eq.ensures ∙ w.if-eq.false) c.loop-right.invariant)
     ]

@@ -20,9 +20,11 @@ loop-signal-preserved c =
     let g = rules_of c.args.signals.now in
     let h = c.loop-signal.invariant in
     let n = c.in_ok-number.ensures in
-    let here : c.loop-signal.signal < length (signals g (round_count g)) = omega (arith, c.loop-signal-test.true, c.count-count.ensures.value, ap (λ n. length (signals g n)) c.rounds.ensures.value) in
+    let here : c.loop-signal.signal < length (signals g (round_count g)) =
+    omega (arith, c.loop-signal-test.true, c.count-count.ensures.value, ap (λ n. length (signals g n)) c.rounds.ensures.value) in
     let signs = subst (IsLeafSignature g c.loop-signal.signal) (sym c.deref-in-loop-signal.ensures.value) c.in_ok-sign_leaves.ensures in
-    becoming_more g c.in_ok-keys.keys.items c.loop-signal.seen.keys c.number_of_list.new.lists.keys c.loop-signal.numbers.items c.loop-signal.signal c.in_ok-number.number h here
+    becoming_more g c.in_ok-keys.keys.items c.loop-signal.seen.keys c.number_of_list.new.lists.keys c.loop-signal.numbers.items c.loop-signal.signal
+    c.in_ok-number.number h here
     (λ e. numbered_more nat_eq Decides-eqb (IsLeafSignature g) _ _ _ _ _ _ _ h.done signs n.kept n.number n.few n.unique e)
 
 pub loop-signal-preserved-then-first-signal : goal.loop-signal-preserved-then-first-signal
@@ -34,7 +36,8 @@ loop-signal-preserved-then-first-signal c =
     let signal = c.loop-signal.signal in
     let j = c.index-first.result.now in
     let n = c.index-number.result.now in
-    let here : signal < length (signals g (round_count g)) = omega (arith, c.loop-signal-test.true, c.count-count.ensures.value, ap (λ n. length (signals g n)) c.rounds.ensures.value) in
+    let here : signal < length (signals g (round_count g)) =
+    omega (arith, c.loop-signal-test.true, c.count-count.ensures.value, ap (λ n. length (signals g n)) c.rounds.ensures.value) in
     let first : j ≡ get_or numbers signal 0 = get_or_read numbers signal j (omega (arith, here, h.long)) c.index-first.ensures 0 in
     let like : AreAlike g keys signal j = subst (λ k. AreAlike g keys signal k) (sym first) (h.alike signal (omega arith) here) in
     let read : n ≡ get_or (take signal numbers) j n = c.index-number.ensures ∙ sym (get_or-take signal numbers j n c.if-first-signal.true) in
@@ -49,7 +52,8 @@ returns c =
     let h = c.loop-signal.invariant in
     let numbers = c.loop-signal.numbers.items in
     let count = ap (λ n. length (signals g n)) c.rounds.ensures.value in
-    let whole : take c.loop-signal.signal numbers ≡ numbers = take_all c.loop-signal.signal numbers (omega (arith, h.long, count, c.count-count.ensures.value, c.loop-signal-test.false)) in
+    let whole : take c.loop-signal.signal numbers ≡ numbers = take_all c.loop-signal.signal numbers
+    (omega (arith, h.long, count, c.count-count.ensures.value, c.loop-signal-test.false)) in
     let done = subst (λ (ns : List ℕ). AreNumbered nat_eq Decides-eqb (IsLeafSignature g) c.loop-signal.seen.keys ns c.loop-signal.signal) whole h.done in
     record {
       long = h.long;

@@ -6,4 +6,5 @@ use Rattle.gs_iso.proofs.leaves.leaves_of.Goals as goal
 pub returns : goal.returns
 returns c =
     items_from_collect _ c.collect.ensures.ran
-    (YieldsList-from_map _ (leaf_of c.args.path) (YieldsList-from_first (λ (d : Deal). d) (λ (ds : List Deal). ds) c.args.deals c.map.ensures.source) c.map.ensures.closure (λ x r q k. search rules))
+    (YieldsList-from_map _ (leaf_of c.args.path) (YieldsList-from_first (λ (d : Deal). d) (λ (ds : List Deal). ds) c.args.deals c.map.ensures.source)
+    c.map.ensures.closure (λ x r q k. search rules))

@@ -66,4 +66,5 @@ returns-clause-small c =
     let s = signal_at g (round_count g) c.args.signal in
     let P : ℕ × ℤ → Type 0 = λ l. unsigned_abs l.1 < 256 in
     subst (All P) (sym (leaves_are_deals g c.args.signal c.requires).2)
-    (All-map P (leaf_of (path_weight g.copies s)) (filter (λ (d : Deal). d.one == c.args.signal) (deals g)) (c.loop-deal.invariant.small (subst (All is_small) (sym c.in-None.ensures.steps.0) none_is_small)))
+    (All-map P (leaf_of (path_weight g.copies s)) (filter (λ (d : Deal). d.one == c.args.signal) (deals g))
+    (c.loop-deal.invariant.small (subst (All is_small) (sym c.in-None.ensures.steps.0) none_is_small)))

@@ -18,7 +18,8 @@ returns-in-Some-clause-number g c =
 
 pub returns-clause-kept : goal.returns-clause-kept
 returns-clause-kept g c = λ i k e.
-    subst (λ ks. slice_get ks i ≡ Some k) (sym c.in_ok-number.ensures.grown) (slice_get-insert (same_parts g.P.PartialEq.eq) c.args.lists.now.keys c.extend_from_slice.new.self i k e)
+    subst (λ ks. slice_get ks i ≡ Some k) (sym c.in_ok-number.ensures.grown)
+    (slice_get-insert (same_parts g.P.PartialEq.eq) c.args.lists.now.keys c.extend_from_slice.new.self i k e)
 
 pub returns-clause-number : goal.returns-clause-number
 returns-clause-number g c =
@@ -37,4 +38,5 @@ returns-in-Some-clause-grown g c = parts_stay g.P.PartialEq.eq c.args.lists.now.
 pub returns-clause-grown : goal.returns-clause-grown
 returns-clause-grown g c =
     let whole = c.in_ok-extend_from_slice.ensures.items ∙ ap (λ l. l ++ c.args.list.now) c.in_ok-key.ensures.items in
-    parts_insert g.P.PartialEq.eq c.args.lists.now.keys c.number_of.new.keys.keys c.extend_from_slice.new.self c.args.list.now whole c.in_ok-number.ensures.grown
+    parts_insert g.P.PartialEq.eq c.args.lists.now.keys c.number_of.new.keys.keys c.extend_from_slice.new.self c.args.list.now whole
+    c.in_ok-number.ensures.grown

@@ -7,11 +7,21 @@ use Rattle.gs_iso.proofs.pairings.leaf_pairing.Goals as goal
 
 pub match_equals-requires-clause-few_ones : goal.match_equals-requires-clause-few_ones
 match_equals-requires-clause-few_ones c =
-    omega (arith, ap length (c.deref.ensures.value ∙ c.in_ok-ones.ensures), leaves_few (rules_of c.args.signals.now) c.args.a c.args.signals.now.game.now.limits c.requires.a_in)
+    omega (
+      arith,
+      ap length (c.deref.ensures.value ∙ c.in_ok-ones.ensures),
+      leaves_few (rules_of c.args.signals.now) c.args.a c.args.signals.now.game.now.limits
+          c.requires.a_in,
+    )
 
 pub match_equals-requires-clause-few_twos : goal.match_equals-requires-clause-few_twos
 match_equals-requires-clause-few_twos c =
-    omega (arith, ap length (c.deref-2.ensures.value ∙ c.in_ok-twos.ensures), leaves_few (rules_of c.args.signals.now) c.args.b c.args.signals.now.game.now.limits c.requires.b_in)
+    omega (
+      arith,
+      ap length (c.deref-2.ensures.value ∙ c.in_ok-twos.ensures),
+      leaves_few
+          (rules_of c.args.signals.now) c.args.b c.args.signals.now.game.now.limits c.requires.b_in,
+    )
 
 pub returns : goal.returns
 returns c =
@@ -19,4 +29,5 @@ returns c =
     let s = signal_at g (round_count g) c.args.a in
     let t = signal_at g (round_count g) c.args.b in
     IfOk-weaker c.match_equals.result (IsPairingAnswer leaf_eq c.deref.result.now c.deref-2.result.now) (IsPaired g (round_count g) s t)
-    (leaf_answer g s t c.deref.result.now c.deref-2.result.now (c.deref.ensures.value ∙ c.in_ok-ones.ensures) (c.deref-2.ensures.value ∙ c.in_ok-twos.ensures)) c.match_equals.ensures
+    (leaf_answer g s t c.deref.result.now c.deref-2.result.now (c.deref.ensures.value ∙ c.in_ok-ones.ensures) (c.deref-2.ensures.value ∙ c.in_ok-twos.ensures))
+    c.match_equals.ensures

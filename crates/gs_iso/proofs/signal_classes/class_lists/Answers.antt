@@ -20,7 +20,8 @@ numbered c =
     let i = c.from-in-loop-done.result - 1 in
     let n = length-rows all in
     let in' : i < length all = omega (arith, n, c.requires.rounds, c.from-in-loop-done.ensures, c.loop-done-test.true, c.rounds-rounds.ensures.value) in
-    numbers_in (rules_of c.args.signals.now) (rows all) i (suc c.loop-done.done) c.deref-in-loop-done.result.now c.requires (omega (arith, n, in')) (omega (arith, c.from-in-loop-done.ensures, c.loop-done-test.true, c.rounds-rounds.ensures.value))
+    numbers_in (rules_of c.args.signals.now) (rows all) i (suc c.loop-done.done) c.deref-in-loop-done.result.now c.requires (omega (arith, n, in'))
+    (omega (arith, c.from-in-loop-done.ensures, c.loop-done-test.true, c.rounds-rounds.ensures.value))
     (c.deref-in-loop-done.ensures.value ∙ row_read all i c.index-numbers-from.result in' c.index-numbers-from.is)
 
 parents_are : (c : After-deref-in-loop-done) → c.parents_in.result.now ≡ parents (rules_of c.args.signals.now) (suc c.loop-done.done)
@@ -28,7 +29,8 @@ parents_are c = let next : c.loop-done.done + 1 ≡ suc c.loop-done.done = omega
 
 are_ready : (c : After-deref-in-loop-done) → AreReady c.last_classes.result.now c.parents_in.result.now c.deref-in-loop-done.result.now
 are_ready c =
-    ready (rules_of c.args.signals.now) c.loop-done.done c.last_classes.result.now c.parents_in.result.now c.deref-in-loop-done.result.now c.args.signals.now.game.now.limits
+    ready (rules_of c.args.signals.now) c.loop-done.done c.last_classes.result.now c.parents_in.result.now c.deref-in-loop-done.result.now
+    c.args.signals.now.game.now.limits
     (omega (arith, c.loop-done-test.true, c.rounds-rounds.ensures.value)) (above c) (parents_are c) (numbered c)
 
 pub invariant_of-items : goal.invariant_of-items
@@ -46,11 +48,13 @@ loop-done-preserved c =
     let lists = c.loop-done.lists.items in
     let here = c.in_ok-here.here in
     let pushed = c.in_ok-push.ensures.items in
-    let k = classes_next g c.loop-done.done c.last_classes.result.now c.deref-in-loop-done.result.now here.items (above at) (numbered at) c.in_ok-here.ensures.long c.parents_in.result.now (parents_are at) c.in_ok-here.ensures.classes in
+    let k = classes_next g c.loop-done.done c.last_classes.result.now c.deref-in-loop-done.result.now here.items (above at)
+    (numbered at) c.in_ok-here.ensures.long c.parents_in.result.now (parents_are at) c.in_ok-here.ensures.classes in
     record {
       long = ap length pushed ∙ length-append lists (here ∷ []) ∙ ap (λ k. k + 1) c.loop-done.invariant.long;
       each = subst (λ (vs : List (Vec ℕ Global)). (k : ℕ) → k < length vs → AreClassesIn g (suc k) (get_or (rows vs) k [])) (sym pushed)
-          (rows_more (λ k l. AreClassesIn g (suc k) l) lists here c.loop-done.invariant.each (subst (λ r. AreClassesIn g (suc r) here.items) (sym c.loop-done.invariant.long) k));
+          (rows_more (λ k l. AreClassesIn g (suc k) l) lists here c.loop-done.invariant.each
+          (subst (λ r. AreClassesIn g (suc r) here.items) (sym c.loop-done.invariant.long) k));
     }
 
 pub returns : goal.returns

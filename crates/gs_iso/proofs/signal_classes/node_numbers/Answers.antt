@@ -13,8 +13,10 @@ child_numbers-requires-clause-numbers c =
     let i = c.from.result - 1 in
     let lt : i < length all = omega (arith, c.from.ensures, c.loop-done.invariant.long, c.loop-done.auto.done) in
     let read : c.deref.result.now ≡ get_or (rows all) i [] = c.deref.ensures.value ∙ row_read all i c.index-below.result.now lt c.index-below.ensures in
-    let e : round_count g - i ≡ c.rounds-rounds.result - c.loop-done.done + 1 = omega (arith, c.rounds-rounds.ensures.value, c.from.ensures, c.loop-done-test.true, c.loop-done.auto.done) in
-    subst (IsNumbering g (c.rounds-rounds.result - c.loop-done.done + 1)) (sym read) (subst (λ r. IsNumbering g r (get_or (rows all) i [])) e (c.loop-done.invariant.each i lt))
+    let e : round_count g - i ≡ c.rounds-rounds.result - c.loop-done.done + 1 =
+    omega (arith, c.rounds-rounds.ensures.value, c.from.ensures, c.loop-done-test.true, c.loop-done.auto.done) in
+    subst (IsNumbering g (c.rounds-rounds.result - c.loop-done.done + 1)) (sym read)
+    (subst (λ r. IsNumbering g r (get_or (rows all) i [])) e (c.loop-done.invariant.each i lt))
 
 pub loop-done-preserved : goal.loop-done-preserved
 loop-done-preserved c =
@@ -26,13 +28,21 @@ loop-done-preserved c =
     record {
       long = ap length pushed ∙ length-append all (here ∷ []) ∙ ap (λ k. k + 1) c.loop-done.invariant.long;
       each = subst (λ (vs : List (Vec ℕ Global)). (k : ℕ) → k < length vs → IsNumbering g (round_count g - k) (get_or (rows vs) k [])) (sym pushed)
-          (rows_more (λ k l. IsNumbering g (round_count g - k) l) all here c.loop-done.invariant.each (subst (λ r. IsNumbering g r here.items) e c.in_ok-here.ensures));
+          (rows_more (λ k l. IsNumbering g (round_count g - k) l) all here c.loop-done.invariant.each
+          (subst (λ r. IsNumbering g r here.items) e c.in_ok-here.ensures));
     }
 
 pub returns : goal.returns
 returns c =
     let n = length-rows c.loop-done.numbers.items in
     record {
-      rounds = omega (arith, n, c.loop-done.invariant.long, c.loop-done-test.false, c.loop-done.auto.done-end (omega (arith, c.rounds-rounds.ensures.some)), c.rounds-rounds.ensures.value);
+      rounds = omega (
+        arith,
+        n,
+        c.loop-done.invariant.long,
+        c.loop-done-test.false,
+        c.loop-done.auto.done-end (omega (arith, c.rounds-rounds.ensures.some)),
+        c.rounds-rounds.ensures.value,
+      );
       each = λ k l. c.loop-done.invariant.each k (omega (arith, l, n));
     }

@@ -10,4 +10,5 @@ of_filter-requires-clause-parents c = subst AreParents (sym c.parents.ensures) (
 
 pub of_filter-requires-clause-classes : goal.of_filter-requires-clause-classes
 of_filter-requires-clause-classes c =
-    subst (λ (ps : List (List ℕ)). IsClasses ps (rows c.in_ok-lists.lists.items)) (sym c.parents.ensures) (are_classes (rules_of c.args.signals.now) (rows c.in_ok-lists.lists.items) c.in_ok-lists.ensures)
+    subst (λ (ps : List (List ℕ)). IsClasses ps (rows c.in_ok-lists.lists.items)) (sym c.parents.ensures)
+    (are_classes (rules_of c.args.signals.now) (rows c.in_ok-lists.lists.items) c.in_ok-lists.ensures)

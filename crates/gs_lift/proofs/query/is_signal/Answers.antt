@@ -27,7 +27,8 @@ pub loop-before-preserved : goal.loop-before-preserved
 loop-before-preserved c =
     let s = c.args.signals.now in
     let here = c.loop-before.before + 1 in
-    let none = names_none s here c.args.text.now c.index_of.result (omega arith) (omega (arith, c.loop-before-test.true, c.rounds-before-end.ensures.value)) c.index_of.ensures.only (none_is c.index_of.result c.if-is_some.ensures) in
+    let none = names_none s here c.args.text.now c.index_of.result (omega arith) (omega (arith, c.loop-before-test.true, c.rounds-before-end.ensures.value))
+    c.index_of.ensures.only (none_is c.index_of.result c.if-is_some.ensures) in
     λ round some top i h. elim (cases_eq round here) [
       | inl e ↦ none i (subst (λ n. IsTextOfSignal s n c.args.text.now i) e h)
       | inr other ↦ c.loop-before.invariant round some (omega (arith, top, other)) i h
@@ -35,5 +36,8 @@ loop-before-preserved c =
 
 pub returns : goal.returns
 returns c =
-    let s = c.args.signals.now in
-    ((λ e. absurd (false≢true e)), λ h. absurd (c.loop-before.invariant h.0 h.1 (omega (arith, h.2, rounds_are s, c.rounds-before-end.ensures.value, c.loop-before-test.false)) h.3 h.4))
+    let s = c.args.signals.now in (
+      (λ e. absurd (false≢true e)),
+      λ h. absurd (c.loop-before.invariant h.0 h.1
+          (omega (arith, h.2, rounds_are s, c.rounds-before-end.ensures.value, c.loop-before-test.false)) h.3 h.4),
+    )

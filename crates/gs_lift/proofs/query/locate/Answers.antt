@@ -11,19 +11,24 @@ same c = signals_held c.args.a.now c.lossless.result.now c.signals-signals.resul
 
 -- the point that the line names, and the round that is read of it
 found : (c : After-index-points-point)
-    → PointAt c.signals-signals.result.now c.args.player c.args.line.now c.in_ok-point.point (get_or c.points.result.now c.in_ok-point.point c.index-points-point.result).round
+    → PointAt c.signals-signals.result.now c.args.player c.args.line.now c.in_ok-point.point
+    (get_or c.points.result.now c.in_ok-point.point c.index-points-point.result).round
 found c =
-    point_at c.signals-signals.result.now c.game-game.result.now c.points.result.now c.index-points-point.result c.args.player c.args.line.now c.in_ok-point.point c.game-game.ensures c.points.ensures c.index-points-point.is
+    point_at c.signals-signals.result.now c.game-game.result.now c.points.result.now c.index-points-point.result c.args.player c.args.line.now
+    c.in_ok-point.point c.game-game.ensures c.points.ensures c.index-points-point.is
     c.in_ok-point.ensures
 
 pub returns-in_err-point : goal.returns-in_err-point
 returns-in_err-point c =
     let s = c.signals-signals.result.now in
     let e = err_from_is_err_and c.from_residual.result c.from_residual.ensures.1 in
-    let fault = line_fault s c.game-game.result.now c.args.player c.args.line.now c.args.signal.now c.in_err-point.field-0.0 c.game-game.ensures c.in_err-point.ensures in
-    let moved = subst (λ (x : Signals). IsFaultOf x c.args.player c.args.line.now c.args.signal.now c.in_err-point.field-0.0) (same (goal.at.returns-in_err-point c).After-signals-signals) fault in
+    let fault = line_fault s c.game-game.result.now c.args.player c.args.line.now c.args.signal.now c.in_err-point.field-0.0 c.game-game.ensures
+    c.in_err-point.ensures in
+    let moved = subst (λ (x : Signals). IsFaultOf x c.args.player c.args.line.now c.args.signal.now c.in_err-point.field-0.0)
+    (same (goal.at.returns-in_err-point c).After-signals-signals) fault in
     let a = signals_of c.args.a.now in
-    subst (λ r. MatchResult r (IsQuerySpot a c.args.player c.args.line.now c.args.signal.now) (IsFaultOf a c.args.player c.args.line.now c.args.signal.now)) (sym e.1)
+    subst (λ r. MatchResult r (IsQuerySpot a c.args.player c.args.line.now c.args.signal.now)
+    (IsFaultOf a c.args.player c.args.line.now c.args.signal.now)) (sym e.1)
     (subst (IsFaultOf a c.args.player c.args.line.now c.args.signal.now) (sym e.2) moved)
 
 pub index_of-requires-clause-some : goal.index_of-requires-clause-some
@@ -37,8 +42,13 @@ returns-in-Some c =
     let at = goal.at.returns-in-Some c in
     let s = c.signals-signals.result.now in
     let r = found at.After-index-points-point in
-    subst (λ (x : Signals). IsQuerySpot x c.args.player c.args.line.now c.args.signal.now (record { point = c.in_ok-point.point; signal = c.in-Some.signal })) (same at.After-signals-signals)
-    (record { point = r.own; signal = subst (λ n. IsTextOfSignal s n c.args.signal.now c.in-Some.signal) r.same (names_found s _ c.in-Some.signal c.args.signal.now r.some r.top c.in-Some.ensures.found) })
+    subst (λ (x : Signals). IsQuerySpot x c.args.player c.args.line.now c.args.signal.now (record { point = c.in_ok-point.point; signal = c.in-Some.signal }))
+    (same at.After-signals-signals)
+    (record {
+      point = r.own;
+      signal = subst (λ n. IsTextOfSignal s n c.args.signal.now c.in-Some.signal) r.same
+          (names_found s _ c.in-Some.signal c.args.signal.now r.some r.top c.in-Some.ensures.found);
+    })
 
 pub returns-then-is_signal : goal.returns-then-is_signal
 returns-then-is_signal c =

@@ -10,7 +10,8 @@ pub rank-requires-clause-few : goal.rank-requires-clause-few
 rank-requires-clause-few c =
     let g : Game = rules_of c.args.signals.now in
     let seats : List Seat = c.sort_by_level.new.seats.items in
-    let moved : IsPermutation (map (seat_of g) (signals_on g c.args.first)) seats = subst (λ (l : List Seat). IsPermutation l seats) c.in_ok-seats.ensures c.sort_by_level.ensures.moved in
+    let moved : IsPermutation (map (seat_of g) (signals_on g c.args.first)) seats = subst (λ (l : List Seat). IsPermutation l seats) c.in_ok-seats.ensures
+    c.sort_by_level.ensures.moved in
     let few : length seats ≤ last_count g = seats_few g c.args.first seats moved in
     omega (arith, few, c.args.signals.now.game.now.limits.signals_in (round_count g) (omega arith))
 
@@ -18,7 +19,8 @@ pub returns : goal.returns
 returns c =
     let g : Game = rules_of c.args.signals.now in
     let seats : List Seat = c.sort_by_level.new.seats.items in
-    let moved : IsPermutation (map (seat_of g) (signals_on g c.args.first)) seats = subst (λ (l : List Seat). IsPermutation l seats) c.in_ok-seats.ensures c.sort_by_level.ensures.moved in
+    let moved : IsPermutation (map (seat_of g) (signals_on g c.args.first)) seats = subst (λ (l : List Seat). IsPermutation l seats) c.in_ok-seats.ensures
+    c.sort_by_level.ensures.moved in
     let levels : c.if-by_rank.seats.items ≡ cond c.args.by_rank (ranked seats) seats = elim c.if-by_rank.branch [
       | then-by_rank w ↦ ap (λ (v : Vec Seat). v.items) w.seats-is ∙ w.rank.ensures ∙ ap (λ (b : Bool). cond b (ranked seats) seats) (sym w.if-by_rank.true)
       | else-by_rank w ↦ ap (λ (v : Vec Seat). v.items) w.seats-is ∙ ap (λ (b : Bool). cond b (ranked seats) seats) (sym w.if-by_rank.false)

@@ -11,6 +11,7 @@ loop-signal-preserved c =
     let old : List Board = c.loop-signal.boards.items in
     elim c.if-first-signal.branch [
       | then-first-signal+in_ok-board+in_ok-push w ↦
-          subst (All P) (sym (ap (λ (v : Vec Board). v.items) w.boards-is ∙ w.in_ok-push.ensures.items)) (All-push P old w.in_ok-board.board c.loop-signal.invariant w.in_ok-board.ensures)
+          subst (All P) (sym (ap (λ (v : Vec Board). v.items) w.boards-is ∙ w.in_ok-push.ensures.items))
+          (All-push P old w.in_ok-board.board c.loop-signal.invariant w.in_ok-board.ensures)
       | else-first-signal w ↦ subst (All P) (sym (ap (λ (v : Vec Board). v.items) w.boards-is)) c.loop-signal.invariant
     ]

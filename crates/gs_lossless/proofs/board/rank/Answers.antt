@@ -17,18 +17,23 @@ loop-place-preserved c =
     let in' : n < length now = omega (arith, c.loop-place-test.true, h.long, c.len-place-end.ensures, c.args.seats.now.ok.0) in
     let l : n < length seats = omega (arith, in', h.long) in
     let is : get_or now n none ≡ read = sym (c.index.ensures ∙ get_or_default now n read none in') in
-    let level : get_or (levels_in seats) n 0 ≡ read.level = level_is seats c.requires.ascending n l now c.loop-place.rank c.loop-place.above h ∙ ap (λ (s : Seat). s.level) is in
+    let level : get_or (levels_in seats) n 0 ≡ read.level = level_is seats c.requires.ascending n l now c.loop-place.rank c.loop-place.above h
+    ∙ ap (λ (s : Seat). s.level) is in
     let P : ℕ → ℕ → ℕ → Seat → Type 0 = λ k r a s. AreRanked seats (n + 1) (set now n (let x : Seat = record { level = k; signal = s.signal } in x)) r a in
     elim c.if-above-level.branch [
       | then-above-level w ↦
           let made = more_ranked seats c.requires.ascending n l now c.loop-place.rank c.loop-place.above h (omega (arith, w.if-above-level.true, level)) in
           let there : P n n read.level read = subst (P n n read.level) is (subst (λ (a : ℕ). P n n a (get_or now n none)) level made) in
-          subst (λ (a : ℕ). P c.if-above-level.rank c.if-above-level.rank a read) (sym w.above-is) (subst (λ (r : ℕ). P r r read.level read) (sym w.rank-is) there)
+          subst (λ (a : ℕ). P c.if-above-level.rank c.if-above-level.rank a read) (sym w.above-is)
+          (subst (λ (r : ℕ). P r r read.level read) (sym w.rank-is) there)
       | else-above-level w ↦
           let made = more_again seats c.requires.ascending n l now c.loop-place.rank c.loop-place.above h (omega (arith, w.if-above-level.false, level)) in
-          let there : P c.loop-place.rank c.loop-place.rank c.loop-place.above read = subst (P c.loop-place.rank c.loop-place.rank c.loop-place.above) is made in
-          subst (λ (a : ℕ). P c.if-above-level.rank c.if-above-level.rank a read) (sym w.above-is) (subst (λ (r : ℕ). P r r c.loop-place.above read) (sym w.rank-is) there)
+          let there : P c.loop-place.rank c.loop-place.rank c.loop-place.above read =
+          subst (P c.loop-place.rank c.loop-place.rank c.loop-place.above) is made in
+          subst (λ (a : ℕ). P c.if-above-level.rank c.if-above-level.rank a read) (sym w.above-is)
+          (subst (λ (r : ℕ). P r r c.loop-place.above read) (sym w.rank-is) there)
     ]
 
 pub returns : goal.returns
-returns c = all_ranked c.args.seats.now.items c.loop-place.place c.loop-place.seats.items c.loop-place.rank c.loop-place.above (omega arith) c.loop-place.invariant
+returns c = all_ranked c.args.seats.now.items c.loop-place.place c.loop-place.seats.items c.loop-place.rank c.loop-place.above
+    (omega arith) c.loop-place.invariant

@@ -20,7 +20,8 @@ loop-signal-preserved c =
     let in' : s < last_count g = omega (arith, c.loop-signal-test.true, c.boards.ensures.nexts_long) in
     let seat : (old ++ (let one : Seat = record { level = get_or c.strengths-strengths.result.now s 0; signal = s } in one) ∷ []) ≡ old ++ seat_of g s ∷ [] =
     ap (λ (xs : List ℕ). old ++ (let one : Seat = record { level = get_or xs s 0; signal = s } in one) ∷ []) c.strengths-strengths.ensures in
-    subst P (sym (c.in_ok-push.ensures.items ∙ seat)) (chain_more g (seat_of g) c.boards.result.0.now c.boards.result.1.now c.boards.ensures c.args.first s old in' c.loop-signal.invariant)
+    subst P (sym (c.in_ok-push.ensures.items ∙ seat)) (chain_more g (seat_of g) c.boards.result.0.now c.boards.result.1.now c.boards.ensures c.args.first s old
+    in' c.loop-signal.invariant)
 
 pub loop-signal-smaller : goal.loop-signal-smaller
 loop-signal-smaller c =
@@ -35,4 +36,5 @@ loop-signal-smaller c =
 pub returns : goal.returns
 returns c =
     let g : Game = rules_of c.args.signals.now in
-    chain_end g (seat_of g) c.args.first c.loop-signal.signal c.loop-signal.seats.items (omega (arith, c.loop-signal-test.false, c.boards.ensures.nexts_long)) c.loop-signal.invariant
+    chain_end g (seat_of g) c.args.first c.loop-signal.signal c.loop-signal.seats.items (omega (arith, c.loop-signal-test.false, c.boards.ensures.nexts_long))
+    c.loop-signal.invariant

@@ -29,18 +29,21 @@ returns-in-Some-clause-unlike c =
 pub returns-in-Some-clause-refuted : goal.returns-in-Some-clause-refuted
 returns-in-Some-clause-refuted c =
     let f = frame_of (rules_of c.args.grouped.now.signals.now) in
-    λ _. refuted f c.args.grouped.now.classes.now c.args.grouped.now.parents (c.loop-before.before + 1) c.first-first.result c.in-Some.second (returns-in-Some-clause-unlike c)
+    λ _. refuted f c.args.grouped.now.classes.now c.args.grouped.now.parents (c.loop-before.before + 1) c.first-first.result c.in-Some.second
+    (returns-in-Some-clause-unlike c)
 
 pub returns-in-Some-clause-single : goal.returns-in-Some-clause-single
 returns-in-Some-clause-single c =
     let f = frame_of (rules_of c.args.grouped.now.signals.now) in
-    λ _. not_single f c.args.grouped.now.classes.now c.args.grouped.now.parents (c.loop-before.before + 1) c.first-first.result c.in-Some.second (returns-in-Some-clause-unlike c)
+    λ _. not_single f c.args.grouped.now.classes.now c.args.grouped.now.parents (c.loop-before.before + 1) c.first-first.result c.in-Some.second
+    (returns-in-Some-clause-unlike c)
 
 pub loop-before-preserved : goal.loop-before-preserved
 loop-before-preserved c =
     let f = frame_of (rules_of c.args.grouped.now.signals.now) in
     let lists = c.args.grouped.now.classes.now.lists in
-    alike_more f lists c.loop-before.before c.loop-before.invariant (subst (MatchUnlike f lists (c.loop-before.before + 1)) c.in_default.is c.in_ok-second.ensures)
+    alike_more f lists c.loop-before.before c.loop-before.invariant
+    (subst (MatchUnlike f lists (c.loop-before.before + 1)) c.in_default.is c.in_ok-second.ensures)
 
 pub returns-clause-lossless : goal.returns-clause-lossless
 returns-clause-lossless c =

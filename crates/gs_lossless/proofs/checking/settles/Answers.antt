@@ -12,10 +12,12 @@ loop-round-preserved c =
     let g = rules_of c.args.grouped.now.signals.now in
     let f = frame_of g in
     let lists = c.args.grouped.now.classes.now.lists in
-    let here = none_apart f lists Children c.loop-round.round c.count-end.result c.in_ok-first_apart.field-0 (sym c.is_some.ensures ∙ c.if-is_some.false) c.in_ok-first_apart.ensures in
+    let here = none_apart f lists Children c.loop-round.round c.count-end.result c.in_ok-first_apart.field-0 (sym c.is_some.ensures ∙ c.if-is_some.false)
+    c.in_ok-first_apart.ensures in
     λ r some l. ⊎_elim (λ under. c.loop-round.invariant r some under)
     (λ over. let e : c.loop-round.round ≡ r = omega (arith, l, over) in
-    subst (λ (k : ℕ). AgreeBelow f lists Children k (length (signals g k))) e (subst (AgreeBelow f lists Children c.loop-round.round) c.count-end.ensures.value here))
+    subst (λ (k : ℕ). AgreeBelow f lists Children k (length (signals g k))) e
+    (subst (AgreeBelow f lists Children c.loop-round.round) c.count-end.ensures.value here))
     (cases_lt r c.loop-round.round)
 
 not_turned : (b r : Bool) → b ≡ not r → r ≡ true → b ≡ false
@@ -30,7 +32,10 @@ returns c =
     let classes = over f l c.args.grouped.now.parents l.classes in
     let top : c.rounds-last.result ≡ last_round f = c.rounds-last.ensures.value ∙ sym (last_round_of g) in
     λ t.
-    let here = none_apart f l.lists Deals c.rounds-last.result c.count-end-2.result c.in_ok-first_apart-2.field-0 (not_turned (is_some c.in_ok-first_apart-2.field-0) c.is_none.result c.is_none.ensures t) c.in_ok-first_apart-2.ensures in
+    let here = none_apart f l.lists Deals c.rounds-last.result c.count-end-2.result c.in_ok-first_apart-2.field-0
+    (not_turned (is_some c.in_ok-first_apart-2.field-0) c.is_none.result c.is_none.ensures t) c.in_ok-first_apart-2.ensures in
     lossless_by_last f l.lists (in_range g p) classes.filter
-    (λ s ls. subst (λ (k : ℕ). AgreesWithFirst f l.lists Deals k s) top (here s (omega (arith, ls, count_last g p, c.count-end-2.ensures.value, ap (λ (k : ℕ). length (signals g k)) c.rounds-last.ensures.value))))
-    (λ r s some lr ls. c.loop-round.invariant r some (omega (arith, lr, top)) s (omega (arith, ls, signal_count_is g r some (omega (arith, lr, last_round_of g)))))
+    (λ s ls. subst (λ (k : ℕ). AgreesWithFirst f l.lists Deals k s) top
+    (here s (omega (arith, ls, count_last g p, c.count-end-2.ensures.value, ap (λ (k : ℕ). length (signals g k)) c.rounds-last.ensures.value))))
+    (λ r s some lr ls. c.loop-round.invariant r some (omega (arith, lr, top)) s
+    (omega (arith, ls, signal_count_is g r some (omega (arith, lr, last_round_of g)))))

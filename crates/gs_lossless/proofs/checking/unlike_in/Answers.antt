@@ -15,7 +15,8 @@ returns-then-round-rounds c =
     let g = rules_of c.args.grouped.now.signals.now in
     let f = frame_of g in
     let last : c.args.round ≡ last_round f = c.if-round-rounds.true ∙ c.rounds.ensures.value ∙ sym (last_round_of g) in
-    unlike_from f c.args.grouped.now.classes.now.lists c.args.round c.requires.some c.in_ok-apart.apart None c.in_ok-apart.ensures (λ before. absurd (omega (arith, before, last)))
+    unlike_from f c.args.grouped.now.classes.now.lists c.args.round c.requires.some c.in_ok-apart.apart None c.in_ok-apart.ensures
+    (λ before. absurd (omega (arith, before, last)))
 
 pub first_apart-requires-clause-side : goal.first_apart-requires-clause-side
 first_apart-requires-clause-side c =
@@ -37,5 +38,7 @@ returns c =
     let before : c.args.round < last_round f = omega (arith, c.requires.top, c.if-round-rounds.false, c.rounds.ensures.value, last_round_of g) in
     let end : c.unwrap_or-end.result ≡ unwrap_or apart (signal_count f c.args.round) = c.unwrap_or-end.ensures
     ∙ ap (unwrap_or apart) (c.count.ensures.value ∙ sym (signal_count_is g c.args.round c.requires.some (omega (arith, before, last_round_of g)))) in
-    let children = children_from f lists c.args.round _ c.in_ok-before.before before (subst (λ (n : ℕ). IsFirstApart f lists Children c.args.round n c.in_ok-before.before) end c.in_ok-before.ensures) in
-    subst (λ (r : Option ℕ). MatchUnlike f lists c.args.round r) (sym c.or.ensures) (unlike_from f lists c.args.round c.requires.some apart c.in_ok-before.before c.in_ok-apart.ensures children)
+    let children = children_from f lists c.args.round _ c.in_ok-before.before before
+    (subst (λ (n : ℕ). IsFirstApart f lists Children c.args.round n c.in_ok-before.before) end c.in_ok-before.ensures) in
+    subst (λ (r : Option ℕ). MatchUnlike f lists c.args.round r) (sym c.or.ensures)
+    (unlike_from f lists c.args.round c.requires.some apart c.in_ok-before.before c.in_ok-apart.ensures children)

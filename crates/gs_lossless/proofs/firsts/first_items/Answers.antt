@@ -1,4 +1,5 @@
-use Rattle.std.proofs.Common.{◌≡◌, ◌+◌, ◌⊎◌, ◌<◌, ◌∙◌, ◌++◌, ℕ, List, ap, arith, drop, get_or, length, replicate, rules, set, subst, sym, take, length-set, ⊎_elim}
+use Rattle.std.proofs.Common.{◌≡◌, ◌+◌, ◌⊎◌, ◌<◌, ◌∙◌, ◌++◌, ℕ, List, ap, arith, drop, get_or, length, replicate, rules, set, subst, sym, take, length-set}
+use Rattle.std.proofs.Common.{⊎_elim}
 use Rattle.gs_lossless.proofs.{Items.{AreMade, all_made, get_or-in, none_made, one_made}, Marked.{whole}}
 use Rattle.gs_lossless.proofs.firsts.first_items.Goals as goal
 
@@ -21,10 +22,13 @@ loop-item-preserved c =
     let in' : item < length now = omega (arith, l, c.loop-item.invariant.long) in
     let is : mark ≡ get_or now item 0 = sym (get_or-in now item mark c.index.ensures in') in
     let read : c.deref_mut.result.now ≡ kept = c.deref_mut.ensures.value in
-    let earlier = subst (λ (k : List ℕ). c.first_of-first.result < item → (mark < length k) × (get_or k mark 0 ≡ c.first_of-first.result)) read c.first_of-first.ensures.earlier in
+    let earlier = subst (λ (k : List ℕ). c.first_of-first.result < item → (mark < length k) × (get_or k mark 0 ≡ c.first_of-first.result)) read
+    c.first_of-first.ensures.earlier in
     let step : (new ≡ kept) ⊎ (new ≡ set kept mark item) = subst (λ (k : List ℕ). (new ≡ k) ⊎ (new ≡ set k mark item)) read c.first_of-first.ensures.kept in
-    let long : length new ≡ length kept = ⊎_elim (λ e. ap (λ (k : List ℕ). length k) e) (λ e. ap (λ (k : List ℕ). length k) e ∙ length-set kept mark item) step in
-    let all : take c.loop-item.kept.len (new ++ drop (length new) kept) ≡ new = whole c.loop-item.kept.len new kept long (omega (arith, c.loop-item.kept.ok.0)) in
+    let long : length new ≡ length kept = ⊎_elim (λ e. ap (λ (k : List ℕ). length k) e)
+    (λ e. ap (λ (k : List ℕ). length k) e ∙ length-set kept mark item) step in
+    let all : take c.loop-item.kept.len (new ++ drop (length new) kept) ≡ new = whole c.loop-item.kept.len new kept long
+    (omega (arith, c.loop-item.kept.ok.0)) in
     subst (AreMade marks (item + 1) (set now item c.first_of-first.result)) (sym all)
     (one_made marks item now kept new mark c.first_of-first.result l c.loop-item.invariant is c.first_of-first.ensures.before earlier step)
 

@@ -23,7 +23,8 @@ loop-signal-preserved c =
     let zero_on : 0 + x ≡ x = omega arith in
     c.in_ok-push.ensures.items
     ∙ ap (λ (xs : List ℕ). xs ++ c.class_of.result ∷ []) c.loop-signal.invariant
-    ∙ ap (λ (n : ℕ). map key (range_with_len 0 x) ++ n ∷ []) (c.class_of.ensures.value ∙ ap (class_of c.args.grouped.now.classes.now.lists c.args.round) c.ancestor.ensures.value)
+    ∙ ap (λ (n : ℕ). map key (range_with_len 0 x) ++ n ∷ [])
+    (c.class_of.ensures.value ∙ ap (class_of c.args.grouped.now.classes.now.lists c.args.round) c.ancestor.ensures.value)
     ∙ sym (map-range_with_len_more key 0 x x zero_on)
 
 pub returns : goal.returns

@@ -6,7 +6,8 @@ use Rattle.gs_lossless.proofs.kinds.list_hands.Goals as goal
 pub loop-place-init : goal.loop-place-init
 loop-place-init c =
     let seats : List Seat = c.args.board.now.seats.items in
-    none_filled (hand_of c.args.board.now c.args.keys.now) c.resize.new.self.items seats (omega (arith, c.in_ok-resize.ensures.len, c.len.ensures, c.resize.new.self.ok.0, c.args.board.now.seats.ok.0))
+    none_filled (hand_of c.args.board.now c.args.keys.now) c.resize.new.self.items seats
+    (omega (arith, c.in_ok-resize.ensures.len, c.len.ensures, c.resize.new.self.ok.0, c.args.board.now.seats.ok.0))
 
 pub loop-place-preserved : goal.loop-place-preserved
 loop-place-preserved c =
@@ -18,5 +19,7 @@ loop-place-preserved c =
     let level : c.from.result ≡ get_or (levels_in seats) n 0 =
     c.from.ensures ∙ ap (λ (s : List Seat). (get_or s n none).level) read ∙ sym (get_or-map (λ (s : Seat). s.level) seats n none 0 l) in
     let key : c.from-in-loop-place.result ≡ get_or keys (get_or (seat_signals seats) n 0) 0 =
-    c.from-in-loop-place.ensures ∙ ap (λ (s : List Seat). get_or keys (get_or s n none).signal 0) read ∙ ap (λ (k : ℕ). get_or keys k 0) (sym (get_or-map (λ (s : Seat). s.signal) seats n none 0 l)) in
-    one_filled (hand_of c.args.board.now keys) c.loop-place.hands.items seats n (c.from.result * 4294967296 + c.from-in-loop-place.result) c.loop-place.invariant l (omega (arith, level, key))
+    c.from-in-loop-place.ensures ∙ ap (λ (s : List Seat). get_or keys (get_or s n none).signal 0) read
+    ∙ ap (λ (k : ℕ). get_or keys k 0) (sym (get_or-map (λ (s : Seat). s.signal) seats n none 0 l)) in
+    one_filled (hand_of c.args.board.now keys) c.loop-place.hands.items seats n (c.from.result * 4294967296 + c.from-in-loop-place.result)
+    c.loop-place.invariant l (omega (arith, level, key))

@@ -21,7 +21,8 @@ loop-place-preserved c =
           let one : place < length seats = omega (arith, c.loop-place-test.true, c.requires.hands) in
           let two : w.in-Some.other < length others = omega (arith, w.in-Some.ensures.0, c.requires.other_hands) in
           let in' : (get_or seats place none).signal < length now = omega (arith, c.requires.within place none one, c.loop-place.invariant.long) in
-          subst M (sym w.marks-is) (may_seat seats others hands other_hands old now place w.in-Some.other c.loop-place.invariant one two (sym w.in-Some.ensures.1) in')
+          subst M (sym w.marks-is) (may_seat seats others hands other_hands old now place w.in-Some.other c.loop-place.invariant one two
+          (sym w.in-Some.ensures.1) in')
       | in_default w ↦ subst M (sym w.marks-is) c.loop-place.invariant
     ]
 

@@ -7,12 +7,14 @@ pub add-requires : goal.add-requires
 add-requires c =
     let sorted = c.deref-part-items.result.now in
     let same = subst (IsPermutation c.args.parts.items) (sym c.deref-part-items.ensures.value) c.sort_unstable.ensures.permutation in
-    let f = fits_more c.args.parts.items sorted c.loop-part.sums.items c.loop-part.part-index (record { class = 0; outcome = pos 0; weight = 0 }) same c.loop-part-test.true c.loop-part.invariant in
+    let f = fits_more c.args.parts.items sorted c.loop-part.sums.items c.loop-part.part-index (record { class = 0; outcome = pos 0; weight = 0 }) same
+    c.loop-part-test.true c.loop-part.invariant in
     omega (arith, f, c.requires.fits)
 
 pub loop-part-preserved : goal.loop-part-preserved
 loop-part-preserved c =
-    merge_more c.deref-part-items.result.now c.loop-part.sums.items c.add.new.sums.items c.loop-part.part-index (record { class = 0; outcome = pos 0; weight = 0 }) c.loop-part-test.true
+    merge_more c.deref-part-items.result.now c.loop-part.sums.items c.add.new.sums.items c.loop-part.part-index
+    (record { class = 0; outcome = pos 0; weight = 0 }) c.loop-part-test.true
     c.loop-part.invariant c.in_ok-add.ensures
 
 pub returns : goal.returns

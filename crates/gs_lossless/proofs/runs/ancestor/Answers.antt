@@ -31,7 +31,8 @@ loop-at-preserved c =
       from = omega arith;
       to = omega arith;
       within = let w = climb_in g p c.loop-at.at c.loop-at.place (omega arith) i.to i.within in omega (arith, w, read);
-      same = ap (ancestor (frame_of g) (c.loop-at.at - 1) c.args.round) read ∙ climb g p c.args.round c.loop-at.at c.loop-at.place c.requires.some c.loop-at-test.true i.to ∙ i.same;
+      same = ap (ancestor (frame_of g) (c.loop-at.at - 1) c.args.round) read
+          ∙ climb g p c.args.round c.loop-at.at c.loop-at.place c.requires.some c.loop-at-test.true i.to ∙ i.same;
     }
 
 pub returns-clause-value : goal.returns-clause-value
@@ -39,4 +40,5 @@ returns-clause-value c =
     let g = rules_of c.args.signals.now in
     let p = playable c.args.signals.now in
     let here : c.loop-at.at ≡ c.args.round = omega arith in
-    sym ((tabled g p).itself c.args.round c.loop-at.place) ∙ ap (λ k. ancestor (frame_of g) k c.args.round c.loop-at.place) (sym here) ∙ c.loop-at.invariant.same
+    sym ((tabled g p).itself c.args.round c.loop-at.place) ∙ ap (λ k. ancestor (frame_of g) k c.args.round c.loop-at.place) (sym here)
+    ∙ c.loop-at.invariant.same

@@ -14,4 +14,5 @@ descendants_in-requires-clause-top c = omega (arith, c.rounds.ensures.value)
 pub returns : goal.returns
 returns c =
     let g = rules_of c.args.signals.now in
-    subst (λ k. IsRunIn (frame_of g) k c.args.round c.args.signal c.descendants_in.result.first c.descendants_in.result.end) (c.rounds.ensures.value ∙ sym (last_round_of g)) c.descendants_in.ensures
+    subst (λ k. IsRunIn (frame_of g) k c.args.round c.args.signal c.descendants_in.result.first c.descendants_in.result.end)
+    (c.rounds.ensures.value ∙ sym (last_round_of g)) c.descendants_in.ensures

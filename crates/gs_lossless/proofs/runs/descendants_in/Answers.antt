@@ -12,7 +12,8 @@ loop-at-init c =
     let p = playable c.args.signals.now in
     record {
       to = omega (arith, c.requires.onward, c.requires.top);
-      run = run_start g p c.args.round c.args.signal (let n = signal_count_is g c.args.round c.requires.some (omega (arith, c.requires.onward, c.requires.top)) in omega (arith, n, c.requires.in_range));
+      run = run_start g p c.args.round c.args.signal (let n = signal_count_is g c.args.round c.requires.some
+          (omega (arith, c.requires.onward, c.requires.top)) in omega (arith, n, c.requires.in_range));
     }
 
 pub first_below-first-requires-clause-in_range : goal.first_below-first-requires-clause-in_range
@@ -36,7 +37,8 @@ loop-at-preserved c =
     record {
       to = omega arith;
       run = subst (λ a. IsRunIn (frame_of g) (c.loop-at.at + 1) c.args.round c.args.signal a c.first_below-end.result) (sym c.first_below-first.ensures)
-          (subst (λ b. IsRunIn (frame_of g) (c.loop-at.at + 1) c.args.round c.args.signal (first_child g c.loop-at.at c.loop-at.first) b) (sym c.first_below-end.ensures) more);
+          (subst (λ b. IsRunIn (frame_of g) (c.loop-at.at + 1) c.args.round c.args.signal (first_child g c.loop-at.at c.loop-at.first) b)
+          (sym c.first_below-end.ensures) more);
     }
 
 pub returns : goal.returns

@@ -30,13 +30,16 @@ pub returns-then-are_alone : goal.returns-then-are_alone
 returns-then-are_alone c =
     let lists = c.args.grouped.now.classes.now.lists in
     λ s l. let within : s < length (list_of lists c.args.round) = omega (arith, long (goal.at.returns-then-are_alone c).Start, l, c.requires.within) in
-    single_agrees (frame_of (rules_of c.args.grouped.now.signals.now)) lists c.args.side c.args.round s within (c.are_alone.ensures c.if-are_alone.true s within)
+    single_agrees (frame_of (rules_of c.args.grouped.now.signals.now)) lists c.args.side c.args.round s within
+    (c.are_alone.ensures c.if-are_alone.true s within)
 
 -- there are as many keys as the side has
-many : (c : In_ok-keys) (keys : List ℕ) → keys ≡ c.in_ok-keys.keys.items → length keys ≡ key_count (rules_of c.args.grouped.now.signals.now) c.args.side c.args.round
+many : (c : In_ok-keys) (keys : List ℕ) → keys ≡ c.in_ok-keys.keys.items
+    → length keys ≡ key_count (rules_of c.args.grouped.now.signals.now) c.args.side c.args.round
 many c keys is =
     ap (λ (l : List ℕ). length l) (is ∙ c.in_ok-keys.ensures)
-    ∙ keys_long (rules_of c.args.grouped.now.signals.now) c.args.grouped.now.classes.now c.args.grouped.now.parents (playable c.args.grouped.now.signals.now) c.args.side c.args.round c.requires.side
+    ∙ keys_long (rules_of c.args.grouped.now.signals.now) c.args.grouped.now.classes.now c.args.grouped.now.parents (playable c.args.grouped.now.signals.now)
+    c.args.side c.args.round c.requires.side
 
 pub stand_ins_at-requires : goal.stand_ins_at-requires
 stand_ins_at-requires c last = last_keys (rules_of c.args.grouped.now.signals.now) c.args.side c.args.round (length c.deref.result.now) c.requires.side last
@@ -44,11 +47,13 @@ stand_ins_at-requires c last = last_keys (rules_of c.args.grouped.now.signals.no
 
 -- what is listed stands for signals, whether it was listed before or is only now
 standing : (c : In_ok-firsts) → let f = frame_of (rules_of c.args.grouped.now.signals.now) in
-    (lists : ClassLists) → c.in_ok-keys.keys.items ≡ keys_of f lists c.args.side c.args.round → StandFor f lists c.args.side c.args.round c.in_ok-firsts.firsts.items
+    (lists : ClassLists) → c.in_ok-keys.keys.items ≡ keys_of f lists c.args.side c.args.round
+    → StandFor f lists c.args.side c.args.round c.in_ok-firsts.firsts.items
 standing c lists keys = c.in_ok-firsts.ensures c.args.side lists c.requires.side (c.deref.ensures.value ∙ keys) (c.loop-signal.invariant.stand lists keys)
 
 pub side_sums-requires-clause-all : goal.side_sums-requires-clause-all
-side_sums-requires-clause-all c = many (goal.at.side_sums-requires-clause-all c).In_ok-keys c.deref-in-loop-signal-2.result.now c.deref-in-loop-signal-2.ensures.value
+side_sums-requires-clause-all c = many (goal.at.side_sums-requires-clause-all c).In_ok-keys c.deref-in-loop-signal-2.result.now
+    c.deref-in-loop-signal-2.ensures.value
 
 pub loop-signal-preserved-then-has_earlier : goal.loop-signal-preserved-then-has_earlier
 loop-signal-preserved-then-has_earlier c =
@@ -58,7 +63,8 @@ loop-signal-preserved-then-has_earlier c =
     let signal = c.loop-signal.signal in
     let firsts = c.in_ok-firsts.firsts.items in
     let n = numbered w.Start in
-    let found = subst (λ (xs : List ℕ). (signal < length xs) × (get_or xs signal 0 < signal)) c.deref-in-loop-signal.ensures.value (c.has_earlier.ensures c.if-has_earlier.true) in
+    let found = subst (λ (xs : List ℕ). (signal < length xs) × (get_or xs signal 0 < signal)) c.deref-in-loop-signal.ensures.value
+    (c.has_earlier.ensures c.if-has_earlier.true) in
     let stand = standing w.In_ok-firsts lists c.in_ok-keys.ensures (omega (arith, found.0)) in
     record {
       long = c.loop-signal.invariant.long;
@@ -78,7 +84,8 @@ loop-signal-preserved-then-size-eq1 c =
     ap (class_size lists c.args.round) (sym c.class_of-class.ensures.value) ∙ sym c.size.ensures ∙ c.if-size-eq1.true in
     record {
       long = c.loop-signal.invariant.long;
-      stored = stored_single f lists c.args.side c.args.round c.loop-signal.signal c.loop-signal.kept.items (numbered w.Start) c.loop-signal.invariant.stored one;
+      stored = stored_single f lists c.args.side c.args.round c.loop-signal.signal c.loop-signal.kept.items
+          (numbered w.Start) c.loop-signal.invariant.stored one;
       stand = standing w.In_ok-firsts;
       agree = agree_more f lists c.args.side c.args.round c.loop-signal.signal c.loop-signal.invariant.agree
           (single_agrees f lists c.args.side c.args.round c.loop-signal.signal (omega (arith, long w.Start, c.requires.within)) one);
@@ -86,12 +93,15 @@ loop-signal-preserved-then-size-eq1 c =
 
 -- the first member of the class stands before another one, and its sums are kept
 earlier : (c : After-first) → c.first.result ≢ c.loop-signal.signal → (d : Vec Part Global)
-    → AreAmounts (frame_of (rules_of c.args.grouped.now.signals.now)) c.args.grouped.now.classes.now.lists c.args.side c.args.round (first_member c.args.grouped.now.classes.now.lists c.args.round c.class_of-class.result) (get_or c.loop-signal.kept.items (c.class_of-class.result - 1) d).items
+    → AreAmounts (frame_of (rules_of c.args.grouped.now.signals.now)) c.args.grouped.now.classes.now.lists c.args.side c.args.round
+    (first_member c.args.grouped.now.classes.now.lists c.args.round c.class_of-class.result)
+    (get_or c.loop-signal.kept.items (c.class_of-class.result - 1) d).items
 earlier c other d =
     let lists = c.args.grouped.now.classes.now.lists in
     let le = first_le lists c.args.round c.loop-signal.signal in
     let own = ap (first_member lists c.args.round) c.class_of-class.ensures.value in
-    c.loop-signal.invariant.stored c.class_of-class.result d c.class_of-class.ensures.class.0 c.class_of-class.ensures.class.1 (omega (arith, le, own, c.first.ensures.value, other))
+    c.loop-signal.invariant.stored c.class_of-class.result d c.class_of-class.ensures.class.0 c.class_of-class.ensures.class.1
+    (omega (arith, le, own, c.first.ensures.value, other))
     (λ one. c.if-size-eq1.false (c.size.ensures ∙ one))
 
 pub returns-then-not-are_same : goal.returns-then-not-are_same
@@ -107,9 +117,12 @@ returns-then-not-are_same c =
       c.loop-signal-test.true,
       c.loop-signal.invariant.agree,
       (λ a.
-          let own = subst (λ (x : ℕ). HaveEqualAmounts f lists c.args.side c.args.round (first_member lists c.args.round x) c.loop-signal.signal) (sym c.class_of-class.ensures.value) a in
-          let items = same_if_agree f lists c.args.side c.args.round (first_member lists c.args.round c.class_of-class.result) c.loop-signal.signal kept.items sums.items first here own in
-          let same = c.deref-else-first-signal.ensures.value ∙ ap (λ (v : Vec Part Global). v.items) c.index.ensures ∙ items ∙ sym c.deref-else-first-signal-2.ensures.value in
+          let own = subst (λ (x : ℕ). HaveEqualAmounts f lists c.args.side c.args.round (first_member lists c.args.round x) c.loop-signal.signal)
+          (sym c.class_of-class.ensures.value) a in
+          let items = same_if_agree f lists c.args.side c.args.round (first_member lists c.args.round c.class_of-class.result) c.loop-signal.signal kept.items
+          sums.items first here own in
+          let same = c.deref-else-first-signal.ensures.value ∙ ap (λ (v : Vec Part Global). v.items) c.index.ensures ∙ items
+          ∙ sym c.deref-else-first-signal-2.ensures.value in
           true≢false (sym (c.are_same.ensures.1 same) ∙ no)),
     )
 
@@ -131,27 +144,33 @@ loop-signal-preserved c =
     elim c.if-first-signal.branch [
       | then-first-signal w ↦
           let items = ap (λ (v : Vec (Vec Part Global) Global). v.items) w.kept-is in
-          let own : first_member lists round (class_of lists round signal) ≡ signal = ap (first_member lists round) (sym is) ∙ sym c.first.ensures.value ∙ w.if-first-signal.true in
+          let own : first_member lists round (class_of lists round signal) ≡ signal = ap (first_member lists round) (sym is) ∙ sym c.first.ensures.value
+          ∙ w.if-first-signal.true in
           let put : set kept (class - 1) sums ≡ set kept (class_of lists round signal - 1) sums = ap (λ (j : ℕ). set kept (j - 1) sums) is in
           record {
             long = ap (λ (v : List (Vec Part Global)). length v) items ∙ length-set kept (class - 1) sums ∙ c.loop-signal.invariant.long;
             stored = subst (StoredBelow f lists side round (signal + 1)) (sym (items ∙ put))
-                (stored_first f lists side round signal kept n c.loop-signal.invariant.stored sums (omega (arith, is, in_class.0, in_class.1, c.loop-signal.invariant.long)) (omega (arith, is, in_class.0)) own here);
+                (stored_first f lists side round signal kept n c.loop-signal.invariant.stored sums
+                (omega (arith, is, in_class.0, in_class.1, c.loop-signal.invariant.long)) (omega (arith, is, in_class.0)) own here);
             stand = standing at.In_ok-firsts;
             agree = agree_more f lists side round signal c.loop-signal.invariant.agree (agree_self f lists side round signal own);
           }
       | else-first-signal+else-not-are_same w ↦
           let items = ap (λ (v : Vec (Vec Part Global) Global). v.items) w.kept-is in
           let d = w.index.result.now in
-          let later : first_member lists round (class_of lists round signal) ≡ signal → ⊥ = λ q. w.if-first-signal.false (c.first.ensures.value ∙ ap (first_member lists round) is ∙ q) in
+          let later : first_member lists round (class_of lists round signal) ≡ signal
+          → ⊥ = λ q. w.if-first-signal.false (c.first.ensures.value ∙ ap (first_member lists round) is ∙ q) in
           let first = earlier at.After-first w.if-first-signal.false d in
           let yes : w.are_same.result ≡ true = search rules in
-          let same = ap (λ (v : Vec Part Global). v.items) (sym w.index.ensures) ∙ sym w.deref-else-first-signal.ensures.value ∙ w.are_same.ensures.0 yes ∙ w.deref-else-first-signal-2.ensures.value in
+          let same = ap (λ (v : Vec Part Global). v.items) (sym w.index.ensures) ∙ sym w.deref-else-first-signal.ensures.value ∙ w.are_same.ensures.0 yes
+          ∙ w.deref-else-first-signal-2.ensures.value in
           let agrees = agree_if_same f lists side round (first_member lists round class) signal (get_or kept (class - 1) d).items sums.items first here same in
           record {
             long = ap (λ (v : List (Vec Part Global)). length v) items ∙ c.loop-signal.invariant.long;
-            stored = subst (StoredBelow f lists side round (signal + 1)) (sym items) (stored_later f lists side round signal kept n c.loop-signal.invariant.stored later);
+            stored = subst (StoredBelow f lists side round (signal + 1)) (sym items)
+                (stored_later f lists side round signal kept n c.loop-signal.invariant.stored later);
             stand = standing at.In_ok-firsts;
-            agree = agree_more f lists side round signal c.loop-signal.invariant.agree (subst (λ (x : ℕ). HaveEqualAmounts f lists side round (first_member lists round x) signal) is agrees);
+            agree = agree_more f lists side round signal c.loop-signal.invariant.agree
+                (subst (λ (x : ℕ). HaveEqualAmounts f lists side round (first_member lists round x) signal) is agrees);
           }
     ]

@@ -38,11 +38,13 @@ known : (c : Joined-side) → ArePartsOf (rules_of c.args.signals.now) c.args.si
 known c =
     let items = λ (v : Vec Part Global). v.items in
     elim c.match-side.branch [
-      | in-Children+in_ok-parts-in-Children w ↦ of_children c.args.signals.now c.args.side c.args.round c.args.signal c.args.keys.now _ _ _ w.in-Children.is c.requires.side c.requires.in_range
+      | in-Children+in_ok-parts-in-Children w ↦ of_children c.args.signals.now c.args.side c.args.round c.args.signal c.args.keys.now _ _ _ w.in-Children.is
+          c.requires.side c.requires.in_range
           w.children-first.ensures.first w.children-first.ensures.end (ap items w.parts-is ∙ w.in_ok-parts-in-Children.ensures)
       | in-Deals+in_ok-parts-in-Deals w ↦
           let by = ap (λ k. c.args.round == k) (w.rounds.ensures.value ∙ sym (last_round_of (rules_of c.args.signals.now))) in
-          of_deals c.args.signals.now c.args.side c.args.round c.args.signal c.args.keys.now _ _ _ _ w.in-Deals.is by w.descendants-run.ensures (ap items w.parts-is ∙ w.in_ok-parts-in-Deals.ensures)
+          of_deals c.args.signals.now c.args.side c.args.round c.args.signal c.args.keys.now _ _ _ _ w.in-Deals.is by w.descendants-run.ensures
+          (ap items w.parts-is ∙ w.in_ok-parts-in-Deals.ensures)
     ]
 
 pub sums_of-requires-clause-some : goal.sums_of-requires-clause-some
@@ -54,4 +56,5 @@ sums_of-requires-clause-fits c = (known (goal.at.sums_of-requires-clause-fits c)
 pub returns : goal.returns
 returns c =
     let parts = known (goal.at.returns c).Joined-side in
-    IfOk-weaker c.sums_of.result _ _ (λ v are. amounts_from (rules_of c.args.signals.now) c.args.side c.args.round c.args.signal c.args.keys.now _ _ parts are) c.sums_of.ensures
+    IfOk-weaker c.sums_of.result _ _ (λ v are. amounts_from (rules_of c.args.signals.now) c.args.side c.args.round c.args.signal c.args.keys.now _ _ parts are)
+    c.sums_of.ensures

@@ -11,5 +11,6 @@ pub returns-then-round-rounds : goal.returns-then-round-rounds
 returns-then-round-rounds c =
     let g = rules_of c.args.signals.now in
     IfOk-weaker c.stand_ins.result (λ v. AreStandIns g c.args.keys.now v.items) _
-    (λ v h side lists has e was some. firsts_of_deals g (playable c.args.signals.now) side c.args.round has (c.if-round-rounds.true ∙ c.rounds.ensures.value) lists c.args.keys.now v.items e h)
+    (λ v h side lists has e was some. firsts_of_deals g (playable c.args.signals.now) side c.args.round has (c.if-round-rounds.true ∙ c.rounds.ensures.value)
+    lists c.args.keys.now v.items e h)
     c.stand_ins.ensures

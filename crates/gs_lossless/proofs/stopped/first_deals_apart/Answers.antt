@@ -16,7 +16,8 @@ count-end-requires-clause-in_range c = side_top (rules_of c.args.grouped.now.sig
 later : (g h : Game) (round last : ℕ) → round < last → last ≡ round_count g → StopsAfter g round h → round < round_count h
 later g h round last l e stops = stops_later g h round (omega (arith, l, e)) stops
 
-within : (g h : Game) (round last end : ℕ) → round < last → last ≡ round_count g → StopsAfter g round h → end ≤ length (signals g round) → end ≤ length (signals h round)
+within : (g h : Game) (round last end : ℕ) → round < last → last ≡ round_count g → StopsAfter g round h → end ≤ length (signals g round)
+    → end ≤ length (signals h round)
 within g h round last end l e stops w =
     let n = ap (λ (xs : List Signal). length xs) (stops_signals g h round (omega (arith, l, e)) stops) in
     omega (arith, n, w)
@@ -24,19 +25,22 @@ within g h round last end l e stops w =
 -- the game that is looked at stops after the round
 stops : (c : In_ok-stopped) → StopsAfter (rules_of c.args.grouped.now.signals.now) c.args.round (rules_of c.in_ok-stopped.stopped)
 stops c =
-    let made = subst (λ (o : Option ValidGame). IfSome o (λ (v : ValidGame). StopsAfter (game_of c.game.result.now.game) c.args.round (game_of v.game))) c.in-Some.is c.in_ok-game.ensures.stops in
+    let made = subst (λ (o : Option ValidGame). IfSome o (λ (v : ValidGame). StopsAfter (game_of c.game.result.now.game) c.args.round (game_of v.game)))
+    c.in-Some.is c.in_ok-game.ensures.stops in
     subst (λ (v : ValidGame). StopsAfter (game_of v.game) c.args.round (rules_of c.in_ok-stopped.stopped)) c.game.ensures
     (subst (λ (v : ValidGame). StopsAfter (game_of c.game.result.now.game) c.args.round (game_of v.game)) (sym c.in_ok-stopped.ensures) made)
 
 pub first_apart-requires-clause-side : goal.first_apart-requires-clause-side
 first_apart-requires-clause-side c =
     let h = rules_of c.in_ok-stopped.stopped in
-    let l = later (rules_of c.args.grouped.now.signals.now) h c.args.round c.rounds.result c.if-round-rounds.true c.rounds.ensures.value (stops (goal.at.first_apart-requires-clause-side c).In_ok-stopped) in
+    let l = later (rules_of c.args.grouped.now.signals.now) h c.args.round c.rounds.result c.if-round-rounds.true c.rounds.ensures.value
+    (stops (goal.at.first_apart-requires-clause-side c).In_ok-stopped) in
     (c.requires.0, omega (arith, l, last_round_of h))
 
 pub first_apart-requires-clause-within : goal.first_apart-requires-clause-within
 first_apart-requires-clause-within c =
-    within (rules_of c.args.grouped.now.signals.now) (rules_of c.in_ok-stopped.stopped) c.args.round c.rounds.result c.count-end.result c.if-round-rounds.true c.rounds.ensures.value
+    within (rules_of c.args.grouped.now.signals.now) (rules_of c.in_ok-stopped.stopped) c.args.round c.rounds.result c.count-end.result c.if-round-rounds.true
+    c.rounds.ensures.value
     (stops (goal.at.first_apart-requires-clause-within c).In_ok-stopped) (omega (arith, c.count-end.ensures.value))
 
 pub returns-in-Some-2 : goal.returns-in-Some-2
@@ -48,13 +52,16 @@ returns-in-Some-2 c =
     let round = c.args.round in
     let same = subst (λ (o : Option Filter). IfSome o (λ (f : Filter). list_of f.lists round ≡ list_of lists round)) c.in-Some-2.is c.in_ok-seen.ensures.same in
     let all = c.count-end.ensures.value ∙ sym (side_signals g Deals round c.requires) in
-    if_ok c.first_apart.result (IsFirstApart (frame_of h) others Deals round c.count-end.result) (IsFirstApart (frame_of g) lists Deals round (signal_count (frame_of g) round))
+    if_ok c.first_apart.result (IsFirstApart (frame_of h) others Deals round c.count-end.result)
+    (IsFirstApart (frame_of g) lists Deals round (signal_count (frame_of g) round))
     (λ r apart. subst (λ (n : ℕ). IsFirstApart (frame_of g) lists Deals round n r) all
-    (apart_from g h round lists others c.requires.0 (omega (arith, c.if-round-rounds.true, c.rounds.ensures.value)) c.args.grouped.now.signals.now.game.now.accepted (stops (goal.at.returns-in-Some-2 c).In_ok-stopped) same c.count-end.result r apart))
+    (apart_from g h round lists others c.requires.0 (omega (arith, c.if-round-rounds.true, c.rounds.ensures.value))
+    c.args.grouped.now.signals.now.game.now.accepted (stops (goal.at.returns-in-Some-2 c).In_ok-stopped) same c.count-end.result r apart))
     c.first_apart.ensures
 
 pub returns : goal.returns
 returns c =
     let g = rules_of c.args.grouped.now.signals.now in
     let all = c.count-end.ensures.value ∙ sym (side_signals g Deals c.args.round c.requires) in
-    subst (λ (n : ℕ). IfOk c.first_apart-2.result (IsFirstApart (frame_of g) c.args.grouped.now.classes.now.lists Deals c.args.round n)) all c.first_apart-2.ensures
+    subst (λ (n : ℕ). IfOk c.first_apart-2.result (IsFirstApart (frame_of g) c.args.grouped.now.classes.now.lists Deals c.args.round n)) all
+    c.first_apart-2.ensures

@@ -15,4 +15,5 @@ returns-in_default-clause-whenever c = λ classes.
     let parents = (frame_of (rules_of c.args.stopped.now)).parents in
     let lists = stopped_lists c.args.classes.now.lists c.args.round in
     let fault = subst (λ (ls : ClassLists). IsFaultOf (rows c.parents.result.now) ls c.in-Err.fault) c.in_ok-lists.ensures c.in-Err.ensures.refused in
-    classes_kept parents lists c.in-Err.fault classes c.in_default.not-Memory (subst (λ (ps : List (List ℕ)). IsFaultOf ps lists c.in-Err.fault) c.parents.ensures fault)
+    classes_kept parents lists c.in-Err.fault classes c.in_default.not-Memory
+    (subst (λ (ps : List (List ℕ)). IsFaultOf ps lists c.in-Err.fault) c.parents.ensures fault)

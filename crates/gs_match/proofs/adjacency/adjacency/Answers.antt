@@ -8,7 +8,8 @@ use Rattle.gs_match.proofs.adjacency.adjacency.Goals as goal
 pub loop-edge-init : goal.loop-edge-init
 loop-edge-init c =
     let left_is : c.graph.inside.left ≡ c.args.graph.now.left = ap (λ (g : Edges). g.left) c.graph.view_is in
-    neighbours_none c.args.graph.now.left c.args.graph.now.right (rows c.in_ok-lists.lists.items) (length-map c.in_ok-lists.lists.items (λ (x : Vec ℕ Global). x.items) ∙ c.in_ok-lists.ensures.long ∙ left_is) c.in_ok-lists.ensures.empty
+    neighbours_none c.args.graph.now.left c.args.graph.now.right (rows c.in_ok-lists.lists.items)
+    (length-map c.in_ok-lists.lists.items (λ (x : Vec ℕ Global). x.items) ∙ c.in_ok-lists.ensures.long ∙ left_is) c.in_ok-lists.ensures.empty
 
 pub index_mut-requires : goal.index_mut-requires
 index_mut-requires c =
@@ -36,18 +37,31 @@ loop-edge-preserved c =
     let high : b < c.args.graph.now.right = subst (λ (x : ℕ × ℕ). x.1 < c.args.graph.now.right) e q.1 in
     let long = c.loop-edge.invariant.long in
     let m = length-map c.loop-edge.lists.items (λ (x : Vec ℕ Global). x.items) in
-    let more = neighbours_more c.args.graph.now.left c.args.graph.now.right (take k c.args.graph.now.edges) (rows c.loop-edge.lists.items) (a, b) c.loop-edge.invariant low high in
-    let row : c.index_mut.result.now.items ≡ row_of (rows c.loop-edge.lists.items) a = row_read c.loop-edge.lists.items a c.index_mut.result.now (omega arith) c.index_mut.ensures.value in
-    let pushed : c.push.new.self.items ≡ row_of (rows c.loop-edge.lists.items) a ++ b ∷ [] = c.in_ok-push.ensures.items ∙ ap (λ (r : List ℕ). r ++ b ∷ []) row in
-    let lists : rows (set c.loop-edge.lists.items a c.push.new.self) ≡ set (rows c.loop-edge.lists.items) a (row_of (rows c.loop-edge.lists.items) a ++ b ∷ []) =
+    let more = neighbours_more c.args.graph.now.left c.args.graph.now.right (take k c.args.graph.now.edges) (rows c.loop-edge.lists.items)
+    (a, b) c.loop-edge.invariant low high in
+    let row : c.index_mut.result.now.items ≡ row_of (rows c.loop-edge.lists.items) a = row_read c.loop-edge.lists.items a c.index_mut.result.now
+    (omega arith) c.index_mut.ensures.value in
+    let pushed : c.push.new.self.items ≡ row_of (rows c.loop-edge.lists.items) a ++ b ∷ [] = c.in_ok-push.ensures.items
+    ∙ ap (λ (r : List ℕ). r ++ b ∷ []) row in
+    let lists : rows (set c.loop-edge.lists.items a c.push.new.self) ≡ set (rows c.loop-edge.lists.items) a
+    (row_of (rows c.loop-edge.lists.items) a ++ b ∷ []) =
     map-set (λ (x : Vec ℕ Global). x.items) c.loop-edge.lists.items a c.push.new.self ∙ ap (λ (r : List ℕ). set (rows c.loop-edge.lists.items) a r) pushed in
-    let prefix : take (k + 1) c.args.graph.now.edges ≡ take k c.args.graph.now.edges ++ (a, b) ∷ [] = take_more c.args.graph.now.edges k (0, 0) within ∙ ap (λ (x : ℕ × ℕ). take k c.args.graph.now.edges ++ x ∷ []) e in
-    subst (λ (es : List (ℕ × ℕ)). AreNeighbours (record { left = c.args.graph.now.left; right = c.args.graph.now.right; edges = es }) (rows (set c.loop-edge.lists.items a c.push.new.self))) (sym prefix)
-    (subst (λ (ls : List (List ℕ)). AreNeighbours (record { left = c.args.graph.now.left; right = c.args.graph.now.right; edges = take k c.args.graph.now.edges ++ (a, b) ∷ [] }) ls) (sym lists) more)
+    let prefix : take (k + 1) c.args.graph.now.edges ≡ take k c.args.graph.now.edges ++ (a, b) ∷ [] = take_more c.args.graph.now.edges k (0, 0) within
+    ∙ ap (λ (x : ℕ × ℕ). take k c.args.graph.now.edges ++ x ∷ []) e in
+    subst (λ (es : List (ℕ × ℕ)). AreNeighbours (record { left = c.args.graph.now.left; right = c.args.graph.now.right; edges = es })
+    (rows (set c.loop-edge.lists.items a c.push.new.self))) (sym prefix)
+    (subst (λ (ls : List (List ℕ)). AreNeighbours (record {
+      left = c.args.graph.now.left;
+      right = c.args.graph.now.right;
+      edges = take k c.args.graph.now.edges
+          ++ (a, b) ∷ [];
+    }) ls) (sym lists) more)
 
 pub returns : goal.returns
 returns c =
     let edges = c.deref-edge-items.ensures.value ∙ ap (λ (g : Edges). g.edges) c.graph.view_is in
     let n = ap length edges in
-    let all : take c.loop-edge.edge-index c.args.graph.now.edges ≡ c.args.graph.now.edges = take_all c.loop-edge.edge-index c.args.graph.now.edges (omega arith) in
-    subst (λ (es : List (ℕ × ℕ)). AreNeighbours (record { left = c.args.graph.now.left; right = c.args.graph.now.right; edges = es }) (rows c.loop-edge.lists.items)) all c.loop-edge.invariant
+    let all : take c.loop-edge.edge-index c.args.graph.now.edges ≡ c.args.graph.now.edges = take_all c.loop-edge.edge-index c.args.graph.now.edges
+    (omega arith) in
+    subst (λ (es : List (ℕ × ℕ)). AreNeighbours (record { left = c.args.graph.now.left; right = c.args.graph.now.right; edges = es })
+    (rows c.loop-edge.lists.items)) all c.loop-edge.invariant

@@ -7,5 +7,6 @@ use Rattle.gs_match.proofs.adjacency.empty_lists.Goals as goal
 pub loop-n-preserved : goal.loop-n-preserved
 loop-n-preserved c = record {
   long = ap length c.in_ok-push.ensures.items ∙ (let n = length_push c.loop-n.lists.items c.new.result in let o = c.loop-n.invariant.long in omega arith);
-  empty = subst (λ (vs : List (Vec ℕ Global)). (k : ℕ) → row_of (rows vs) k ≡ []) (sym c.in_ok-push.ensures.items) (empty_more c.loop-n.lists.items c.new.result c.new.ensures.items c.loop-n.invariant.empty);
+  empty = subst (λ (vs : List (Vec ℕ Global)). (k : ℕ) → row_of (rows vs) k ≡ []) (sym c.in_ok-push.ensures.items)
+      (empty_more c.loop-n.lists.items c.new.result c.new.ensures.items c.loop-n.invariant.empty);
 }

@@ -10,18 +10,23 @@ found c = subst (λ (f : Found). IsFound (rows c.args.adjacent.now) c.args.holde
 
 pub loop-place-init : goal.loop-place-init
 loop-place-init c =
-    shift_start (rows c.args.adjacent.now) c.args.holders.now c.args.root c.in-Free.visits.items c.in-Free.place c.in-Free.right c.requires.matching (found (goal.at.loop-place-init c).In-Free).1
+    shift_start (rows c.args.adjacent.now) c.args.holders.now c.args.root c.in-Free.visits.items c.in-Free.place c.in-Free.right c.requires.matching
+    (found (goal.at.loop-place-init c).In-Free).1
 
 pub loop-place-preserved : goal.loop-place-preserved
 loop-place-preserved c =
     let path = (found (goal.at.loop-place-preserved c).In-Free).1 in
     let here : c.index-visit.result.now ≡ visit c.in-Free.visits.items c.loop-place.place =
-    c.index-visit.ensures ∙ get_or_default c.in-Free.visits.items c.loop-place.place c.index-visit.result.now (record { left = 0; right = 0; from = 0 }) c.loop-place.invariant.within in
-    subst (λ (v : Visit). IsShift (rows c.args.adjacent.now) (set c.loop-place.holders c.loop-place.right (Some v.left)) c.args.root c.in-Free.visits.items v.from v.right) (sym here)
-    (shift_step (rows c.args.adjacent.now) c.args.holders.now c.loop-place.holders path.reached c.args.root c.in-Free.visits.items c.loop-place.place c.loop-place.right path.tree c.loop-place.invariant c.loop-place-test.true)
+    c.index-visit.ensures ∙ get_or_default c.in-Free.visits.items c.loop-place.place c.index-visit.result.now (record { left = 0; right = 0; from = 0 })
+    c.loop-place.invariant.within in
+    subst (λ (v : Visit). IsShift (rows c.args.adjacent.now) (set c.loop-place.holders c.loop-place.right (Some v.left)) c.args.root c.in-Free.visits.items
+    v.from v.right) (sym here)
+    (shift_step (rows c.args.adjacent.now) c.args.holders.now c.loop-place.holders path.reached c.args.root c.in-Free.visits.items c.loop-place.place
+    c.loop-place.right path.tree c.loop-place.invariant c.loop-place-test.true)
 
 pub returns : goal.returns
 returns c =
     let none : c.loop-place.place ≡ 0 = omega arith in
     shift_end (rows c.args.adjacent.now) c.loop-place.holders c.args.root c.in-Free.visits.items c.loop-place.right
-    (subst (λ (k : ℕ). IsShift (rows c.args.adjacent.now) c.loop-place.holders c.args.root c.in-Free.visits.items k c.loop-place.right) none c.loop-place.invariant) (found (goal.at.returns c).In-Free).0
+    (subst (λ (k : ℕ). IsShift (rows c.args.adjacent.now) c.loop-place.holders c.args.root c.in-Free.visits.items k c.loop-place.right) none
+    c.loop-place.invariant) (found (goal.at.returns c).In-Free).0

@@ -11,7 +11,8 @@ loop-right-preserved c = elim c.match-left.branch [
       record {
         long = ap length e ∙ length-set c.loop-right.to.items w.in-Some.left c.loop-right.right ∙ c.loop-right.invariant.long;
         each = subst (λ (l : List ℕ). FoundBelow c.args.holders.now l (c.loop-right.right + 1)) (sym e)
-            (by_left-some c.args.holders.now c.loop-right.to.items c.loop-right.right c.loop-right.invariant.each w.in-Some.left (omega arith) w.in-Some.is c.requires.once);
+            (by_left-some c.args.holders.now c.loop-right.to.items c.loop-right.right c.loop-right.invariant.each w.in-Some.left
+            (omega arith) w.in-Some.is c.requires.once);
       }
   | in_default w ↦
       let e = ap (λ (v : Vec ℕ Global). v.items) w.to-is in record {

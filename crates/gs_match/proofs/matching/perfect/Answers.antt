@@ -19,7 +19,8 @@ module _ (c : goal.After-drop-adjacent-in-Some) where
       subst (λ (vs : List Visit). IsPermutation (lefts vs) c.in_ok-visited.field-0.items) c.deref-in-Some.ensures.value c.in_ok-visited.ensures.same in
       let within = c.loop-root-test.true in (
         sym left_is ∙ c.if-graph.false ∙ right_is,
-        hall_from c.args.graph.now (rows c.in_ok-adjacent.adjacent.items) c.loop-root.holders.items c.loop-root.root c.in-Some.visits.items c.in_ok-visited.field-0.items c.in_ok-adjacent.ensures c.loop-root.invariant.wide
+        hall_from c.args.graph.now (rows c.in_ok-adjacent.adjacent.items) c.loop-root.holders.items c.loop-root.root c.in-Some.visits.items
+            c.in_ok-visited.field-0.items c.in_ok-adjacent.ensures c.loop-root.invariant.wide
             (omega arith) c.loop-root.invariant.matching found same c.in_ok-visited.ensures.sorted,
       )
 
@@ -53,9 +54,11 @@ returns-clause-matched c =
     let right_is : c.graph.inside.right ≡ c.args.graph.now.right = ap (λ (g : Edges). g.right) c.graph.view_is in
     let done : c.loop-root.root ≡ c.args.graph.now.left = omega arith in
     let m = subst (λ (k : ℕ). IsMatching (rows c.in_ok-adjacent.adjacent.items) c.loop-root.holders.items k) done c.loop-root.invariant.matching in
-    perfect_from c.args.graph.now (rows c.in_ok-adjacent.adjacent.items) c.loop-root.holders.items c.in_ok-by_left.field-0.items c.in_ok-adjacent.ensures c.loop-root.invariant.wide (sym left_is ∙ c.if-graph.false ∙ right_is) m
+    perfect_from c.args.graph.now (rows c.in_ok-adjacent.adjacent.items) c.loop-root.holders.items c.in_ok-by_left.field-0.items c.in_ok-adjacent.ensures
+    c.loop-root.invariant.wide (sym left_is ∙ c.if-graph.false ∙ right_is) m
     (c.in_ok-by_left.ensures.long ∙ ap length c.deref-2.ensures.value)
-    (subst (λ (hs : List (Option ℕ)). (b a : ℕ) → holder hs b ≡ Some a → get_or c.in_ok-by_left.field-0.items a 0 ≡ b) c.deref-2.ensures.value c.in_ok-by_left.ensures.each)
+    (subst (λ (hs : List (Option ℕ)). (b a : ℕ) → holder hs b ≡ Some a → get_or c.in_ok-by_left.field-0.items a 0 ≡ b) c.deref-2.ensures.value
+    c.in_ok-by_left.ensures.each)
 
 pub returns-then-graph-clause-refused : goal.returns-then-graph-clause-refused
 returns-then-graph-clause-refused c = search rules

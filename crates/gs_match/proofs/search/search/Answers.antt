@@ -18,16 +18,20 @@ loop-place-preserved c =
     let longer = ext.longer in
     let within = c.loop-place-test.true in
     let row : IsRowEnd (rows c.args.adjacent.now) c.args.holders.now c.visit_row.new.visits.items new c.loop-place.place None =
-    subst (λ (o : Option ℕ). IsRowEnd (rows c.args.adjacent.now) c.args.holders.now c.visit_row.new.visits.items new c.loop-place.place o) c.in_default.is c.in_ok-right.ensures.end in
+    subst (λ (o : Option ℕ). IsRowEnd (rows c.args.adjacent.now) c.args.holders.now c.visit_row.new.visits.items new c.loop-place.place o) c.in_default.is
+    c.in_ok-right.ensures.end in
     let explored : AreExplored (rows c.args.adjacent.now) c.visit_row.new.visits.items new (c.loop-place.place + 1) = λ k b lt near. ⊎_elim
     (λ (e : k ≡ c.loop-place.place). row b (subst (λ j. Near (rows c.args.adjacent.now) (visit c.visit_row.new.visits.items j).left b) e near))
-    (λ ne. explored_more (rows c.args.adjacent.now) c.loop-place.visits.items old c.visit_row.new.visits.items new c.loop-place.place c.loop-place.invariant.within ext c.loop-place.invariant.explored k b (omega arith) near)
+    (λ ne. explored_more (rows c.args.adjacent.now) c.loop-place.visits.items old c.visit_row.new.visits.items new c.loop-place.place
+    c.loop-place.invariant.within ext c.loop-place.invariant.explored k b (omega arith) near)
     (cases_eq k c.loop-place.place) in
     record {
       within = omega arith;
       root = ap (λ (v : Visit). v.left) (ext.kept 0 (omega arith)) ∙ c.loop-place.invariant.root;
-      tree = subst (λ (rs : List Bool). IsTree (rows c.args.adjacent.now) c.args.holders.now c.visit_row.new.visits.items rs) (sym same) c.in_ok-right.ensures.tree;
-      explored = subst (λ (rs : List Bool). AreExplored (rows c.args.adjacent.now) c.visit_row.new.visits.items rs (c.loop-place.place + 1)) (sym same) explored;
+      tree = subst (λ (rs : List Bool). IsTree (rows c.args.adjacent.now) c.args.holders.now c.visit_row.new.visits.items rs)
+          (sym same) c.in_ok-right.ensures.tree;
+      explored = subst (λ (rs : List Bool). AreExplored (rows c.args.adjacent.now) c.visit_row.new.visits.items rs (c.loop-place.place + 1))
+          (sym same) explored;
     }
 
 pub returns : goal.returns
@@ -36,5 +40,10 @@ returns c =
     let ok = c.loop-place.visits.ok.0 in
     let t = c.loop-place-test.false in (
       c.loop-place.invariant.root,
-      record { reached = c.loop-place.reached.items; tree = c.loop-place.invariant.tree; explored = λ k b lt near. c.loop-place.invariant.explored k b (omega arith) near },
+      record {
+        reached = c.loop-place.reached.items;
+        tree = c.loop-place.invariant.tree;
+        explored = λ k b lt near. c.loop-place.invariant.explored k b
+            (omega arith) near;
+      },
     )

@@ -37,14 +37,24 @@ returns-clause-sum c =
     let more = c.args.more.now in
     let times = c.args.times in
     let new = c.add_weights.new.weights in
-    let long : length new ≡ sum.weights.len = omega (arith, sum.weights.ok.0, c.add_weights.ensures.long, ap (λ (zs : List ℕ). length zs) c.deref_mut.ensures.value) in
+    let long : length new ≡ sum.weights.len = omega (
+      arith,
+      sum.weights.ok.0,
+      c.add_weights.ensures.long,
+      ap (λ (zs : List ℕ). length zs)
+          c.deref_mut.ensures.value,
+    ) in
     let same = with_items_is sum.weights new long in
     let added : AreWeightsAdded sum.weights.items more.weights.items times new =
-    subst (λ (zs : List ℕ). AreWeightsAdded zs more.weights.items times new) c.deref_mut.ensures.value (subst (λ (zs : List ℕ). AreWeightsAdded c.deref_mut.result.now zs times new) c.deref.ensures.value c.add_weights.ensures) in
+    subst (λ (zs : List ℕ). AreWeightsAdded zs more.weights.items times new) c.deref_mut.ensures.value
+    (subst (λ (zs : List ℕ). AreWeightsAdded c.deref_mut.result.now zs times new) c.deref.ensures.value c.add_weights.ensures) in
     let t : c.from.result ≡ times = c.from.ensures in
-    subst (λ n. ArePlansAlike f lists c.args.player (plan_of f lists (sum.total + n) (with_items sum.weights new).items) (plus_times (plan_of f lists sum.total sum.weights.items) times (plan_of f lists more.total more.weights.items))) (sym t)
-    (subst (λ (zs : List ℕ). ArePlansAlike f lists c.args.player (plan_of f lists (sum.total + times) zs) (plus_times (plan_of f lists sum.total sum.weights.items) times (plan_of f lists more.total more.weights.items))) (sym same)
-    (added_alike f (form_in_range c.args.form.now) lists k c.args.player w sum.total more.total times sum.weights.items more.weights.items new c.requires.one c.requires.sum.plan.long added))
+    subst (λ n. ArePlansAlike f lists c.args.player (plan_of f lists (sum.total + n) (with_items sum.weights new).items)
+    (plus_times (plan_of f lists sum.total sum.weights.items) times (plan_of f lists more.total more.weights.items))) (sym t)
+    (subst (λ (zs : List ℕ). ArePlansAlike f lists c.args.player (plan_of f lists (sum.total + times) zs)
+    (plus_times (plan_of f lists sum.total sum.weights.items) times (plan_of f lists more.total more.weights.items))) (sym same)
+    (added_alike f (form_in_range c.args.form.now) lists k c.args.player w sum.total more.total times sum.weights.items more.weights.items new c.requires.one
+    c.requires.sum.plan.long added))
 
 pub returns-clause-total : goal.returns-clause-total
 returns-clause-total c = search rules

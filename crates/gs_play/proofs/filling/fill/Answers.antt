@@ -7,7 +7,8 @@ pub returns-clause-best : goal.returns-clause-best
 returns-clause-best c =
     let k = c.args.ledger.now in
     let none : c.loop-point.point ≡ 0 = omega (arith, c.loop-point-test.false) in
-    all_best (role_frame k.role) (role_lists k.role) k.role.player (role_plan k.role k.other.now) c.loop-point.totals.points.items (moves_in k.role c.loop-point.picks) (subst (AreBestIn k c.loop-point.totals c.loop-point.picks) none c.loop-point.invariant.best)
+    all_best (role_frame k.role) (role_lists k.role) k.role.player (role_plan k.role k.other.now) c.loop-point.totals.points.items
+    (moves_in k.role c.loop-point.picks) (subst (AreBestIn k c.loop-point.totals c.loop-point.picks) none c.loop-point.invariant.best)
 
 pub fill_point-requires-clause-later : goal.fill_point-requires-clause-later
 fill_point-requires-clause-later c =

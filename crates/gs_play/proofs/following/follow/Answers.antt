@@ -7,7 +7,8 @@ pub returns-clause-followed : goal.returns-clause-followed
 returns-clause-followed c =
     let k = c.args.ledger.now in
     let none : c.loop-point.point ≡ 0 = omega (arith, c.loop-point-test.false) in
-    all_followed (role_frame k.role) (role_lists k.role) k.role.player (role_plan k.role k.other.now) c.loop-point.totals.points.items (moves_in k.role c.args.picks.now) (subst (AreFollowedIn k c.loop-point.totals c.args.picks.now) none c.loop-point.invariant.followed)
+    all_followed (role_frame k.role) (role_lists k.role) k.role.player (role_plan k.role k.other.now) c.loop-point.totals.points.items
+    (moves_in k.role c.args.picks.now) (subst (AreFollowedIn k c.loop-point.totals c.args.picks.now) none c.loop-point.invariant.followed)
 
 pub follow_point-requires-clause-later : goal.follow_point-requires-clause-later
 follow_point-requires-clause-later c =

@@ -6,8 +6,10 @@ use Rattle.gs_best.proofs.Placed.{row_next}
 use Rattle.gs_play.proofs.{EndStarts.{end_starts_few}, places.end_room.Goals.{After-class_total-total}}
 use Rattle.gs_play.proofs.places.end_room.Goals as goal
 
-next : (c : After-class_total-total) → c.loop-end.total + c.class_total-total.result ≡ end_start (abstract_frame c.args.form.now) (lists_of c.args.form.now) (c.loop-end.end + 1)
-next c = row_next (end_classes (abstract_frame c.args.form.now) (lists_of c.args.form.now)) c.loop-end.end _ _ c.loop-end.invariant (c.class_total-total.ensures.value ∙ ap (class_count (lists_of c.args.form.now)) c.end_round.ensures.value)
+next : (c : After-class_total-total) → c.loop-end.total + c.class_total-total.result ≡ end_start (abstract_frame c.args.form.now) (lists_of c.args.form.now)
+    (c.loop-end.end + 1)
+next c = row_next (end_classes (abstract_frame c.args.form.now) (lists_of c.args.form.now)) c.loop-end.end _ _ c.loop-end.invariant
+    (c.class_total-total.ensures.value ∙ ap (class_count (lists_of c.args.form.now)) c.end_round.ensures.value)
 
 pub overflow_add-total : goal.overflow_add-total
 overflow_add-total c =

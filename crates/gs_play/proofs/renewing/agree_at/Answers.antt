@@ -11,8 +11,11 @@ returns-then-first-second c =
     let n = c.loop-class.class in
     let all = c.class_total-class-end.ensures.value ∙ ap (class_count lists) c.round_at.ensures.value in
     let class : IsClass lists (round_of f (at_point q)) (n + 1) = (omega arith, omega (arith, c.loop-class-test.true, all)) in
-    let slot = c.slot-slot.ensures.value in
-    ((λ t. cc), (λ h. absurd (c.if-first-second.true (ap (λ s. get_or c.args.before.now s 0) slot ∙ h (n + 1) class ∙ sym (ap (λ s. get_or c.args.now.now s 0) slot)))))
+    let slot = c.slot-slot.ensures.value in (
+      (λ t. cc),
+      (λ h. absurd (c.if-first-second.true (ap (λ s. get_or c.args.before.now s 0) slot ∙ h (n + 1) class
+          ∙ sym (ap (λ s. get_or c.args.now.now s 0) slot)))),
+    )
 
 pub returns : goal.returns
 returns c =

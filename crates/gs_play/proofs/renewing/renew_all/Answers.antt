@@ -9,7 +9,8 @@ use Rattle.gs_play.proofs.{EndStarts.{end_starts_le, end_starts_more}, PlacedRow
 use Rattle.gs_play.proofs.renewing.renew_all.Goals as goal
 
 -- the row of the end at hand
-row : (c : After-index) → let k = c.args.ledger.now.role in IsRow (end_classes (role_frame k) (role_lists k)) (end_count (role_frame k)) c.loop-end.end c.index.result.now (end_classes (role_frame k) (role_lists k) c.loop-end.end)
+row : (c : After-index) → let k = c.args.ledger.now.role in IsRow (end_classes (role_frame k) (role_lists k)) (end_count (role_frame k)) c.loop-end.end
+    c.index.result.now (end_classes (role_frame k) (role_lists k) c.loop-end.end)
 row c = row_of_end c.args.ledger.now c.loop-end.end _ (omega (arith, c.loop-end-test.true, c.end_total-end-end.ensures)) c.index.ensures
 
 pub loop-end-init : goal.loop-end-init
@@ -32,7 +33,8 @@ renew_end-requires-clause-paid c =
     λ n lk.
     (let place : c.index.result.now + (n - 1) ≡ end_start (role_frame k) (role_lists k) z + (n - 1) = omega (arith, r.start_is) in
     let reached : z ≤ z = omega arith in
-    ap (λ i. get_or c.loop-end.sums i (pos 0)) place ∙ c.loop-end.invariant.rest z n reached (omega (arith, c.loop-end-test.true, c.end_total-end-end.ensures)) lk)
+    ap (λ i. get_or c.loop-end.sums i (pos 0)) place ∙ c.loop-end.invariant.rest z n reached
+    (omega (arith, c.loop-end-test.true, c.end_total-end-end.ensures)) lk)
 
 pub loop-end-preserved : goal.loop-end-preserved
 loop-end-preserved c =
@@ -45,7 +47,8 @@ loop-end-preserved c =
       rest = λ e n from le lk.
           (let behind = end_starts_le f (role_lists k) (z + 1) e (omega (arith, from)) in
           let later : z ≤ e = omega (arith, from) in
-          c.renew_end.ensures.behind (end_start f (role_lists k) e + (n - 1)) (omega (arith, behind, end_starts_more f (role_lists k) z, r.start_is)) ∙ c.loop-end.invariant.rest e n later le lk);
+          c.renew_end.ensures.behind (end_start f (role_lists k) e + (n - 1)) (omega (arith, behind, end_starts_more f (role_lists k) z, r.start_is))
+          ∙ c.loop-end.invariant.rest e n later le lk);
     }
 
 pub returns : goal.returns

@@ -11,7 +11,8 @@ returns-then-is_same_at c =
     let lists = role_lists k in
     let other = c.args.ledger.now.other.now in
     record {
-      here = λ n ln. c.requires.paid n ln ∙ same_paid f lists k.player (plan_of f lists other.total c.args.before.now) (role_plan k other) c.args.end n (c.is_same_at.ensures c.if-is_same_at.true);
+      here = λ n ln. c.requires.paid n ln ∙ same_paid f lists k.player (plan_of f lists other.total c.args.before.now) (role_plan k other) c.args.end n
+          (c.is_same_at.ensures c.if-is_same_at.true);
       before = λ i l. refl;
       behind = λ i l. refl;
     }

@@ -12,4 +12,5 @@ pub returns-clause-worths : goal.returns-clause-worths
 returns-clause-worths c =
     let at = c.args.at.now in
     let k = at.ledger.role in
-    worths_by (role_frame k) (role_lists k) (totals_at at) at.point c.args.choice c.round_at.result c.round_at.ensures.value c.target_row-row.result c.target_row-row.ensures.held c.read_row.result.now c.read_row.ensures.gathered
+    worths_by (role_frame k) (role_lists k) (totals_at at) at.point c.args.choice c.round_at.result c.round_at.ensures.value c.target_row-row.result
+    c.target_row-row.ensures.held c.read_row.result.now c.read_row.ensures.gathered

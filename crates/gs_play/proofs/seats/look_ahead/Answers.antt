@@ -17,4 +17,5 @@ returns-clause-stays c =
     let a = k.form.now in
     let seat = c.args.seat.now in
     put_stays (role_frame k) (form_in_range a) (role_lists k) (form_classes a) (form_lossless a) k.player (walked k) (other_walked k)
-    _ _ seat.answer.total seat.answer.weights.items _ _ _ c.lasts.result c.requires.answered.best c.rise.ensures.rises.followed c.lasts.ensures.lasts c.requires.seat.room.one c.requires.answered.puts
+    _ _ seat.answer.total seat.answer.weights.items _ _ _ c.lasts.result c.requires.answered.best c.rise.ensures.rises.followed c.lasts.ensures.lasts
+    c.requires.seat.room.one c.requires.answered.puts

@@ -10,4 +10,5 @@ renew_ends-requires-clause-before c = ap (λ (l : List ℕ). length l) c.deref.e
 pub renew_ends-requires-clause-paid : goal.renew_ends-requires-clause-paid
 renew_ends-requires-clause-paid c =
     let k = c.args.role.now in
-    subst (λ (l : List ℕ). AreEndSums (role_frame k) (role_lists k) k.player (plan_of (role_frame k) (role_lists k) c.args.other.now.answer.total l) c.args.steps.now.ends.items) (sym c.deref.ensures.value) (c.requires.paid c.if-same.false)
+    subst (λ (l : List ℕ). AreEndSums (role_frame k) (role_lists k) k.player (plan_of (role_frame k) (role_lists k) c.args.other.now.answer.total l)
+    c.args.steps.now.ends.items) (sym c.deref.ensures.value) (c.requires.paid c.if-same.false)

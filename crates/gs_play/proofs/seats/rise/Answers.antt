@@ -11,7 +11,8 @@ follow-requires-clause-ready c =
     record {
       rows = c.requires.rows;
       paid = c.requires.paid;
-      long = subst (λ (l : List ℕ). start_of (role_frame k) (role_lists k) (point_count (role_frame k)) ≤ length l) (sym c.deref.ensures.value) c.requires.room.picks;
+      long = subst (λ (l : List ℕ). start_of (role_frame k) (role_lists k) (point_count (role_frame k)) ≤ length l)
+          (sym c.deref.ensures.value) c.requires.room.picks;
       scratch = c.requires.scratch;
     }
 
@@ -20,6 +21,8 @@ returns-clause-rises c =
     let k = c.args.role.now in
     let more = c.args.more.now in
     record {
-      paid = subst (λ (l : Vec ℤ Global). AreEndSums (role_frame k) (role_lists k) k.player (role_plan k more) l.items) (sym c.follow.ensures.ends) c.requires.paid;
-      followed = subst (λ (l : List ℕ). IsFollowed (role_frame k) (role_lists k) k.player (role_plan k more) (totals_in k more c.follow.new.totals.points.items) (moves_in k l)) c.deref.ensures.value c.follow.ensures.followed;
+      paid = subst (λ (l : Vec ℤ Global). AreEndSums (role_frame k) (role_lists k) k.player (role_plan k more) l.items)
+          (sym c.follow.ensures.ends) c.requires.paid;
+      followed = subst (λ (l : List ℕ). IsFollowed (role_frame k) (role_lists k) k.player (role_plan k more) (totals_in k more c.follow.new.totals.points.items)
+          (moves_in k l)) c.deref.ensures.value c.follow.ensures.followed;
     }

@@ -11,13 +11,15 @@ gap_is : (c : After-above-gain) → c.above-gap.result ≡ unsigned_abs (c.args.
 gap_is c =
     let fits_value : FitsSigned w128 c.args.value = search rules in
     let fits_worth : FitsSigned w128 c.args.worth = search rules in
-    c.above-gap.ensures.value ∙ ap (λ x. unsigned_abs (x -ℤ to_z w128 (of_z w128 c.args.worth))) (to_z-of_z w128 c.args.value fits_value) ∙ ap (λ x. unsigned_abs (c.args.value -ℤ x)) (to_z-of_z w128 c.args.worth fits_worth)
+    c.above-gap.ensures.value ∙ ap (λ x. unsigned_abs (x -ℤ to_z w128 (of_z w128 c.args.worth))) (to_z-of_z w128 c.args.value fits_value)
+    ∙ ap (λ x. unsigned_abs (c.args.value -ℤ x)) (to_z-of_z w128 c.args.worth fits_worth)
 
 gain_is : (c : After-above-gain) → c.above-gain.result ≡ unsigned_abs (c.args.rise -ℤ c.args.slope)
 gain_is c =
     let fits_slope : FitsSigned w128 c.args.slope = search rules in
     let fits_rise : FitsSigned w128 c.args.rise = search rules in
-    c.above-gain.ensures.value ∙ ap (λ x. unsigned_abs (x -ℤ to_z w128 (of_z w128 c.args.slope))) (to_z-of_z w128 c.args.rise fits_rise) ∙ ap (λ x. unsigned_abs (c.args.rise -ℤ x)) (to_z-of_z w128 c.args.slope fits_slope)
+    c.above-gain.ensures.value ∙ ap (λ x. unsigned_abs (x -ℤ to_z w128 (of_z w128 c.args.slope))) (to_z-of_z w128 c.args.rise fits_rise)
+    ∙ ap (λ x. unsigned_abs (c.args.rise -ℤ x)) (to_z-of_z w128 c.args.slope fits_slope)
 
 fast : (c : After-above-gain) → lt_z (to_z w128 (of_z w128 c.args.slope)) (to_z w128 (of_z w128 c.args.rise)) ≡ true → c.args.slope <ℤ c.args.rise
 fast c t =
@@ -28,12 +30,15 @@ fast c t =
 pub returns-then-slope-rise-clause-behind : goal.returns-then-slope-rise-clause-behind
 returns-then-slope-rise-clause-behind c =
     let at = (goal.at.returns-then-slope-rise-clause-behind c).After-above-gain in
-    behind_by c.args.value c.args.worth c.args.slope c.args.rise c.above-gap.result c.above-gain.result (gap_is at) (gain_is at) c.requires.ahead.most (fast at c.if-slope-rise.true) c.args.before c.within_gap.result c.within_gap.ensures.within
+    behind_by c.args.value c.args.worth c.args.slope c.args.rise c.above-gap.result c.above-gain.result (gap_is at) (gain_is at) c.requires.ahead.most
+    (fast at c.if-slope-rise.true) c.args.before c.within_gap.result c.within_gap.ensures.within
 
 pub returns-then-slope-rise-clause-greatest : goal.returns-then-slope-rise-clause-greatest
 returns-then-slope-rise-clause-greatest c =
     let at = (goal.at.returns-then-slope-rise-clause-greatest c).After-above-gain in
-    λ l h. c.within_gap.ensures.greatest l (within_by c.args.value c.args.worth c.args.slope c.args.rise c.above-gap.result c.above-gain.result (gap_is at) (gain_is at) c.requires.ahead.most (fast at c.if-slope-rise.true) c.args.before (c.within_gap.result + 1) h)
+    λ l h. c.within_gap.ensures.greatest l (within_by c.args.value c.args.worth c.args.slope c.args.rise c.above-gap.result c.above-gain.result (gap_is at)
+    (gain_is at) c.requires.ahead.most (fast at c.if-slope-rise.true) c.args.before (c.within_gap.result + 1) h)
 
 pub returns-else-slope-rise-clause-behind : goal.returns-else-slope-rise-clause-behind
-returns-else-slope-rise-clause-behind c = slower_stays c.args.before c.args.value c.args.worth c.args.slope c.args.rise c.args.times (omega (arith, ints, c.if-slope-rise.false)) c.requires.ahead
+returns-else-slope-rise-clause-behind c = slower_stays c.args.before c.args.value c.args.worth c.args.slope c.args.rise c.args.times
+    (omega (arith, ints, c.if-slope-rise.false)) c.requires.ahead

@@ -36,10 +36,12 @@ loop-class-preserved c =
           record {
             behind = subst (All (n + 1)) (sym w.left-is)
                 (behind_more choice start picks values worths slopes rises n left less e.most i.behind
-                (λ ne. behind_same before _ (get_or values (start + n) (pos 0)) _ (get_or worths n (pos 0)) _ (get_or slopes (start + n) (pos 0)) _ (get_or rises n (pos 0)) less value_is worth_is slope_is rise_is e.behind));
+                (λ ne. behind_same before _ (get_or values (start + n) (pos 0)) _ (get_or worths n (pos 0)) _ (get_or slopes (start + n) (pos 0)) _
+                (get_or rises n (pos 0)) less value_is worth_is slope_is rise_is e.behind));
             greatest = subst (λ t. t < c.args.times → All (n + 1) (t + 1) → ⊥) (sym w.left-is)
                 (greatest_with (All n) (BehindAt choice start picks values worths slopes rises n) (All (n + 1)) c.args.times left less e.most i.greatest
-                (λ l h. e.greatest l (behind_same before (get_or values (start + n) (pos 0)) _ (get_or worths n (pos 0)) _ (get_or slopes (start + n) (pos 0)) _ (get_or rises n (pos 0)) _ (less + 1) (sym value_is) (sym worth_is) (sym slope_is) (sym rise_is) (h w.if-pick-choice.true)))
+                (λ l h. e.greatest l (behind_same before (get_or values (start + n) (pos 0)) _ (get_or worths n (pos 0)) _ (get_or slopes (start + n) (pos 0)) _
+                (get_or rises n (pos 0)) _ (less + 1) (sym value_is) (sym worth_is) (sym slope_is) (sym rise_is) (h w.if-pick-choice.true)))
                 (behind_fewer choice start picks values worths slopes rises n) (λ t h. h n (omega arith)));
             most = omega (arith, w.left-is, e.most, i.most);
             some = λ s. let k = e.some (i.some s) in omega (arith, w.left-is, k);

@@ -31,7 +31,8 @@ loop-point-preserved c =
           record {
             scratch = subst (HasScratch (role_frame k.role) (role_lists k.role)) (sym w.scratch-is) i.scratch;
             lasts = λ p lp own. subst (LastsAt k p) (sym w.left-is) (⊎_elim
-                (λ (same : p ≡ q). absurd (w.if-chooser-course.false (c.chooser.ensures ∙ subst (λ p. player_at (role_frame k.role) p ≡ k.role.player) same own)))
+                (λ (same : p ≡ q). absurd (w.if-chooser-course.false
+                (c.chooser.ensures ∙ subst (λ p. player_at (role_frame k.role) p ≡ k.role.player) same own)))
                 (λ (other : p ≡ q → ⊥). i.lasts p (omega arith) own)
                 (cases_eq p q));
             greatest = subst (λ t. t < c.args.times → All (q + 1) (t + 1) → ⊥) (sym w.left-is) (λ l h. i.greatest l (λ p lp. h p (omega (arith, lp))));
@@ -42,10 +43,12 @@ loop-point-preserved c =
 
 pub returns-clause-lasts : goal.returns-clause-lasts
 returns-clause-lasts c =
-    let all : c.loop-point.point ≡ point_count (role_frame c.args.course.now.role) = omega (arith, c.loop-point-test.false, c.loop-point.auto.point-end, c.point_total-point-end.ensures) in
+    let all : c.loop-point.point ≡ point_count (role_frame c.args.course.now.role) =
+    omega (arith, c.loop-point-test.false, c.loop-point.auto.point-end, c.point_total-point-end.ensures) in
     λ q e lq own le. c.loop-point.invariant.lasts q (omega (arith, lq, all)) own e le
 
 pub returns-clause-greatest : goal.returns-clause-greatest
 returns-clause-greatest c =
-    let all : c.loop-point.point ≡ point_count (role_frame c.args.course.now.role) = omega (arith, c.loop-point-test.false, c.loop-point.auto.point-end, c.point_total-point-end.ensures) in
+    let all : c.loop-point.point ≡ point_count (role_frame c.args.course.now.role) =
+    omega (arith, c.loop-point-test.false, c.loop-point.auto.point-end, c.point_total-point-end.ensures) in
     λ l h. c.loop-point.invariant.greatest l (λ q lq own e le. h q e (omega (arith, lq, all)) own le)

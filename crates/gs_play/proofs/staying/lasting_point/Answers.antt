@@ -19,8 +19,10 @@ loop-choice-preserved c =
     record {
       scratch = record {
         numbers = i.scratch.numbers;
-        worths = wide_through was.worths _ c.lasting_move-left.new.worths c.deref_mut.ensures.value c.lasting_move-left.auto.worths (role_frame k.role) (role_lists k.role) i.scratch.worths;
-        best = wide_through was.best _ c.lasting_move-left.new.rises c.deref_mut-in-loop-choice.ensures.value c.lasting_move-left.auto.rises (role_frame k.role) (role_lists k.role) i.scratch.best;
+        worths = wide_through was.worths _ c.lasting_move-left.new.worths c.deref_mut.ensures.value c.lasting_move-left.auto.worths (role_frame k.role)
+            (role_lists k.role) i.scratch.worths;
+        best = wide_through was.best _ c.lasting_move-left.new.rises c.deref_mut-in-loop-choice.ensures.value c.lasting_move-left.auto.rises (role_frame k.role)
+            (role_lists k.role) i.scratch.best;
         moves = i.scratch.moves;
       };
       behind = λ m lm. ⊎_elim
@@ -37,12 +39,14 @@ pub returns-clause-lasts : goal.returns-clause-lasts
 returns-clause-lasts c =
     let k = c.args.course.now in
     let q = c.args.point in
-    let all : c.loop-choice.choice ≡ move_count (role_frame k.role) q = omega (arith, c.loop-choice-test.false, c.loop-choice.auto.choice-end, c.move_total-choice-end.ensures.value) in
+    let all : c.loop-choice.choice ≡ move_count (role_frame k.role) q =
+    omega (arith, c.loop-choice-test.false, c.loop-choice.auto.choice-end, c.move_total-choice-end.ensures.value) in
     lasts_by k q c.requires.point c.requires.own c.loop-choice.left (λ m lm. c.loop-choice.invariant.behind m (omega (arith, lm, all)))
 
 pub returns-clause-greatest : goal.returns-clause-greatest
 returns-clause-greatest c =
     let k = c.args.course.now in
     let q = c.args.point in
-    let all : c.loop-choice.choice ≡ move_count (role_frame k.role) q = omega (arith, c.loop-choice-test.false, c.loop-choice.auto.choice-end, c.move_total-choice-end.ensures.value) in
+    let all : c.loop-choice.choice ≡ move_count (role_frame k.role) q =
+    omega (arith, c.loop-choice-test.false, c.loop-choice.auto.choice-end, c.move_total-choice-end.ensures.value) in
     λ l h. c.loop-choice.invariant.greatest l (λ m lm. stays_by k q c.requires.point c.requires.own (c.loop-choice.left + 1) h m (omega (arith, lm, all)))

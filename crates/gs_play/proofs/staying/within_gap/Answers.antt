@@ -10,12 +10,15 @@ most_is c = elim c.if-before.branch [
 
 pub returns-then-most-from-clause-within : goal.returns-then-most-from-clause-within
 returns-then-most-from-clause-within c =
-    within_quotient c.args.before c.args.gap c.args.gain c.if-before.most c.if-before.most c.requires.gain (most_is (goal.at.returns-then-most-from-clause-within c).After-from) (omega arith)
+    within_quotient c.args.before c.args.gap c.args.gain c.if-before.most c.if-before.most c.requires.gain
+    (most_is (goal.at.returns-then-most-from-clause-within c).After-from) (omega arith)
 
 pub returns-then-most-from-clause-greatest : goal.returns-then-most-from-clause-greatest
 returns-then-most-from-clause-greatest c =
-    λ l. past_quotient c.args.before c.args.gap c.args.gain c.if-before.most c.requires.gain (most_is (goal.at.returns-then-most-from-clause-greatest c).After-from)
+    λ l. past_quotient c.args.before c.args.gap c.args.gain c.if-before.most c.requires.gain
+    (most_is (goal.at.returns-then-most-from-clause-greatest c).After-from)
 
 pub returns-else-most-from-clause-within : goal.returns-else-most-from-clause-within
 returns-else-most-from-clause-within c =
-    within_quotient c.args.before c.args.gap c.args.gain c.if-before.most c.args.times c.requires.gain (most_is (goal.at.returns-else-most-from-clause-within c).After-from) (omega (arith, c.if-most-from.false, c.from.ensures))
+    within_quotient c.args.before c.args.gap c.args.gain c.if-before.most c.args.times c.requires.gain
+    (most_is (goal.at.returns-else-most-from-clause-within c).After-from) (omega (arith, c.if-most-from.false, c.from.ensures))

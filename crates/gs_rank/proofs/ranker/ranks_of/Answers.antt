@@ -10,8 +10,10 @@ loop-kind-preserved c =
     let suits = length c.args.deck.now.suits in
     let i = c.loop-kind.kind in
     let is : c.rank.result ≡ rank_of suits i = c.rank.ensures.rank ∙ ap (rank_of suits) c.new.ensures in
-    let low = rank_small suits (kinds c.args.deck.now) i c.rank.result c.kinds-kinds.ensures.deck.few (omega (arith, c.kinds-kinds.ensures.number, c.loop-kind-test.true)) is in
+    let low = rank_small suits (kinds c.args.deck.now) i c.rank.result c.kinds-kinds.ensures.deck.few
+    (omega (arith, c.kinds-kinds.ensures.number, c.loop-kind-test.true)) is in
     record {
       ranks = kept_more (rank_of suits) i c.rank.result c.loop-kind.ranks.items c.push.new.self.items c.in_ok-push.ensures.items c.loop-kind.invariant.ranks is;
-      low = subst (λ (xs : List ℕ). All (λ rank. rank < 64) xs) (sym c.in_ok-push.ensures.items) (All-push (λ rank. rank < 64) c.loop-kind.ranks.items c.rank.result c.loop-kind.invariant.low low);
+      low = subst (λ (xs : List ℕ). All (λ rank. rank < 64) xs) (sym c.in_ok-push.ensures.items)
+          (All-push (λ rank. rank < 64) c.loop-kind.ranks.items c.rank.result c.loop-kind.invariant.low low);
     }

@@ -8,18 +8,23 @@ use Rattle.gs_raw.proofs.lifting.push_point.Goals.{After-class_of-class, After-l
 use Rattle.gs_raw.proofs.lifting.push_point.Goals as goal
 
 -- the point that is read, and the room of the class's weights
-here : (c : After-len-moves) → PointFacts c.args.game.now c.args.classes.now c.args.point c.index-points-point.result.round (length c.index-points-point.result.moves.items)
-here c = point_facts c.args.game.now c.args.classes.now c.points.result.now c.args.point c.index-points-point.result c.requires.parents c.points.ensures c.requires.in_range c.index-points-point.is
+here : (c : After-len-moves) → PointFacts c.args.game.now c.args.classes.now c.args.point c.index-points-point.result.round
+    (length c.index-points-point.result.moves.items)
+here c = point_facts c.args.game.now c.args.classes.now c.points.result.now c.args.point c.index-points-point.result c.requires.parents c.points.ensures
+    c.requires.in_range c.index-points-point.is
 
-room : (c : After-class_of-class) → RoomFacts (frame_in c.args.game.now) c.args.classes.now.lists c.args.plan.now.player c.args.point c.class_of-class.result c.args.first c.len-moves.result
+room : (c : After-class_of-class) → RoomFacts (frame_in c.args.game.now) c.args.classes.now.lists c.args.plan.now.player c.args.point c.class_of-class.result
+    c.args.first c.len-moves.result
 room c =
     let p = here (goal.at.After-class_of-class c).After-len-moves in
-    room_facts (frame_in c.args.game.now) c.args.classes.now.lists c.args.plan.now.player c.args.point c.class_of-class.result c.args.first c.len-moves.result c.requires.own (omega (arith, c.len-moves.ensures, p.many)) c.requires.first
+    room_facts (frame_in c.args.game.now) c.args.classes.now.lists c.args.plan.now.player c.args.point c.class_of-class.result c.args.first c.len-moves.result
+    c.requires.own (omega (arith, c.len-moves.ensures, p.many)) c.requires.first
     c.requires.in_range (subst (λ round. IsClass c.args.classes.now.lists round c.class_of-class.result) p.here c.class_of-class.ensures.class)
 
 -- the weights are few, and they are all there
 inside : (c : After-class_of-class)
-    → (c.args.first + (c.class_of-class.result - 1) * c.len-moves.result + c.len-moves.result < 2 ^ 60) × (c.args.first + (c.class_of-class.result - 1) * c.len-moves.result + c.len-moves.result ≤ length c.args.plan.now.weights.items)
+    → (c.args.first + (c.class_of-class.result - 1) * c.len-moves.result + c.len-moves.result < 2 ^ 60)
+    × (c.args.first + (c.class_of-class.result - 1) * c.len-moves.result + c.len-moves.result ≤ length c.args.plan.now.weights.items)
 inside c =
     let few = slots_few c.args.game.now c.args.classes.now c.requires.parents c.args.plan.now.player (point_count (frame_in c.args.game.now)) (omega arith) in
     (omega (arith, (room c).room, few), omega (arith, (room c).room, c.requires.plan.plan.long))
@@ -51,13 +56,18 @@ loop-signal-preserved c =
     let p = here at.After-len-moves in
     let r = room at.After-class_of-class in
     let start = c.args.first + (c.class_of-class.result - 1) * c.len-moves.result in
-    let class : c.class_of-class.result ≡ class_of lists (round_of f (at_point c.args.point)) s = c.class_of-class.ensures.value ∙ ap (λ round. class_of lists round s) p.here in
-    spread_more f lists c.args.point s start c.len-moves.result c.args.plan.now.weights.items c.args.weights.now.items c.loop-signal.weights.items c.push_some.new.weights.items
+    let class : c.class_of-class.result ≡ class_of lists (round_of f (at_point c.args.point)) s = c.class_of-class.ensures.value
+    ∙ ap (λ round. class_of lists round s) p.here in
+    spread_more f lists c.args.point s start c.len-moves.result c.args.plan.now.weights.items c.args.weights.now.items c.loop-signal.weights.items
+    c.push_some.new.weights.items
     (omega (arith, c.len-moves.ensures, p.many)) (r.slot ∙ ap (λ k. slot_of f lists c.args.point k 0) class) (inside at.After-class_of-class).1
-    (c.in_ok-push_some.ensures ∙ ap (λ (ws : List ℕ). c.loop-signal.weights.items ++ take c.len-moves.result (drop start ws)) c.deref.ensures.value) c.loop-signal.invariant
+    (c.in_ok-push_some.ensures ∙ ap (λ (ws : List ℕ). c.loop-signal.weights.items ++ take c.len-moves.result (drop start ws)) c.deref.ensures.value)
+    c.loop-signal.invariant
 
 pub returns : goal.returns
 returns c =
     let f = frame_in c.args.game.now in
-    let e : c.loop-signal.signal ≡ signal_count f (round_of f (at_point c.args.point)) = omega (arith, (here (goal.at.returns c).After-len-moves).wide, c.signals-signal-end.ensures) in
-    subst (λ n. IsSpreadBehind f c.args.classes.now.lists c.args.point n c.args.plan.now.weights.items c.args.weights.now.items c.loop-signal.weights.items) e c.loop-signal.invariant
+    let e : c.loop-signal.signal ≡ signal_count f (round_of f (at_point c.args.point)) =
+    omega (arith, (here (goal.at.returns c).After-len-moves).wide, c.signals-signal-end.ensures) in
+    subst (λ n. IsSpreadBehind f c.args.classes.now.lists c.args.point n c.args.plan.now.weights.items c.args.weights.now.items c.loop-signal.weights.items) e
+    c.loop-signal.invariant

@@ -15,7 +15,8 @@ loop-signal-preserved c =
     let side = c.args.side.now in
     let f = abstract_frame side.form.now in
     let lists = lists_of side.form.now in
-    hands_more f lists side.one.now lists side.two.now c.loop-signal.signal c.loop-signal.hands.items _ c.worth.result c.loop-signal.invariant c.in_ok-push.ensures.items c.worth.ensures
+    hands_more f lists side.one.now lists side.two.now c.loop-signal.signal c.loop-signal.hands.items _ c.worth.result c.loop-signal.invariant
+    c.in_ok-push.ensures.items c.worth.ensures
 
 pub returns : goal.returns
 returns c =

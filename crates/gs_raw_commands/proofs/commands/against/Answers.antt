@@ -12,4 +12,5 @@ returns-in_err-two c =
 
 pub returns : goal.returns
 returns c =
-    held Second (SaysDuel (stored_view c.args.one.now)) c.args.bytes.now (stored_view c.in_ok-two.two) c.dueled.result c.in_ok-two.ensures.stored c.dueled.ensures
+    held Second (SaysDuel (stored_view c.args.one.now)) c.args.bytes.now (stored_view c.in_ok-two.two) c.dueled.result c.in_ok-two.ensures.stored
+    c.dueled.ensures

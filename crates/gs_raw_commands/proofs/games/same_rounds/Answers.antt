@@ -11,7 +11,8 @@ returns-then-not-branch c =
     let y = c.index-two-place.result in
     let no : c.in_ok-same_round.field-0 ≡ false = search rules in (
       λ h. absurd (true≢false (sym h)),
-      λ e. subst IsTrue no (c.in_ok-same_round.ensures.1 (one_same round_rules xs ys c.loop-place.place x y (omega arith) (omega arith) c.index-one-place.is c.index-two-place.is e)),
+      λ e. subst IsTrue no (c.in_ok-same_round.ensures.1 (one_same round_rules xs ys c.loop-place.place x y (omega arith)
+          (omega arith) c.index-one-place.is c.index-two-place.is e)),
     )
 
 pub loop-place-preserved : goal.loop-place-preserved
@@ -21,7 +22,8 @@ loop-place-preserved c =
     let x = c.index-one-place.result in
     let y = c.index-two-place.result in
     let yes' : IsTrue c.in_ok-same_round.field-0 = search rules in
-    same_more round_rules xs ys c.loop-place.place x y (omega arith) (omega arith) c.index-one-place.is c.index-two-place.is (c.in_ok-same_round.ensures.0 yes') c.loop-place.invariant
+    same_more round_rules xs ys c.loop-place.place x y (omega arith) (omega arith) c.index-one-place.is c.index-two-place.is
+    (c.in_ok-same_round.ensures.0 yes') c.loop-place.invariant
 
 pub returns : goal.returns
 returns c =

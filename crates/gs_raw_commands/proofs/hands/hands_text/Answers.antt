@@ -13,6 +13,8 @@ loop-signal-preserved c =
     let n = c.loop-signal.signal in
     let v = c.index-values-signal.result in
     let l : n < length xs = omega (arith, c.requires, c.loop-signal-test.true, c.count-signal-end.ensures.value) in
-    let at : parts_of v ≡ get_or (map parts_of xs) n (pos 0, pos 1) = ap parts_of c.index-values-signal.is ∙ sym (get_or-map parts_of xs n v (pos 0, pos 1) l) in
-    lines_more (λ s. hand_line d g s (get_or (map parts_of xs) s (pos 0, pos 1))) (string_bytes c.loop-signal.text) (string_bytes c.push_hand.new.text) n c.loop-signal.invariant
+    let at : parts_of v ≡ get_or (map parts_of xs) n (pos 0, pos 1) = ap parts_of c.index-values-signal.is
+    ∙ sym (get_or-map parts_of xs n v (pos 0, pos 1) l) in
+    lines_more (λ s. hand_line d g s (get_or (map parts_of xs) s (pos 0, pos 1))) (string_bytes c.loop-signal.text)
+    (string_bytes c.push_hand.new.text) n c.loop-signal.invariant
     (c.in_ok-push_hand.ensures ∙ ap (λ (p : FractionParts). string_bytes c.loop-signal.text ++ hand_line d g n p) at)

@@ -55,7 +55,9 @@ returns-in-Ok c =
         (
           hands,
           are_hands f x y c.in-Ok.duel.hands.items first second c.in-Ok.ensures.hands,
-          ap Prints (c.in_ok-push_hands-in-Ok.ensures ∙ ap (λ (l : List Fraction). c.in_ok-text-in-Ok.text.items ++ hands_text (deck_of s) (rules_of s) (map parts_of l)) c.deref.ensures.value ∙ ap (λ t. t ++ hands_text (deck_of s) (rules_of s) hands) c.in_ok-text-in-Ok.ensures ∙ ap (λ t. verdict_text (numbers_of v) ++ t) lines),
+          ap Prints (c.in_ok-push_hands-in-Ok.ensures ∙ ap (λ (l : List Fraction). c.in_ok-text-in-Ok.text.items
+              ++ hands_text (deck_of s) (rules_of s) (map parts_of l)) c.deref.ensures.value
+              ∙ ap (λ t. t ++ hands_text (deck_of s) (rules_of s) hands) c.in_ok-text-in-Ok.ensures ∙ ap (λ t. verdict_text (numbers_of v) ++ t) lines),
         ),
       ),
     )
@@ -65,5 +67,6 @@ returns-in-Err-TooManyCells c =
     let x = stored_view c.args.one.now in
     let y = stored_view c.args.two.now in
     let f = frame_in c.in_ok-signals.signals.game.now in
-    rw c.in-Err-TooManyCells.field-0-is (too_many f x y (λ n reply. (hands : List FractionParts) × AreHandValues x y hands × (reply ≡ Prints (verdict_text n ++ hands_text x.game.deck (rules_in x.game) hands))) c.in-Err-TooManyCells.count c.in-Err-TooManyCells.field-0
+    rw c.in-Err-TooManyCells.field-0-is (too_many f x y (λ n reply. (hands : List FractionParts) × AreHandValues x y hands
+    × (reply ≡ Prints (verdict_text n ++ hands_text x.game.deck (rules_in x.game) hands))) c.in-Err-TooManyCells.count c.in-Err-TooManyCells.field-0
     (ap frame_in c.in_ok-signals.ensures) c.in-Err-TooManyCells.field-0-is c.in-Err-TooManyCells.ensures.refused)

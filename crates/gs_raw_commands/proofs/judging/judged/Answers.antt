@@ -8,16 +8,20 @@ use Rattle.gs_raw_commands.proofs.{Judged.{are_judged}, TooMany.{too_many}}
 use Rattle.gs_raw_commands.proofs.judging.judged.Goals as goal
 
 pub raw_verdict-requires-clause-first : goal.raw_verdict-requires-clause-first
-raw_verdict-requires-clause-first c = subst (λ (g : ValidGame). c.args.stored.now.classes.parents ≡ (frame_in g).parents) (sym c.in_ok-signals.ensures) c.args.stored.now.parents
+raw_verdict-requires-clause-first c = subst (λ (g : ValidGame). c.args.stored.now.classes.parents ≡ (frame_in g).parents)
+    (sym c.in_ok-signals.ensures) c.args.stored.now.parents
 
 pub raw_verdict-requires-clause-second : goal.raw_verdict-requires-clause-second
-raw_verdict-requires-clause-second c = subst (λ (g : ValidGame). c.args.stored.now.classes.parents ≡ (frame_in g).parents) (sym c.in_ok-signals.ensures) c.args.stored.now.parents
+raw_verdict-requires-clause-second c = subst (λ (g : ValidGame). c.args.stored.now.classes.parents ≡ (frame_in g).parents)
+    (sym c.in_ok-signals.ensures) c.args.stored.now.parents
 
 pub raw_verdict-requires-clause-one : goal.raw_verdict-requires-clause-one
-raw_verdict-requires-clause-one c = subst (λ (g : ValidGame). IsPlanOf (frame_in g) c.args.stored.now.classes.lists 1 c.args.stored.now.one) (sym c.in_ok-signals.ensures) c.args.stored.now.first
+raw_verdict-requires-clause-one c = subst (λ (g : ValidGame). IsPlanOf (frame_in g) c.args.stored.now.classes.lists 1 c.args.stored.now.one)
+    (sym c.in_ok-signals.ensures) c.args.stored.now.first
 
 pub raw_verdict-requires-clause-two : goal.raw_verdict-requires-clause-two
-raw_verdict-requires-clause-two c = subst (λ (g : ValidGame). IsPlanOf (frame_in g) c.args.stored.now.classes.lists 2 c.args.stored.now.two) (sym c.in_ok-signals.ensures) c.args.stored.now.second
+raw_verdict-requires-clause-two c = subst (λ (g : ValidGame). IsPlanOf (frame_in g) c.args.stored.now.classes.lists 2 c.args.stored.now.two)
+    (sym c.in_ok-signals.ensures) c.args.stored.now.second
 
 pub returns-in-Ok : goal.returns-in-Ok
 returns-in-Ok c =
@@ -33,4 +37,5 @@ pub returns-in-Err-TooManyCells : goal.returns-in-Err-TooManyCells
 returns-in-Err-TooManyCells c =
     let s = stored_view c.args.stored.now in
     let f = frame_in c.in_ok-signals.signals.game.now in
-    rw c.in-Err-TooManyCells.field-0-is (too_many f s s (λ n reply. reply ≡ Prints (verdict_text n)) c.in-Err-TooManyCells.count c.in-Err-TooManyCells.field-0 (ap frame_in c.in_ok-signals.ensures) c.in-Err-TooManyCells.field-0-is c.in-Err-TooManyCells.ensures.refused)
+    rw c.in-Err-TooManyCells.field-0-is (too_many f s s (λ n reply. reply ≡ Prints (verdict_text n)) c.in-Err-TooManyCells.count c.in-Err-TooManyCells.field-0
+    (ap frame_in c.in_ok-signals.ensures) c.in-Err-TooManyCells.field-0-is c.in-Err-TooManyCells.ensures.refused)

@@ -9,4 +9,5 @@ if_ok P Q (Err e) f h = h
 
 pub returns : goal.returns
 returns c =
-    if_ok _ _ c.given.result (λ o h. does_in_memory (map string_bytes c.args.words.now) c.args.input.now o.status o.printed.items o.told.items h) c.given.ensures
+    if_ok _ _ c.given.result (λ o h. does_in_memory (map string_bytes c.args.words.now) c.args.input.now o.status o.printed.items o.told.items h)
+    c.given.ensures

@@ -13,25 +13,36 @@ top : (c : Start) → c.args.at.now.round ≤ round_count (rules_of c.args.at.no
 top c = omega (arith, c.args.at.now.before_last)
 
 -- the sums of the first member
-amounts : (c : After-deref) → AreAmounts (frame_in c.args.at.now.stopped.now.game.now) c.args.at.now.seen.now.lists Deals c.args.at.now.round c.first-first.result c.deref.result.now
+amounts : (c : After-deref) → AreAmounts (frame_in c.args.at.now.stopped.now.game.now) c.args.at.now.seen.now.lists Deals c.args.at.now.round
+    c.first-first.result c.deref.result.now
 amounts c =
-    subst (AreAmounts (frame_in c.args.at.now.stopped.now.game.now) c.args.at.now.seen.now.lists Deals c.args.at.now.round c.first-first.result) (sym c.deref.ensures.value)
+    subst (AreAmounts (frame_in c.args.at.now.stopped.now.game.now) c.args.at.now.seen.now.lists Deals c.args.at.now.round c.first-first.result)
+    (sym c.deref.ensures.value)
     (c.in_ok-sums.ensures c.args.at.now.seen.now.lists c.requires.keys)
 
 pub side_sums-requires-clause-side : goal.side_sums-requires-clause-side
-side_sums-requires-clause-side c = in_stopped c.args.at.now.signals.now.game.now c.args.at.now.stopped.now.game.now c.args.at.now.round c.args.at.now.some (omega (arith, c.args.at.now.before_last)) c.args.at.now.stops
+side_sums-requires-clause-side c = in_stopped c.args.at.now.signals.now.game.now c.args.at.now.stopped.now.game.now c.args.at.now.round c.args.at.now.some
+    (omega (arith, c.args.at.now.before_last)) c.args.at.now.stops
 
 pub side_sums-requires-clause-all : goal.side_sums-requires-clause-all
 side_sums-requires-clause-all c =
     let f = frame_in c.args.at.now.stopped.now.game.now in
-    ap length c.requires.keys ∙ length-map (signals_in f (last_round f)) (λ x. class_of c.args.at.now.seen.now.lists c.args.at.now.round (at_round f c.args.at.now.round x))
+    ap length c.requires.keys ∙ length-map (signals_in f (last_round f))
+    (λ x. class_of c.args.at.now.seen.now.lists c.args.at.now.round (at_round f c.args.at.now.round x))
     ∙ length-range_with_len 0 (signal_count f (last_round f)) ∙ count_last (rules_of c.args.at.now.stopped.now) (playable c.args.at.now.stopped.now)
 
 pub side_sums-requires-clause-in_range : goal.side_sums-requires-clause-in_range
 side_sums-requires-clause-in_range c =
     let few = top (goal.at.side_sums-requires-clause-in_range c).Start in
-    let same = ap length (same_signals c.args.at.now.signals.now.game.now c.args.at.now.stopped.now.game.now c.args.at.now.round c.args.at.now.some few c.args.at.now.stops) in
-    omega (arith, c.first-first.ensures.within, list_long (rules_of c.args.at.now.signals.now) c.args.at.now.classes.now c.args.at.now.parents c.args.at.now.round c.args.at.now.some few, same)
+    let same = ap length (same_signals c.args.at.now.signals.now.game.now c.args.at.now.stopped.now.game.now c.args.at.now.round c.args.at.now.some few
+    c.args.at.now.stops) in
+    omega (
+      arith,
+      c.first-first.ensures.within,
+      list_long (rules_of c.args.at.now.signals.now) c.args.at.now.classes.now c.args.at.now.parents
+          c.args.at.now.round c.args.at.now.some few,
+      same,
+    )
 
 pub overflow_mul-from : goal.overflow_mul-from
 overflow_mul-from c =
@@ -48,8 +59,10 @@ pub row_of-requires : goal.row_of-requires
 row_of-requires c =
     let at = goal.at.row_of-requires c in
     let sums = c.deref.result.now in
-    let fits = row_fits c.args.at.now.signals.now.game.now c.args.at.now.stopped.now.game.now c.args.at.now.round c.args.at.now.some (top at.Start) c.args.at.now.stops c.args.at.now.before_last c.args.at.now.classes.now c.args.at.now.parents
-    c.args.at.now.lossless c.args.at.now.seen.now.lists c.args.at.now.same c.args.class c.first-first.result c.from.result (c.from.ensures ∙ c.size.ensures) sums (amounts at.After-deref) c.first-first.ensures.within
+    let fits = row_fits c.args.at.now.signals.now.game.now c.args.at.now.stopped.now.game.now c.args.at.now.round c.args.at.now.some
+    (top at.Start) c.args.at.now.stops c.args.at.now.before_last c.args.at.now.classes.now c.args.at.now.parents
+    c.args.at.now.lossless c.args.at.now.seen.now.lists c.args.at.now.same c.args.class c.first-first.result c.from.result
+    (c.from.ensures ∙ c.size.ensures) sums (amounts at.After-deref) c.first-first.ensures.within
     c.first-first.ensures.member in
     omega (arith, fits, ap (λ n. (c.from.result * n) * sum_by (λ (p : Part). p.weight) sums) c.requires.ways)
 
@@ -59,8 +72,10 @@ returns c =
     let f = frame_in c.args.at.now.signals.now.game.now in
     let lists = c.args.at.now.classes.now.lists in
     let sums = c.deref.result.now in
-    let row = row_is c.args.at.now.signals.now.game.now c.args.at.now.stopped.now.game.now c.args.at.now.round c.args.at.now.some (top at.Start) c.args.at.now.stops c.args.at.now.before_last c.args.at.now.classes.now c.args.at.now.parents
-    c.args.at.now.lossless c.args.at.now.seen.now.lists c.args.at.now.same c.args.class c.first-first.result c.from.result (c.from.ensures ∙ c.size.ensures) sums (amounts at.After-deref) c.first-first.ensures.within
+    let row = row_is c.args.at.now.signals.now.game.now c.args.at.now.stopped.now.game.now c.args.at.now.round c.args.at.now.some
+    (top at.Start) c.args.at.now.stops c.args.at.now.before_last c.args.at.now.classes.now c.args.at.now.parents
+    c.args.at.now.lossless c.args.at.now.seen.now.lists c.args.at.now.same c.args.class c.first-first.result c.from.result
+    (c.from.ensures ∙ c.size.ensures) sums (amounts at.After-deref) c.first-first.ensures.within
     c.first-first.ensures.member in
     let here = subst (λ n. IsRow f lists c.args.at.now.round c.args.class (gathered (c.from.result * n) sums)) (sym c.requires.ways) row in
     if_ok c.row_of.result (λ v. v.items ≡ gathered (c.from.result * c.args.ways) sums) (λ v. IsRow f lists c.args.at.now.round c.args.class v.items)

@@ -7,7 +7,12 @@ use Rattle.gs_model.proofs.Walked.{last_round_of}
 
 pub stopped_classes-requires-clause-top : goal.stopped_classes-requires-clause-top
 stopped_classes-requires-clause-top c =
-    omega (arith, c.requires.before_last, last_round_of (rules_of c.args.signals.now), (over (frame_in c.args.signals.now.game.now) c.args.classes.now c.requires.parents).rounds)
+    omega (
+      arith,
+      c.requires.before_last,
+      last_round_of (rules_of c.args.signals.now),
+      (over (frame_in c.args.signals.now.game.now) c.args.classes.now c.requires.parents).rounds,
+    )
 
 pub rows_in-requires-clause-top : goal.rows_in-requires-clause-top
 rows_in-requires-clause-top c = omega (arith, c.requires.before_last, last_round_of (rules_of c.args.signals.now))

@@ -9,6 +9,8 @@ loop-pair-preserved c =
     let i = c.loop-pair.pair-index in
     let d : Pair = record { two = 0; weight = 0; signed = pos 0 } in
     let before = c.args.parts.now.items in
-    let more : map up (take (i + 1) row) ≡ map up (take i row) ++ up (get_or row i d) ∷ [] = ap (map up) (take_more row i d c.loop-pair-test.true) ∙ map_push up (take i row) (get_or row i d) in
-    c.in_ok-push.ensures.items ∙ ap (λ xs. xs ++ c.part_above.result ∷ []) c.loop-pair.invariant ∙ ap (λ p. before ++ map up (take i row) ++ p ∷ []) c.part_above.ensures
+    let more : map up (take (i + 1) row) ≡ map up (take i row) ++ up (get_or row i d) ∷ [] = ap (map up) (take_more row i d c.loop-pair-test.true)
+    ∙ map_push up (take i row) (get_or row i d) in
+    c.in_ok-push.ensures.items ∙ ap (λ xs. xs ++ c.part_above.result ∷ []) c.loop-pair.invariant
+    ∙ ap (λ p. before ++ map up (take i row) ++ p ∷ []) c.part_above.ensures
     ∙ append_assoc before (map up (take i row)) (up (get_or row i d) ∷ []) ∙ ap (λ ys. before ++ ys) (sym more)

@@ -10,14 +10,17 @@ use Rattle.gs_seq.proofs.earlier.row_above.Goals as goal
 
 -- what holds of the classes
 parents : (c : After-classes-classes) → c.args.lossless.now.classes.now.parents ≡ (frame_in c.args.lossless.now.signals.now.game.now).parents
-parents c = subst (λ (x : Filter). x.parents ≡ (frame_in c.args.lossless.now.signals.now.game.now).parents) c.classes-classes.ensures.held c.classes-classes.ensures.parents
+parents c = subst (λ (x : Filter). x.parents ≡ (frame_in c.args.lossless.now.signals.now.game.now).parents) c.classes-classes.ensures.held
+    c.classes-classes.ensures.parents
 
 -- the parts are those of the rows of the classes below
 parts_are : (c : In_ok-parts)
     → c.in_ok-parts.parts.items
-    ≡ flat_map (λ k. map (part_up c.args.lossless.now.classes.now c.args.round) (row_at c.args.rows.now k)) (below_class c.args.lossless.now.classes.now c.args.round c.args.class (class_count c.args.lossless.now.classes.now.lists (c.args.round + 1)))
+    ≡ flat_map (λ k. map (part_up c.args.lossless.now.classes.now c.args.round) (row_at c.args.rows.now k))
+    (below_class c.args.lossless.now.classes.now c.args.round c.args.class (class_count c.args.lossless.now.classes.now.lists (c.args.round + 1)))
 parts_are c =
-    c.in_ok-parts.ensures ∙ ap (λ (x : Filter). flat_map (λ k. map (part_up x c.args.round) (row_at c.args.rows.now k)) c.args.below.now) c.classes-classes.ensures.held
+    c.in_ok-parts.ensures ∙ ap (λ (x : Filter). flat_map (λ k. map (part_up x c.args.round) (row_at c.args.rows.now k)) c.args.below.now)
+    c.classes-classes.ensures.held
     ∙ ap (flat_map (λ k. map (part_up c.args.lossless.now.classes.now c.args.round) (row_at c.args.rows.now k))) c.requires.below
 
 pub parts_above-requires-clause-below : goal.parts_above-requires-clause-below
@@ -30,14 +33,21 @@ parts_above-requires-clause-below c =
     let ks = below_class f round c.args.class (class_count f.lists (round + 1)) in
     let each : All (HasPairsBelow f round rows) ks = λ i d l. (
     let h = classes_in g f (parents at) round c.requires.some c.requires.before_last rows c.requires.rows c.args.class i d l in
-    record { some = h.0; top = omega (arith, h.1, c.requires.rows.long); classes = pairs_in g f (parents at) round c.requires.some c.requires.before_last rows c.requires.rows (get_or ks i d) h }) in
-    subst (λ (x : Filter). All (HasPairsBelow x round rows) c.args.below.now) (sym c.classes-classes.ensures.held) (subst (All (HasPairsBelow f round rows)) (sym c.requires.below) each)
+    record {
+      some = h.0;
+      top = omega (arith, h.1, c.requires.rows.long);
+      classes = pairs_in g f (parents at) round c.requires.some c.requires.before_last rows
+          c.requires.rows (get_or ks i d) h;
+    }) in
+    subst (λ (x : Filter). All (HasPairsBelow x round rows) c.args.below.now) (sym c.classes-classes.ensures.held)
+    (subst (All (HasPairsBelow f round rows)) (sym c.requires.below) each)
 
 pub row_of-requires : goal.row_of-requires
 row_of-requires c =
     let at = goal.at.row_of-requires c in
     let sorted = c.sort_unstable.new.self.items in
-    let few = parts_fit c.args.lossless.now.signals.now.game.now c.args.lossless.now.classes.now (parents at.After-classes-classes) c.args.round c.requires.some c.requires.before_last c.args.rows.now
+    let few = parts_fit c.args.lossless.now.signals.now.game.now c.args.lossless.now.classes.now (parents at.After-classes-classes) c.args.round c.requires.some
+    c.requires.before_last c.args.rows.now
     c.requires.rows c.args.class c.in_ok-parts.parts.items sorted (parts_are at.In_ok-parts) c.sort_unstable.ensures.permutation in
     omega (arith, few, ap (sum_by (λ (p : Part). p.weight)) c.deref.ensures.value)
 
@@ -47,7 +57,8 @@ returns c =
     let g = c.args.lossless.now.signals.now.game.now in
     let f = c.args.lossless.now.classes.now in
     let sorted = c.sort_unstable.new.self.items in
-    let row = row_from g f (parents at.After-classes-classes) c.args.round c.requires.some c.requires.before_last c.args.rows.now c.requires.rows c.args.class c.in_ok-parts.parts.items sorted
+    let row = row_from g f (parents at.After-classes-classes) c.args.round c.requires.some c.requires.before_last c.args.rows.now c.requires.rows c.args.class
+    c.in_ok-parts.parts.items sorted
     (parts_are at.In_ok-parts) c.sort_unstable.ensures.permutation c.sort_unstable.ensures.sorted in
     if_ok c.row_of.result (λ v. v.items ≡ gathered 1 c.deref.result.now) (λ v. IsRow (frame_in g) f.lists c.args.round c.args.class v.items)
     (λ v e. subst (IsRow (frame_in g) f.lists c.args.round c.args.class) (sym (e ∙ ap (gathered 1) c.deref.ensures.value)) row) c.row_of.ensures

@@ -22,6 +22,7 @@ loop-before-preserved c =
     let above = c.loop-before.above in
     record {
       long = omega (arith, c.in_ok-push.ensures.len, c.loop-before.invariant.long);
-      row = pushed_to (λ j (v : Vec Pair Global). IsRow (frame_in s.signals.now.game.now) s.classes.now.lists c.args.round (j + 1) v.items) above.items _ c.in_ok-row.row c.loop-before.before c.in_ok-push.ensures.items
+      row = pushed_to (λ j (v : Vec Pair Global). IsRow (frame_in s.signals.now.game.now) s.classes.now.lists c.args.round (j + 1) v.items) above.items _
+          c.in_ok-row.row c.loop-before.before c.in_ok-push.ensures.items
           (sym above.ok.0 ∙ c.loop-before.invariant.long) c.loop-before.invariant.row c.in_ok-row.ensures;
     }

@@ -9,8 +9,10 @@ use Rattle.gs_seq.proofs.first.first_weights.Goals.{After-index-points-point, th
 use Rattle.gs_seq.proofs.first.first_weights.Goals as goal
 
 -- who chooses at the point
-whose : (c : After-index-points-point) → (get_or c.points.result.now c.loop-point.point c.index-points-point.result).player ≡ player_at (frame_in c.args.game.now) c.loop-point.point
-whose c = chooser c.args.game.now c.points.result.now c.loop-point.point _ c.index-points-point.result c.points.ensures c.point_total-point-end.ensures c.loop-point-test.true c.index-points-point.is
+whose : (c : After-index-points-point) → (get_or c.points.result.now c.loop-point.point c.index-points-point.result).player ≡ player_at
+    (frame_in c.args.game.now) c.loop-point.point
+whose c = chooser c.args.game.now c.points.result.now c.loop-point.point _ c.index-points-point.result c.points.ensures c.point_total-point-end.ensures
+    c.loop-point-test.true c.index-points-point.is
 
 pub put_first-requires-clause-own : goal.put_first-requires-clause-own
 put_first-requires-clause-own c = sym (whose (goal.at.put_first-requires-clause-own c).After-index-points-point) ∙ c.if-points-point.true
@@ -31,13 +33,17 @@ loop-point-preserved c =
           let own = sym chooser ∙ w.if-points-point.true in
           let xs = c.loop-point.weights.items in
           let ys = w.put_first.new.weights in
-          let wide : c.loop-point.weights.len ≡ length ys = omega (arith, c.loop-point.weights.ok.0, w.put_first.auto.weights, ap length w.deref_mut.ensures.value) in
-          let same : c.if-points-point.weights.items ≡ ys = ap (λ (v : Vec ℕ Global). v.items) w.weights-is ∙ with_items_is c.loop-point.weights ys (sym wide) in
-          let agree : AgreeBefore (slots_before f lists p q) xs ys = subst (λ zs. AgreeBefore (slots_before f lists p q) zs ys) w.deref_mut.ensures.value w.put_first.ensures.kept in
+          let wide : c.loop-point.weights.len ≡ length ys = omega
+          (arith, c.loop-point.weights.ok.0, w.put_first.auto.weights, ap length w.deref_mut.ensures.value) in
+          let same : c.if-points-point.weights.items ≡ ys = ap (λ (v : Vec ℕ Global). v.items) w.weights-is
+          ∙ with_items_is c.loop-point.weights ys (sym wide) in
+          let agree : AgreeBefore (slots_before f lists p q) xs ys = subst (λ zs. AgreeBefore (slots_before f lists p q) zs ys) w.deref_mut.ensures.value
+          w.put_first.ensures.kept in
           record {
             long = ap (λ (v : Vec ℕ Global). vec_len v) w.weights-is ∙ i.long;
             firsts = subst (λ zs. AreFirstBefore f lists p zs (q + 1)) (sym same)
-                (firsts_more f (in_range (game_of g.game) (playable g)) lists (over f c.args.classes.now c.requires.parents) p (walked_at g p q within own) (some_move g) q xs ys within i.firsts agree
+                (firsts_more f (in_range (game_of g.game) (playable g)) lists (over f c.args.classes.now c.requires.parents) p (walked_at g p q within own)
+                (some_move g) q xs ys within i.firsts agree
                 w.put_first.ensures.here);
             clear = subst (λ zs. IsClear (slots_before f lists p (q + 1)) zs) (sym same) w.put_first.ensures.clear;
           }

@@ -14,17 +14,22 @@ reads : (c : After-len-moves) → Reads (frame_in c.args.game.now) c.args.point 
 reads c = point_reads c.args.game.now c.points.result.now c.args.point c.index-points-point.result c.points.ensures c.requires.in_range c.index-points-point.is
 
 -- where the weights of the class stand
-row : (c : In-loop-before) → RowAt (frame_in c.args.game.now) c.args.classes.now.lists c.args.player c.args.point c.loop-before.before (get_or c.args.offsets.now c.args.point 0) c.len-moves.result
+row : (c : In-loop-before) → RowAt (frame_in c.args.game.now) c.args.classes.now.lists c.args.player c.args.point c.loop-before.before
+    (get_or c.args.offsets.now c.args.point 0) c.len-moves.result
 row c =
     let f = frame_in c.args.game.now in
     let q = c.args.point in
     let lists = c.args.classes.now.lists in
-    let first : get_or c.args.offsets.now q 0 ≡ slots_before f lists c.args.player q = c.requires.offsets.first q c.requires.in_range ∙ ap (λ p. slots_before f lists p q) c.requires.own in
-    row_at c.args.game.now c.args.classes.now c.requires.parents c.args.player q c.loop-before.before (get_or c.args.offsets.now q 0) c.len-moves.result c.classes-before-end.result
-    c.index-points-point.result (reads (goal.at.In-loop-before c).After-len-moves) c.requires.own c.requires.in_range first (omega (arith, c.len-moves.ensures)) c.classes-before-end.ensures c.loop-before-test.true
+    let first : get_or c.args.offsets.now q 0 ≡ slots_before f lists c.args.player q = c.requires.offsets.first q c.requires.in_range
+    ∙ ap (λ p. slots_before f lists p q) c.requires.own in
+    row_at c.args.game.now c.args.classes.now c.requires.parents c.args.player q c.loop-before.before (get_or c.args.offsets.now q 0) c.len-moves.result
+    c.classes-before-end.result
+    c.index-points-point.result (reads (goal.at.In-loop-before c).After-len-moves) c.requires.own c.requires.in_range first
+    (omega (arith, c.len-moves.ensures)) c.classes-before-end.ensures c.loop-before-test.true
 
 -- the slot of the first move is one of the weights, which are few
-inside : (c : In-loop-before) → (get_or c.args.offsets.now c.args.point 0 + c.loop-before.before * c.len-moves.result < length c.loop-before.weights) × (length c.loop-before.weights < 2 ^ 60)
+inside : (c : In-loop-before) → (get_or c.args.offsets.now c.args.point 0 + c.loop-before.before * c.len-moves.result < length c.loop-before.weights)
+    × (length c.loop-before.weights < 2 ^ 60)
 inside c =
     let r = row c in
     let some = some_move c.args.game.now c.args.point c.requires.in_range in
@@ -32,11 +37,13 @@ inside c =
 
 pub classes-before-end-requires-clause-some : goal.classes-before-end-requires-clause-some
 classes-before-end-requires-clause-some c =
-    (round_in c.args.game.now c.args.point c.index-points-point.result (reads (goal.at.classes-before-end-requires-clause-some c).After-len-moves) c.requires.in_range).0
+    (round_in c.args.game.now c.args.point c.index-points-point.result (reads (goal.at.classes-before-end-requires-clause-some c).After-len-moves)
+    c.requires.in_range).0
 
 pub classes-before-end-requires-clause-top : goal.classes-before-end-requires-clause-top
 classes-before-end-requires-clause-top c =
-    let r = round_in c.args.game.now c.args.point c.index-points-point.result (reads (goal.at.classes-before-end-requires-clause-top c).After-len-moves) c.requires.in_range in
+    let r = round_in c.args.game.now c.args.point c.index-points-point.result (reads (goal.at.classes-before-end-requires-clause-top c).After-len-moves)
+    c.requires.in_range in
     omega (arith, r.1, (over (frame_in c.args.game.now) c.args.classes.now c.requires.parents).rounds)
 
 pub coming-came-requires-clause-source : goal.coming-came-requires-clause-source
@@ -47,7 +54,13 @@ coming-came-requires-clause-class c = (omega arith, omega (arith, (row (goal.at.
 
 pub coming-came-requires-clause-long : goal.coming-came-requires-clause-long
 coming-came-requires-clause-long c =
-    omega (arith, c.loop-before.auto.weights, c.requires.long, slots_own_before (frame_in c.args.game.now) c.args.classes.now.lists c.args.player c.args.point c.requires.own c.requires.in_range)
+    omega (
+      arith,
+      c.loop-before.auto.weights,
+      c.requires.long,
+      slots_own_before (frame_in c.args.game.now) c.args.classes.now.lists c.args.player c.args.point
+          c.requires.own c.requires.in_range,
+    )
 
 pub overflow_mul-weights : goal.overflow_mul-weights
 overflow_mul-weights c = omega (arith, inside (goal.at.overflow_mul-weights c).In-loop-before)
@@ -81,19 +94,23 @@ loop-before-preserved c =
     let slot_is : slot ≡ slots_before f lists p q + (before + 1 - 1) * move_count f q = omega (arith, place, ap (λ k. k * move_count f q) one) in
     let ranged = in_range (game_of g.game) (playable g) in
     let classes = over f c.args.classes.now c.requires.parents in
-    let is : came ≡ number_before f (lift f lists (plan_of f lists 1 weights)) (last_step f p (at_point q)) (round_of f (at_point q)) (first_member lists (round_of f (at_point q)) (before + 1)) =
+    let is : came ≡ number_before f (lift f lists (plan_of f lists 1 weights)) (last_step f p (at_point q)) (round_of f (at_point q))
+    (first_member lists (round_of f (at_point q)) (before + 1)) =
     c.coming-came.ensures
-    ∙ ap (λ p. number_before f (lift f lists (plan_of f lists 1 weights)) (last_step f p (at_point q)) (round_of f (at_point q)) (first_member lists (round_of f (at_point q)) (before + 1))) c.requires.own in
+    ∙ ap (λ p. number_before f (lift f lists (plan_of f lists 1 weights)) (last_step f p (at_point q)) (round_of f (at_point q))
+    (first_member lists (round_of f (at_point q)) (before + 1))) c.requires.own in
     let clear : IsClear slot weights = λ k lk. c.loop-before.invariant.clear k (omega (arith, place, lk)) in
     let same : AgreeBefore slot weights (set weights slot came) = λ j lj. get_or-set_other weights slot j came 0 (omega (arith, lj)) in
     record {
       kept = λ k lk. get_or-set_other weights slot k came 0 (omega (arith, lk, place)) ∙ c.loop-before.invariant.kept k lk;
       here = λ k lo hi. ⊎_elim
           (λ e. subst (λ n. IsFirstAt f lists p (set weights slot came) q n) (sym e)
-          (first_put f ranged lists classes p w q c.requires.in_range c.requires.own (before + 1) (omega arith, omega (arith, r.below)) weights slot came slot_is (inside at).0 is clear))
+          (first_put f ranged lists classes p w q c.requires.in_range c.requires.own (before + 1) (omega arith, omega (arith, r.below)) weights slot came
+          slot_is (inside at).0 is clear))
           (λ other.
           let less : k ≤ before = omega arith in
-          first_kept f ranged lists classes p w q c.requires.in_range c.requires.own k (lo, omega (arith, r.below, less)) slot weights (set weights slot came) some
+          first_kept f ranged lists classes p w q c.requires.in_range c.requires.own k (lo, omega (arith, r.below, less)) slot weights
+          (set weights slot came) some
           (omega (arith, place, mul-le-mul_right (move_count f q) less)) same (c.loop-before.invariant.here k lo less))
           (cases_eq k (before + 1));
       clear = λ k lk.
@@ -104,7 +121,14 @@ loop-before-preserved c =
 pub returns-clause-here : goal.returns-clause-here
 returns-clause-here c =
     let r = reads (goal.at.returns-clause-here c).After-len-moves in
-    λ k h. c.loop-before.invariant.here k h.0 (omega (arith, h.1, c.loop-before-test.false, c.classes-before-end.ensures, ap (class_count c.args.classes.now.lists) r.round))
+    λ k h. c.loop-before.invariant.here k h.0 (omega (
+      arith,
+      h.1,
+      c.loop-before-test.false,
+      c.classes-before-end.ensures,
+      ap (class_count
+          c.args.classes.now.lists) r.round,
+    ))
 
 pub returns-clause-clear : goal.returns-clause-clear
 returns-clause-clear c =
@@ -112,5 +136,6 @@ returns-clause-clear c =
     let q = c.args.point in
     let lists = c.args.classes.now.lists in
     let r = reads (goal.at.returns-clause-clear c).After-len-moves in
-    let all : c.loop-before.before ≡ class_count lists (round_of f (at_point q)) = omega (arith, c.loop-before-test.false, c.loop-before.auto.before-end, c.classes-before-end.ensures, ap (class_count lists) r.round) in
+    let all : c.loop-before.before ≡ class_count lists (round_of f (at_point q)) =
+    omega (arith, c.loop-before-test.false, c.loop-before.auto.before-end, c.classes-before-end.ensures, ap (class_count lists) r.round) in
     λ k l. c.loop-before.invariant.clear k (omega (arith, l, slots_own f lists c.args.player q c.requires.own, ap (λ n. n * move_count f q) all))

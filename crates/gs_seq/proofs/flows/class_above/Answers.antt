@@ -17,6 +17,7 @@ loop-at-preserved c =
       from = omega arith;
       until = omega arith;
       class_in = c.parent_class-above.ensures.class;
-      above_is = above_more c.args.classes.now c.args.round c.args.class (omega arith) c.requires.top c.requires.class c.loop-at.at c.loop-at.above c.parent_class-above.result
+      above_is = above_more c.args.classes.now c.args.round c.args.class (omega arith) c.requires.top c.requires.class c.loop-at.at c.loop-at.above
+          c.parent_class-above.result
           (omega arith) i.until i.above_is c.parent_class-above.ensures.value;
     }

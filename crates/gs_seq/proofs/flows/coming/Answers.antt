@@ -8,20 +8,27 @@ use Rattle.gs_seq.proofs.flows.coming.Goals.{After-index-points-point, In-Some}
 use Rattle.gs_seq.proofs.flows.coming.Goals as goal
 
 -- the step before the point
-source : (c : In-Some) → MatchSource (frame_in c.args.game.now) c.args.classes.now.lists (player_at (frame_in c.args.game.now) c.args.point) (at_point c.args.point) (Some c.in-Some.step)
-source c = subst (MatchSource (frame_in c.args.game.now) c.args.classes.now.lists (player_at (frame_in c.args.game.now) c.args.point) (at_point c.args.point)) c.in-Some.is c.requires.source
+source : (c : In-Some) → MatchSource (frame_in c.args.game.now) c.args.classes.now.lists (player_at (frame_in c.args.game.now) c.args.point)
+    (at_point c.args.point) (Some c.in-Some.step)
+source c = subst (MatchSource (frame_in c.args.game.now) c.args.classes.now.lists (player_at (frame_in c.args.game.now) c.args.point) (at_point c.args.point))
+    c.in-Some.is c.requires.source
 
 facts : (c : In-Some)
-    → SourceFacts (frame_in c.args.game.now) c.args.classes.now.lists (at_point c.args.point) (slots_before (frame_in c.args.game.now) c.args.classes.now.lists (player_at (frame_in c.args.game.now) c.args.point) c.args.point) (source c).0 c.in-Some.step
+    → SourceFacts (frame_in c.args.game.now) c.args.classes.now.lists (at_point c.args.point)
+    (slots_before (frame_in c.args.game.now) c.args.classes.now.lists (player_at (frame_in c.args.game.now) c.args.point) c.args.point)
+    (source c).0 c.in-Some.step
 facts c =
     let f = frame_in c.args.game.now in
     let q = c.args.point in
     let h = source c in
-    source_facts f c.args.classes.now.lists (player_at f q) q h.0 c.in-Some.step (walked_at c.args.game.now (player_at f q) q c.requires.in_range refl) c.requires.in_range h.1
+    source_facts f c.args.classes.now.lists (player_at f q) q h.0 c.in-Some.step (walked_at c.args.game.now (player_at f q) q c.requires.in_range refl)
+    c.requires.in_range h.1
 
 -- the round that is read is the point's
-here : (c : After-index-points-point) → (get_or c.points.result.now c.args.point c.index-points-point.result).round ≡ round_of (frame_in c.args.game.now) (at_point c.args.point)
-here c = (place_reads c.args.game.now c.points.result.now c.args.point c.index-points-point.result c.points.ensures c.requires.in_range c.index-points-point.is).round
+here : (c : After-index-points-point) → (get_or c.points.result.now c.args.point c.index-points-point.result).round ≡ round_of (frame_in c.args.game.now)
+    (at_point c.args.point)
+here c = (place_reads c.args.game.now c.points.result.now c.args.point c.index-points-point.result c.points.ensures c.requires.in_range
+    c.index-points-point.is).round
 
 pub weight_above-requires-clause-some : goal.weight_above-requires-clause-some
 weight_above-requires-clause-some c = (facts (goal.at.weight_above-requires-clause-some c).In-Some).some
@@ -35,13 +42,20 @@ weight_above-requires-clause-top c =
     let f = frame_in c.args.game.now in
     let q = c.args.point in
     let w = walked_at c.args.game.now (player_at f q) q c.requires.in_range refl in
-    omega (arith, here (goal.at.weight_above-requires-clause-top c).After-index-points-point, w.point_in q c.requires.in_range, (over f c.args.classes.now c.requires.parents).rounds)
+    omega (
+      arith,
+      here (goal.at.weight_above-requires-clause-top c).After-index-points-point,
+      w.point_in q c.requires.in_range,
+      (over f c.args.classes.now c.requires.parents).rounds,
+    )
 
 pub weight_above-requires-clause-class : goal.weight_above-requires-clause-class
-weight_above-requires-clause-class c = subst (λ k. IsClass c.args.classes.now.lists k c.args.class) (sym (here (goal.at.weight_above-requires-clause-class c).After-index-points-point)) c.requires.class
+weight_above-requires-clause-class c = subst (λ k. IsClass c.args.classes.now.lists k c.args.class)
+    (sym (here (goal.at.weight_above-requires-clause-class c).After-index-points-point)) c.requires.class
 
 pub weight_above-requires-clause-within : goal.weight_above-requires-clause-within
-weight_above-requires-clause-within c = λ above k. omega (arith, (facts (goal.at.weight_above-requires-clause-within c).In-Some).within above k, c.requires.long)
+weight_above-requires-clause-within c = λ above k. omega
+    (arith, (facts (goal.at.weight_above-requires-clause-within c).In-Some).within above k, c.requires.long)
 
 pub weight_above-requires-clause-few : goal.weight_above-requires-clause-few
 weight_above-requires-clause-few c =
@@ -56,5 +70,6 @@ returns-in-Some c =
     let f = frame_in c.args.game.now in
     let q = c.args.point in
     let h = source at.In-Some in
-    number_above f (in_range (game_of c.args.game.now.game) (playable c.args.game.now)) c.args.classes.now (sym c.requires.parents) (player_at f q) (at_point q) _ h.0 c.in-Some.step h.1 (facts at.In-Some) c.args.total _ c.args.class
+    number_above f (in_range (game_of c.args.game.now.game) (playable c.args.game.now)) c.args.classes.now (sym c.requires.parents) (player_at f q)
+    (at_point q) _ h.0 c.in-Some.step h.1 (facts at.In-Some) c.args.total _ c.args.class
     (here at.After-index-points-point) c.args.weights.now c.weight_above.result c.weight_above.ensures

@@ -5,15 +5,18 @@ use Rattle.gs_seq.proofs.{Leaks.{flows_more, slots_none}, Points.{chooser}, Slot
 use Rattle.gs_seq.proofs.flows.first_leak.Goals as goal
 
 -- who chooses at the point
-whose : (c : After-index-points-point) → (get_or c.points.result.now c.loop-point.point c.index-points-point.result).player ≡ player_at (frame_in c.args.game.now) c.loop-point.point
-whose c = chooser c.args.game.now c.points.result.now c.loop-point.point _ c.index-points-point.result c.points.ensures c.point_total-point-end.ensures c.loop-point-test.true c.index-points-point.is
+whose : (c : After-index-points-point) → (get_or c.points.result.now c.loop-point.point c.index-points-point.result).player ≡ player_at
+    (frame_in c.args.game.now) c.loop-point.point
+whose c = chooser c.args.game.now c.points.result.now c.loop-point.point _ c.index-points-point.result c.points.ensures c.point_total-point-end.ensures
+    c.loop-point-test.true c.index-points-point.is
 
 pub loop-point-preserved-then-points-point : goal.loop-point-preserved-then-points-point
 loop-point-preserved-then-points-point c =
     let f = frame_in c.args.game.now in
     let lists = c.args.classes.now.lists in
     let q = c.loop-point.point in
-    let other = λ (e : player_at f q ≡ c.args.player). c.if-points-point.true (whose (goal.at.loop-point-preserved-then-points-point c).After-index-points-point ∙ e) in
+    let other = λ (e : player_at f q ≡ c.args.player). c.if-points-point.true
+    (whose (goal.at.loop-point-preserved-then-points-point c).After-index-points-point ∙ e) in
     record {
       first_is = c.loop-point.invariant.first_is ∙ sym (slots_none f lists c.args.player q other);
       flows = flows_more f lists c.args.player (plan_of f lists c.args.total c.args.weights.now) q c.loop-point.invariant.flows (λ own k h. absurd (other own));
@@ -26,7 +29,15 @@ pub returns-in-Some : goal.returns-in-Some
 returns-in-Some c =
     let at = goal.at.returns-in-Some c in
     let h = c.in-Some.ensures in
-    record { point_in = omega (arith, c.loop-point-test.true, c.point_total-point-end.ensures); own = sym (whose at.After-index-points-point) ∙ c.if-points-point.false; class_in = h.0; points = c.loop-point.invariant.flows; classes = h.1; here = h.2 }
+    record {
+      point_in = omega (arith, c.loop-point-test.true, c.point_total-point-end.ensures);
+      own = sym (whose at.After-index-points-point)
+          ∙ c.if-points-point.false;
+      class_in = h.0;
+      points = c.loop-point.invariant.flows;
+      classes = h.1;
+      here = h.2;
+    }
 
 pub overflow_add-first : goal.overflow_add-first
 overflow_add-first c =
@@ -42,5 +53,6 @@ loop-point-preserved c =
     let lists = c.args.classes.now.lists in
     record {
       first_is = omega (arith, c.loop-point.invariant.first_is, c.slots_at-first.ensures, slots_more f lists c.args.player c.loop-point.point);
-      flows = flows_more f lists c.args.player (plan_of f lists c.args.total c.args.weights.now) c.loop-point.point c.loop-point.invariant.flows (λ own. c.in_default.ensures);
+      flows = flows_more f lists c.args.player (plan_of f lists c.args.total c.args.weights.now) c.loop-point.point c.loop-point.invariant.flows
+          (λ own. c.in_default.ensures);
     }

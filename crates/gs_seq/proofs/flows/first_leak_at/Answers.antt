@@ -10,17 +10,22 @@ reads : (c : After-len-moves) → Reads (frame_in c.args.game.now) c.args.point 
 reads c = point_reads c.args.game.now c.points.result.now c.args.point c.index-points-point.result c.points.ensures c.requires.in_range c.index-points-point.is
 
 -- where the weights of the class stand
-row : (c : In-loop-before) → RowAt (frame_in c.args.game.now) c.args.classes.now.lists c.args.player c.args.point c.loop-before.before c.args.first c.len-moves.result
+row : (c : In-loop-before) → RowAt (frame_in c.args.game.now) c.args.classes.now.lists c.args.player c.args.point c.loop-before.before c.args.first
+    c.len-moves.result
 row c =
-    row_at c.args.game.now c.args.classes.now c.requires.parents c.args.player c.args.point c.loop-before.before c.args.first c.len-moves.result c.classes-before-end.result
-    c.index-points-point.result (reads (goal.at.In-loop-before c).After-len-moves) c.requires.own c.requires.in_range c.requires.first (omega (arith, c.len-moves.ensures)) c.classes-before-end.ensures c.loop-before-test.true
+    row_at c.args.game.now c.args.classes.now c.requires.parents c.args.player c.args.point c.loop-before.before c.args.first c.len-moves.result
+    c.classes-before-end.result
+    c.index-points-point.result (reads (goal.at.In-loop-before c).After-len-moves) c.requires.own c.requires.in_range c.requires.first
+    (omega (arith, c.len-moves.ensures)) c.classes-before-end.ensures c.loop-before-test.true
 
 -- the two numbers that are compared are the sum of the moves' weights, and what comes to the class
 record AreSums (c : After-from) : Type 0 where
   pub sum : c.total_from.result
-      ≡ sum_by (λ m. (plan_of (frame_in c.args.game.now) c.args.classes.now.lists c.args.total c.args.weights.now).number c.args.point (c.loop-before.before + 1) m) (choices_at (frame_in c.args.game.now) c.args.point)
+      ≡ sum_by (λ m. (plan_of (frame_in c.args.game.now) c.args.classes.now.lists c.args.total c.args.weights.now).number c.args.point
+      (c.loop-before.before + 1) m) (choices_at (frame_in c.args.game.now) c.args.point)
   pub came : c.from.result
-      ≡ number_before (frame_in c.args.game.now) (lift (frame_in c.args.game.now) c.args.classes.now.lists (plan_of (frame_in c.args.game.now) c.args.classes.now.lists c.args.total c.args.weights.now))
+      ≡ number_before (frame_in c.args.game.now) (lift (frame_in c.args.game.now) c.args.classes.now.lists
+      (plan_of (frame_in c.args.game.now) c.args.classes.now.lists c.args.total c.args.weights.now))
       (last_step (frame_in c.args.game.now) c.args.player (at_point c.args.point)) (round_of (frame_in c.args.game.now) (at_point c.args.point))
       (first_member c.args.classes.now.lists (round_of (frame_in c.args.game.now) (at_point c.args.point)) (c.loop-before.before + 1))
 
@@ -32,19 +37,23 @@ sums c =
     let r = row (goal.at.After-from c).In-loop-before in
     record {
       sum = c.total_from.ensures
-          ∙ class_sum f lists c.args.player q c.loop-before.before c.args.first c.len-moves.result c.args.total c.args.weights.now c.requires.own r.many c.requires.first (omega (arith, r.room, c.requires.long));
+          ∙ class_sum f lists c.args.player q c.loop-before.before c.args.first c.len-moves.result c.args.total c.args.weights.now c.requires.own r.many
+          c.requires.first (omega (arith, r.room, c.requires.long));
       came = c.from.ensures ∙ c.coming-came.ensures
-          ∙ ap (λ p. number_before f (lift f lists (plan_of f lists c.args.total c.args.weights.now)) (last_step f p (at_point q)) (round_of f (at_point q)) (first_member lists (round_of f (at_point q)) (c.loop-before.before + 1)))
+          ∙ ap (λ p. number_before f (lift f lists (plan_of f lists c.args.total c.args.weights.now)) (last_step f p (at_point q)) (round_of f (at_point q))
+          (first_member lists (round_of f (at_point q)) (c.loop-before.before + 1)))
           c.requires.own;
     }
 
 pub classes-before-end-requires-clause-some : goal.classes-before-end-requires-clause-some
 classes-before-end-requires-clause-some c =
-    (round_in c.args.game.now c.args.point c.index-points-point.result (reads (goal.at.classes-before-end-requires-clause-some c).After-len-moves) c.requires.in_range).0
+    (round_in c.args.game.now c.args.point c.index-points-point.result (reads (goal.at.classes-before-end-requires-clause-some c).After-len-moves)
+    c.requires.in_range).0
 
 pub classes-before-end-requires-clause-top : goal.classes-before-end-requires-clause-top
 classes-before-end-requires-clause-top c =
-    let r = round_in c.args.game.now c.args.point c.index-points-point.result (reads (goal.at.classes-before-end-requires-clause-top c).After-len-moves) c.requires.in_range in
+    let r = round_in c.args.game.now c.args.point c.index-points-point.result (reads (goal.at.classes-before-end-requires-clause-top c).After-len-moves)
+    c.requires.in_range in
     omega (arith, r.1, (over (frame_in c.args.game.now) c.args.classes.now c.requires.parents).rounds)
 
 pub overflow_mul-slot : goal.overflow_mul-slot
@@ -62,7 +71,12 @@ pub coming-came-requires-clause-class : goal.coming-came-requires-clause-class
 coming-came-requires-clause-class c = (omega arith, omega (arith, (row (goal.at.coming-came-requires-clause-class c).In-loop-before).below))
 
 pub coming-came-requires-clause-long : goal.coming-came-requires-clause-long
-coming-came-requires-clause-long c = omega (arith, slots_own_before (frame_in c.args.game.now) c.args.classes.now.lists c.args.player c.args.point c.requires.own c.requires.in_range, c.requires.long)
+coming-came-requires-clause-long c = omega (
+  arith,
+  slots_own_before (frame_in c.args.game.now) c.args.classes.now.lists c.args.player c.args.point
+      c.requires.own c.requires.in_range,
+  c.requires.long,
+)
 
 pub total_from-requires : goal.total_from-requires
 total_from-requires c = let r = row (goal.at.total_from-requires c).In-loop-before in omega (arith, r.room, c.requires.long)
@@ -70,8 +84,12 @@ total_from-requires c = let r = row (goal.at.total_from-requires c).In-loop-befo
 pub returns-then-total_from-from : goal.returns-then-total_from-from
 returns-then-total_from-from c =
     let r = row (goal.at.returns-then-total_from-from c).In-loop-before in
-    let s = sums (goal.at.returns-then-total_from-from c).After-from in
-    ((omega arith, omega (arith, r.below)), (λ k some l. c.loop-before.invariant k some (omega (arith, l))), λ e. c.if-total_from-from.true (s.sum ∙ e ∙ sym s.came))
+    let s = sums (goal.at.returns-then-total_from-from c).After-from in (
+      (omega arith, omega (arith, r.below)),
+      (λ k some l. c.loop-before.invariant k some (omega (arith, l))),
+      λ e. c.if-total_from-from.true
+          (s.sum ∙ e ∙ sym s.came),
+    )
 
 pub loop-before-preserved : goal.loop-before-preserved
 loop-before-preserved c =
@@ -79,11 +97,19 @@ loop-before-preserved c =
     let lists = c.args.classes.now.lists in
     let s = sums (goal.at.loop-before-preserved c).After-from in
     λ k some l. ⊎_elim
-    (λ here. subst (FlowsAt f lists c.args.player (plan_of f lists c.args.total c.args.weights.now) c.args.point) (sym here) (sym s.sum ∙ c.if-total_from-from.false ∙ s.came))
+    (λ here. subst (FlowsAt f lists c.args.player (plan_of f lists c.args.total c.args.weights.now) c.args.point) (sym here)
+    (sym s.sum ∙ c.if-total_from-from.false ∙ s.came))
     (λ other. c.loop-before.invariant k some (omega (arith, l, other)))
     (cases_eq k (c.loop-before.before + 1))
 
 pub returns : goal.returns
 returns c =
     let r = reads (goal.at.returns c).After-len-moves in
-    λ k h. c.loop-before.invariant k h.0 (omega (arith, h.1, c.loop-before-test.false, c.classes-before-end.ensures, ap (class_count c.args.classes.now.lists) r.round))
+    λ k h. c.loop-before.invariant k h.0 (omega (
+      arith,
+      h.1,
+      c.loop-before-test.false,
+      c.classes-before-end.ensures,
+      ap (class_count
+          c.args.classes.now.lists) r.round,
+    ))

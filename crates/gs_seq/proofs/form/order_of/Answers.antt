@@ -17,9 +17,20 @@ returns-then-listed-from c =
     let s = c.args.lossless.now.signals.now in
     let g = s.game.now in
     let less : c.args.listed < last_round (frame_in g) =
-    omega (arith, c.if-listed-from.true, c.from.ensures, c.rounds.ensures.value, ap (λ (x : Signals). round_count (rules_of x)) c.signals-signals.ensures.held, last_round_of (game_of g.game)) in
+    omega (
+      arith,
+      c.if-listed-from.true,
+      c.from.ensures,
+      c.rounds.ensures.value,
+      ap (λ (x : Signals). round_count (rules_of x)) c.signals-signals.ensures.held,
+      last_round_of (game_of g.game),
+    ) in
     let mine = c.signals-signals.result.now in
     let Nothing : Type 0 = IsPlain (rules_of mine) → last_count (rules_of mine) ≡ 0 in
     IfOk-weaker c.of.result (λ (o : Option BoardOrder). MatchOption o Nothing (λ (y : BoardOrder). y.signals.now ≡ mine))
     (λ (o : Option BoardOrder). (b : BoardOrder) → o ≡ Some b → HasSumsOf (rules_of b.signals.now) (rules_of s) × (c.args.listed < last_round (frame_in g)))
-    (λ o h b is. (same_sums b.signals.now s (subst (λ (x : Option BoardOrder). MatchOption x Nothing (λ (y : BoardOrder). y.signals.now ≡ mine)) is h ∙ c.signals-signals.ensures.held), less)) c.of.ensures
+    (λ o h b is. (
+      same_sums b.signals.now s (subst (λ (x : Option BoardOrder). MatchOption x Nothing (λ (y : BoardOrder). y.signals.now ≡ mine)) is h
+          ∙ c.signals-signals.ensures.held),
+      less,
+    )) c.of.ensures

@@ -8,11 +8,13 @@ use Rattle.gs_seq.proofs.numbers.end_source.Goals as goal
 
 -- the step, which is made at a point of the game
 before : (c : In_ok-step) → IsStepBefore c.args.game.now c.args.player c.args.end c.in_ok-step.step
-before c = step_before c.args.game.now c.args.player c.args.end _ c.in_ok-step.step c.requires.some c.requires.two c.requires.end c.end_step.ensures c.in_ok-step.was
+before c = step_before c.args.game.now c.args.player c.args.end _ c.in_ok-step.step c.requires.some c.requires.two c.requires.end c.end_step.ensures
+    c.in_ok-step.was
 
 pub returns-in_err-step : goal.returns-in_err-step
 returns-in_err-step c = λ lists a.
-    subst (MatchSource (frame_in c.args.game.now) lists c.args.player (at_end c.args.end)) (sym c.from_residual.ensures) (sym c.end_step.ensures ∙ ap (option_map step_of) c.in_err-step.was)
+    subst (MatchSource (frame_in c.args.game.now) lists c.args.player (at_end c.args.end)) (sym c.from_residual.ensures)
+    (sym c.end_step.ensures ∙ ap (option_map step_of) c.in_err-step.was)
 
 pub source_from-requires-clause-point : goal.source_from-requires-clause-point
 source_from-requires-clause-point c = (before (goal.at.source_from-requires-clause-point c).In_ok-step).inside
@@ -29,7 +31,8 @@ returns c =
       record {
         made = b.made;
         round = e.round;
-        first = e.first ∙ a.first u.point b.inside ∙ ap (λ p. slots_before (frame_in c.args.game.now) lists p u.point) (w.chosen_end z u c.requires.end b.made).0;
+        first = e.first ∙ a.first u.point b.inside ∙ ap (λ p. slots_before (frame_in c.args.game.now) lists p u.point)
+            (w.chosen_end z u c.requires.end b.made).0;
         moves = e.moves;
         choice = e.choice;
       },

@@ -5,8 +5,10 @@ use Rattle.gs_seq.proofs.numbers.end_step.Goals as goal
 
 pub returns-then-player-eq1 : goal.returns-then-player-eq1
 returns-then-player-eq1 c =
-    let r = end_reads c.args.game.now c.ends.result.now c.args.end no_end c.ends.ensures c.requires in sym (end_one (frame_in c.args.game.now) c.args.player c.args.end _ r c.if-player-eq1.true)
+    let r = end_reads c.args.game.now c.ends.result.now c.args.end no_end c.ends.ensures
+    c.requires in sym (end_one (frame_in c.args.game.now) c.args.player c.args.end _ r c.if-player-eq1.true)
 
 pub returns-else-player-eq1 : goal.returns-else-player-eq1
 returns-else-player-eq1 c =
-    let r = end_reads c.args.game.now c.ends.result.now c.args.end no_end c.ends.ensures c.requires in sym (end_two (frame_in c.args.game.now) c.args.player c.args.end _ r c.if-player-eq1.false)
+    let r = end_reads c.args.game.now c.ends.result.now c.args.end no_end c.ends.ensures
+    c.requires in sym (end_two (frame_in c.args.game.now) c.args.player c.args.end _ r c.if-player-eq1.false)

@@ -12,11 +12,13 @@ source : (c : In-Some) → MatchSource (frame_in c.args.game.now) c.args.classes
 source c = subst (MatchSource (frame_in c.args.game.now) c.args.classes.now.lists c.args.plan.now.player (at_end c.args.end)) c.in-Some.is c.requires.source
 
 facts : (c : In-Some)
-    → SourceFacts (frame_in c.args.game.now) c.args.classes.now.lists (at_end c.args.end) (slot_count (frame_in c.args.game.now) c.args.classes.now.lists c.args.plan.now.player) (source c).0 c.in-Some.step
+    → SourceFacts (frame_in c.args.game.now) c.args.classes.now.lists (at_end c.args.end)
+    (slot_count (frame_in c.args.game.now) c.args.classes.now.lists c.args.plan.now.player) (source c).0 c.in-Some.step
 facts c =
     let p = c.args.plan.now.player in
     let h = source c in
-    end_facts (frame_in c.args.game.now) c.args.classes.now.lists p c.args.end h.0 c.in-Some.step (walked c.args.game.now p c.requires.some c.requires.two) c.requires.end h.1
+    end_facts (frame_in c.args.game.now) c.args.classes.now.lists p c.args.end h.0 c.in-Some.step (walked c.args.game.now p c.requires.some c.requires.two)
+    c.requires.end h.1
 
 -- the round that is read is the end's
 here : (c : After-ends) → (get_or c.ends.result.now c.args.end no_end).round ≡ round_of (frame_in c.args.game.now) (at_end c.args.end)
@@ -32,10 +34,16 @@ weight_above-requires-clause-earlier c =
 pub weight_above-requires-clause-top : goal.weight_above-requires-clause-top
 weight_above-requires-clause-top c =
     let w = walked c.args.game.now c.args.plan.now.player c.requires.some c.requires.two in
-    omega (arith, here (goal.at.weight_above-requires-clause-top c).After-ends, w.end_in c.args.end c.requires.end, (over (frame_in c.args.game.now) c.args.classes.now c.requires.parents).rounds)
+    omega (
+      arith,
+      here (goal.at.weight_above-requires-clause-top c).After-ends,
+      w.end_in c.args.end c.requires.end,
+      (over (frame_in c.args.game.now) c.args.classes.now c.requires.parents).rounds,
+    )
 
 pub weight_above-requires-clause-class : goal.weight_above-requires-clause-class
-weight_above-requires-clause-class c = subst (λ k. IsClass c.args.classes.now.lists k c.args.class) (sym (here (goal.at.weight_above-requires-clause-class c).After-ends)) c.requires.class
+weight_above-requires-clause-class c = subst (λ k. IsClass c.args.classes.now.lists k c.args.class)
+    (sym (here (goal.at.weight_above-requires-clause-class c).After-ends)) c.requires.class
 
 pub weight_above-requires-clause-within : goal.weight_above-requires-clause-within
 weight_above-requires-clause-within c =
@@ -53,8 +61,10 @@ returns-in-Some-clause-value c =
     let g = c.args.game.now in
     let plan = c.args.plan.now in
     let h = source at.In-Some in
-    let t = subst (λ ws. IsWeightAbove c.args.classes.now c.in-Some.step (get_or c.ends.result.now c.args.end no_end).round c.args.class ws c.weight_above.result) c.deref.ensures.value c.weight_above.ensures in
-    number_above (frame_in g) (in_range (game_of g.game) (playable g)) c.args.classes.now (sym c.requires.parents) plan.player (at_end c.args.end) _ h.0 c.in-Some.step h.1 (facts at.In-Some) plan.total _ c.args.class
+    let t = subst (λ ws. IsWeightAbove c.args.classes.now c.in-Some.step (get_or c.ends.result.now c.args.end no_end).round c.args.class ws
+    c.weight_above.result) c.deref.ensures.value c.weight_above.ensures in
+    number_above (frame_in g) (in_range (game_of g.game) (playable g)) c.args.classes.now (sym c.requires.parents) plan.player
+    (at_end c.args.end) _ h.0 c.in-Some.step h.1 (facts at.In-Some) plan.total _ c.args.class
     (here at.After-ends) plan.weights.items c.weight_above.result t
 
 pub returns-in-Some-clause-within : goal.returns-in-Some-clause-within
@@ -62,6 +72,7 @@ returns-in-Some-clause-within c =
     let p = c.args.plan.now in
     let f = frame_in c.args.game.now in
     let lists = c.args.classes.now.lists in
-    let n = number_few f lists p.player (class_plan f lists p) c.args.end c.args.class (in_range (game_of c.args.game.now.game) (playable c.args.game.now)) (walked c.args.game.now p.player c.requires.some c.requires.two)
+    let n = number_few f lists p.player (class_plan f lists p) c.args.end c.args.class (in_range (game_of c.args.game.now.game) (playable c.args.game.now))
+    (walked c.args.game.now p.player c.requires.some c.requires.two)
     (over f c.args.classes.now c.requires.parents) c.requires.plan.plan.plan c.requires.end c.requires.class in
     omega (arith, returns-in-Some-clause-value c, n)

@@ -10,10 +10,12 @@ reads : (c : After-index-points-point) → Reads (frame_in c.args.game.now) c.ar
 reads c = point_reads c.args.game.now c.points.result.now c.args.point c.index-points-point.result c.points.ensures c.requires.point c.index-points-point.is
 
 -- the step before it
-step : (c : In_ok-step) → last_step (frame_in c.args.game.now) (player_at (frame_in c.args.game.now) c.args.point) (at_point c.args.point) ≡ Some (step_of c.in_ok-step.step)
+step : (c : In_ok-step) → last_step (frame_in c.args.game.now) (player_at (frame_in c.args.game.now) c.args.point) (at_point c.args.point) ≡ Some
+    (step_of c.in_ok-step.step)
 step c =
     let f = frame_in c.args.game.now in
-    made f (player_at f c.args.point) c.args.point c.index-points-point.result c.in_ok-step.step (reads (goal.at.In_ok-step c).After-index-points-point) refl (ap (λ (p : Point). p.own) c.index-points-point.is ∙ c.in_ok-step.was)
+    made f (player_at f c.args.point) c.args.point c.index-points-point.result c.in_ok-step.step (reads (goal.at.In_ok-step c).After-index-points-point) refl
+    (ap (λ (p : Point). p.own) c.index-points-point.is ∙ c.in_ok-step.was)
 
 pub returns-in_err-step : goal.returns-in_err-step
 returns-in_err-step c =
@@ -21,7 +23,8 @@ returns-in_err-step c =
     let q = c.args.point in
     let r = reads (goal.at.returns-in_err-step c).After-index-points-point in
     let own = ap (λ (p : Point). p.own) c.index-points-point.is ∙ c.in_err-step.was in
-    λ lists a. subst (MatchSource f lists (player_at f q) (at_point q)) (sym c.from_residual.ensures) (none_made f (player_at f q) q c.index-points-point.result r refl own)
+    λ lists a. subst (MatchSource f lists (player_at f q) (at_point q)) (sym c.from_residual.ensures)
+    (none_made f (player_at f q) q c.index-points-point.result r refl own)
 
 pub source_from-requires-clause-point : goal.source_from-requires-clause-point
 source_from-requires-clause-point c =
@@ -42,7 +45,8 @@ returns c =
       record {
         made = is;
         round = e.round;
-        first = e.first ∙ a.first u.point (omega (arith, w.earlier q u c.requires.point is, c.requires.point)) ∙ ap (λ p. slots_before f lists p u.point) (w.chosen q u c.requires.point is).0;
+        first = e.first ∙ a.first u.point (omega (arith, w.earlier q u c.requires.point is, c.requires.point))
+            ∙ ap (λ p. slots_before f lists p u.point) (w.chosen q u c.requires.point is).0;
         moves = e.moves;
         choice = e.choice;
       },

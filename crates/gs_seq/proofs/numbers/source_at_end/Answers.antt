@@ -8,15 +8,18 @@ use Rattle.gs_seq.proofs.numbers.source_at_end.Goals as goal
 
 -- the step, which is made at a point of the game
 before : (c : In_ok-step) → IsStepBefore c.args.game.now c.args.player c.args.end c.in_ok-step.step
-before c = step_before c.args.game.now c.args.player c.args.end _ c.in_ok-step.step c.requires.some c.requires.two c.requires.end c.end_step.ensures c.in_ok-step.was
+before c = step_before c.args.game.now c.args.player c.args.end _ c.in_ok-step.step c.requires.some c.requires.two c.requires.end c.end_step.ensures
+    c.in_ok-step.was
 
 pub returns-in_err-step : goal.returns-in_err-step
 returns-in_err-step c =
-    subst (MatchSource (frame_in c.args.game.now) c.args.classes.now.lists c.args.player (at_end c.args.end)) (sym c.from_residual.ensures) (sym c.end_step.ensures ∙ ap (option_map step_of) c.in_err-step.was)
+    subst (MatchSource (frame_in c.args.game.now) c.args.classes.now.lists c.args.player (at_end c.args.end)) (sym c.from_residual.ensures)
+    (sym c.end_step.ensures ∙ ap (option_map step_of) c.in_err-step.was)
 
 pub bounds-points-step : goal.bounds-points-step
 bounds-points-step c =
-    let l : c.in_ok-step.step.point < length c.points.result.now = omega (arith, (before (goal.at.bounds-points-step c).In_ok-step).inside, length-points c.args.game.now c.points.result.now c.points.ensures) in l
+    let l : c.in_ok-step.step.point < length c.points.result.now =
+    omega (arith, (before (goal.at.bounds-points-step c).In_ok-step).inside, length-points c.args.game.now c.points.result.now c.points.ensures) in l
 
 pub slots_between-requires-clause-in_range : goal.slots_between-requires-clause-in_range
 slots_between-requires-clause-in_range c = omega (arith, (before (goal.at.slots_between-requires-clause-in_range c).In_ok-step).inside)

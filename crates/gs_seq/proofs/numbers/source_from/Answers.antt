@@ -6,9 +6,11 @@ pub bounds-points-step : goal.bounds-points-step
 bounds-points-step c = omega (arith, c.requires.point, length-points c.args.game.now c.points.result.now c.points.ensures)
 
 pub returns-clause-round : goal.returns-clause-round
-returns-clause-round c = (point_reads c.args.game.now c.points.result.now c.args.step.point c.index-points-step.result c.points.ensures c.requires.point c.index-points-step.is).round
+returns-clause-round c = (point_reads c.args.game.now c.points.result.now c.args.step.point c.index-points-step.result c.points.ensures c.requires.point
+    c.index-points-step.is).round
 
 pub returns-clause-moves : goal.returns-clause-moves
 returns-clause-moves c =
-    let r = point_reads c.args.game.now c.points.result.now c.args.step.point c.index-points-step.result c.points.ensures c.requires.point c.index-points-step.is in
+    let r = point_reads c.args.game.now c.points.result.now c.args.step.point c.index-points-step.result c.points.ensures c.requires.point
+    c.index-points-step.is in
     omega (arith, c.len.ensures, r.moves)

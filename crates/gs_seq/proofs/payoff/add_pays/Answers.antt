@@ -20,7 +20,8 @@ scaled-requires c =
     omega (arith, size, product, c.requires.few, ap (λ w. c.args.number * unsigned_abs w) (pays_is (goal.at.scaled-requires c).After-pays))
 
 -- the sum of both
-both_is : (c : After-scaled) → to_z w128 (of_z w128 c.args.sum) +ℤ to_z w128 (of_z w128 c.scaled.result) ≡ c.args.sum +ℤ pos c.args.number *ℤ pair_pays c.args.player (end_of c.args.end) c.args.pair
+both_is : (c : After-scaled) → to_z w128 (of_z w128 c.args.sum) +ℤ to_z w128 (of_z w128 c.scaled.result) ≡ c.args.sum +ℤ pos c.args.number *ℤ pair_pays
+    c.args.player (end_of c.args.end) c.args.pair
 both_is c = ap (λ z. z +ℤ to_z w128 (of_z w128 c.scaled.result)) (read_back c.args.sum _ c.ranges.sum refl) ∙ ap (λ w. c.args.sum +ℤ w) (scaled_is c)
 
 pub plus-requires : goal.plus-requires

@@ -22,7 +22,8 @@ returns-clause-row c =
           let last = w.index-last.result.now in
           let at : last ≡ get_or xs (length xs - 1) last = w.index-last.ensures ∙ ap (λ k. get_or xs (k - 1) last) n in
           join_next xs last p (omega (arith, n, w.if-count-gt0.true)) at w.if-last-pair.false
-      | else-count-gt0 w ↦ let none = empty xs (omega (arith, n, w.if-count-gt0.false)) in subst (λ ys. reverse (ys ++ p ∷ []) ≡ join p (reverse ys)) (sym none) (join_none p)
+      | else-count-gt0 w ↦ let none = empty xs (omega (arith, n, w.if-count-gt0.false)) in subst (λ ys. reverse (ys ++ p ∷ []) ≡ join p (reverse ys)) (sym none)
+          (join_none p)
     ]
   where
     empty : {X : Type 0} (ys : List X) → length ys ≡ 0 → ys ≡ []

@@ -6,7 +6,8 @@ use Rattle.gs_seq.proofs.rows.cells.Goals as goal
 
 pub overflow_sub-from : goal.overflow_sub-from
 overflow_sub-from c =
-    let in_round = end_round_in c.args.game.now c.ends-end-items.result.now c.loop-end.end-index _ c.from.result c.ends-end-items.ensures c.loop-end-test.true c.from.ensures in
+    let in_round = end_round_in c.args.game.now c.ends-end-items.result.now c.loop-end.end-index _ c.from.result c.ends-end-items.ensures c.loop-end-test.true
+    c.from.ensures in
     omega (arith, in_round.0)
 
 pub index-requires : goal.index-requires
@@ -19,16 +20,27 @@ index-requires c =
 pub overflow_add-count : goal.overflow_add-count
 overflow_add-count c =
     let few = end_few c.args.game.now c.args.classes.now c.requires.parents c.in_ok-counts.counts.items c.in_ok-counts.ensures
-    c.ends-end-items.result.now c.ends-end-items.ensures c.loop-end.end-index _ c.from.result c.index.result.now c.loop-end-test.true c.from.ensures c.index.ensures in
-    omega (arith, few, c.loop-end.invariant.few, c.loop-end-test.true, length-ends c.args.game.now c.ends-end-items.result.now c.ends-end-items.ensures, (modest c.args.game.now).ends)
+    c.ends-end-items.result.now c.ends-end-items.ensures c.loop-end.end-index _ c.from.result c.index.result.now c.loop-end-test.true c.from.ensures
+    c.index.ensures in
+    omega (
+      arith,
+      few,
+      c.loop-end.invariant.few,
+      c.loop-end-test.true,
+      length-ends c.args.game.now c.ends-end-items.result.now c.ends-end-items.ensures,
+      (modest
+          c.args.game.now).ends,
+    )
 
 pub loop-end-preserved : goal.loop-end-preserved
 loop-end-preserved c =
     let few = end_few c.args.game.now c.args.classes.now c.requires.parents c.in_ok-counts.counts.items c.in_ok-counts.ensures
-    c.ends-end-items.result.now c.ends-end-items.ensures c.loop-end.end-index _ c.from.result c.index.result.now c.loop-end-test.true c.from.ensures c.index.ensures in
+    c.ends-end-items.result.now c.ends-end-items.ensures c.loop-end.end-index _ c.from.result c.index.result.now c.loop-end-test.true c.from.ensures
+    c.index.ensures in
     record {
       count_is = end_more c.args.game.now c.args.classes.now c.requires.parents c.in_ok-counts.counts.items c.in_ok-counts.ensures
-          c.ends-end-items.result.now c.ends-end-items.ensures c.loop-end.end-index _ c.from.result c.index.result.now c.loop-end.count c.loop-end-test.true c.from.ensures c.index.ensures c.loop-end.invariant.count_is;
+          c.ends-end-items.result.now c.ends-end-items.ensures c.loop-end.end-index _ c.from.result c.index.result.now c.loop-end.count c.loop-end-test.true
+          c.from.ensures c.index.ensures c.loop-end.invariant.count_is;
       few = omega (arith, few, c.loop-end.invariant.few);
     }
 

@@ -18,11 +18,14 @@ returns c =
     let P : List ℕ → Type 0 = AreCounts f cls.lists in
     elim c.if-len-from.branch [
       | then-len-from+in_ok-push w ↦
-          let less : length counts.items < last_round f = omega (arith, w.if-len-from.true, c.len.ensures, counts.ok.0, c.from.ensures, c.rounds-rounds.ensures.value, rounds) in
+          let less : length counts.items < last_round f = omega
+          (arith, w.if-len-from.true, c.len.ensures, counts.ok.0, c.from.ensures, c.rounds-rounds.ensures.value, rounds) in
           subst P (sym (ap (λ (v : Vec ℕ Global). v.items) w.counts-is ∙ w.in_ok-push.ensures.items))
-          (one_more g cls c.requires.parents c.args.rows.now c.requires.rows counts.items c.in_ok-counts.ensures less w.from-then-len-from.result (w.from-then-len-from.ensures ∙ w.deal_count.ensures))
+          (one_more g cls c.requires.parents c.args.rows.now c.requires.rows counts.items c.in_ok-counts.ensures less w.from-then-len-from.result
+          (w.from-then-len-from.ensures ∙ w.deal_count.ensures))
       | else-len-from w ↦
-          let all : last_round f ≤ length counts.items = omega (arith, w.if-len-from.false, c.len.ensures, counts.ok.0, c.from.ensures, c.rounds-rounds.ensures.value, rounds) in
+          let all : last_round f ≤ length counts.items = omega
+          (arith, w.if-len-from.false, c.len.ensures, counts.ok.0, c.from.ensures, c.rounds-rounds.ensures.value, rounds) in
           subst P (sym (ap (λ (v : Vec ℕ Global). v.items) w.counts-is))
           (all_listed g cls c.requires.parents c.args.rows.now c.requires.rows counts.items c.in_ok-counts.ensures all)
     ]

@@ -9,12 +9,14 @@ no_part = record { class = 0; outcome = pos 0; weight = 0 }
 
 pub add-requires-clause-few : goal.add-requires-clause-few
 add-requires-clause-few c =
-    let f = gathered_few c.args.members c.args.sums.now c.loop-part.part-index no_part c.loop-part.row.items c.loop-part-test.true c.loop-part.invariant.row_is c.requires in
+    let f = gathered_few c.args.members c.args.sums.now c.loop-part.part-index no_part c.loop-part.row.items c.loop-part-test.true c.loop-part.invariant.row_is
+    c.requires in
     omega (arith, f, ap (λ (p : Pair). p.weight) c.pair_from.ensures.value)
 
 pub loop-part-preserved : goal.loop-part-preserved
 loop-part-preserved c = record {
-  row_is = gathered_more c.args.members c.args.sums.now c.loop-part.part-index no_part c.loop-part.row.items c.add.new.row.items c.loop-part-test.true c.loop-part.invariant.row_is
+  row_is = gathered_more c.args.members c.args.sums.now c.loop-part.part-index no_part c.loop-part.row.items c.add.new.row.items c.loop-part-test.true
+      c.loop-part.invariant.row_is
       (c.in_ok-add.ensures.row ∙ ap (λ p. join p (reverse c.loop-part.row.items)) c.pair_from.ensures.value);
   moderate = c.in_ok-add.ensures.moderate;
 }

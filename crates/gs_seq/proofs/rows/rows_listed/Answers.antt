@@ -7,7 +7,8 @@ use Rattle.gs_seq.proofs.{Carried.{held_by, read_of}, CellLaws.{AreRowsOf, put_b
 use Rattle.gs_seq.proofs.rows.rows_listed.Goals as goal
 
 pub rows_in-requires-clause-lossless : goal.rows_in-requires-clause-lossless
-rows_in-requires-clause-lossless c = read_of c.args.lossless.now c.signals-signals.result.now c.classes.result.now IsLossless c.signals-signals.ensures.held c.classes.ensures.held c.classes.ensures.lossless
+rows_in-requires-clause-lossless c = read_of c.args.lossless.now c.signals-signals.result.now c.classes.result.now IsLossless c.signals-signals.ensures.held
+    c.classes.ensures.held c.classes.ensures.lossless
 
 pub rows_in-requires-clause-top : goal.rows_in-requires-clause-top
 rows_in-requires-clause-top c = omega (arith, c.rounds-last.ensures.value, last_round_of (rules_of c.signals-signals.result.now))
@@ -18,14 +19,17 @@ loop-round-init c =
     let first = c.in_ok-rows_in.field-0 in
     let round : ℕ = c.rounds-last.result in
     let last : round ≡ last_round (frame_in s.signals.now.game.now) =
-    c.rounds-last.ensures.value ∙ sym (last_round_of (rules_of c.signals-signals.result.now)) ∙ ap (λ (x : Signals). last_round (frame_in x.game.now)) c.signals-signals.ensures.held in
+    c.rounds-last.ensures.value ∙ sym (last_round_of (rules_of c.signals-signals.result.now))
+    ∙ ap (λ (x : Signals). last_round (frame_in x.game.now)) c.signals-signals.ensures.held in
     let items : c.push.new.self.items ≡ first ∷ [] = c.in_ok-push.ensures.items ∙ ap (λ xs. xs ++ first ∷ []) c.in_ok-rows.ensures.items in
-    let here = held_by s c.signals-signals.result.now c.classes.result.now (λ f lists. AreRowsIn f lists round first.items) c.signals-signals.ensures.held c.classes.ensures.held c.in_ok-rows_in.ensures in
+    let here = held_by s c.signals-signals.result.now c.classes.result.now (λ f lists. AreRowsIn f lists round first.items) c.signals-signals.ensures.held
+    c.classes.ensures.held c.in_ok-rows_in.ensures in
     record {
       some = c.rounds-last.ensures.some;
       within = omega (arith, last);
       long = omega (arith, ap (λ (xs : List (Vec (Vec Pair Global) Global)). length xs) items, last);
-      each = put_before (λ j (v : Vec (Vec Pair Global) Global). AreRowsOf s j v.items) [] c.push.new.self.items first round items (λ k d l. absurd (omega arith)) here;
+      each = put_before (λ j (v : Vec (Vec Pair Global) Global). AreRowsOf s j v.items) [] c.push.new.self.items first round items
+          (λ k d l. absurd (omega arith)) here;
     }
 
 pub index-requires : goal.index-requires
@@ -42,7 +46,8 @@ rows_above-requires-clause-rows c =
     let d = c.index.result.now in
     let at : c.loop-round.round + 0 ≡ c.loop-round.round - 1 + 1 = omega (arith, i.some) in
     let is = c.deref.ensures.value ∙ ap (λ (v : Vec (Vec Pair Global) Global). v.items) c.index.ensures in
-    subst (AreRowsOf s (c.loop-round.round - 1 + 1)) (sym is) (subst (λ j. AreRowsOf s j (get_or rows 0 d).items) at (i.each 0 d (omega (arith, i.within, i.long))))
+    subst (AreRowsOf s (c.loop-round.round - 1 + 1)) (sym is)
+    (subst (λ j. AreRowsOf s j (get_or rows 0 d).items) at (i.each 0 d (omega (arith, i.within, i.long))))
 
 pub loop-round-preserved : goal.loop-round-preserved
 loop-round-preserved c =

@@ -15,7 +15,8 @@ returns-then-are_made c =
     record {
       most = omega (arith, c.in_ok-rows.ensures.long);
       fewest = omega (arith, c.in_ok-rows.ensures.long);
-      single = λ l. carried c.signals.result.now.game.now s.signals.now.game.now c.classes.result.now s.classes.now (λ f lists. IsSingleIn lists (last_round f)) same c.classes.ensures.held (c.are_made.ensures c.if-are_made.true);
+      single = λ l. carried c.signals.result.now.game.now s.signals.now.game.now c.classes.result.now s.classes.now (λ f lists. IsSingleIn lists (last_round f))
+          same c.classes.ensures.held (c.are_made.ensures c.if-are_made.true);
       in_round = λ round d some within. (
           let back : round - 1 + 1 ≡ round = omega (arith, some) in
           subst (λ j. AreRowsIn f lists j (get_or rows (round - 1) d).items) back (c.in_ok-rows.ensures.rows (round - 1) d (omega (arith, some, within))));

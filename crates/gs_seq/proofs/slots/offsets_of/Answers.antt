@@ -10,28 +10,58 @@ overflow_cast-one c =
     let f = frame_in c.args.game.now in
     let lists = c.args.classes.now.lists in
     let q = c.loop-point.point in
-    omega (arith, c.slots_at.ensures, slots_more f lists 1 q, slots_le f lists 1 (q + 1) (point_count f) (omega (arith, c.loop-point-test.true, c.point_total-count.ensures)), c.requires.one)
+    omega (
+      arith,
+      c.slots_at.ensures,
+      slots_more f lists 1 q,
+      slots_le f lists 1 (q + 1) (point_count f)
+          (omega (arith, c.loop-point-test.true, c.point_total-count.ensures)),
+      c.requires.one,
+    )
 
 pub overflow_add-one : goal.overflow_add-one
 overflow_add-one c =
     let f = frame_in c.args.game.now in
     let lists = c.args.classes.now.lists in
     let q = c.loop-point.point in
-    omega (arith, c.slots_at.ensures, c.loop-point.invariant.one_is, slots_more f lists 1 q, slots_le f lists 1 (q + 1) (point_count f) (omega (arith, c.loop-point-test.true, c.point_total-count.ensures)), c.requires.one)
+    omega (
+      arith,
+      c.slots_at.ensures,
+      c.loop-point.invariant.one_is,
+      slots_more f lists 1 q,
+      slots_le f lists 1 (q + 1) (point_count f)
+          (omega (arith, c.loop-point-test.true, c.point_total-count.ensures)),
+      c.requires.one,
+    )
 
 pub overflow_cast-two : goal.overflow_cast-two
 overflow_cast-two c =
     let f = frame_in c.args.game.now in
     let lists = c.args.classes.now.lists in
     let q = c.loop-point.point in
-    omega (arith, c.slots_at-in-loop-point.ensures, slots_more f lists 2 q, slots_le f lists 2 (q + 1) (point_count f) (omega (arith, c.loop-point-test.true, c.point_total-count.ensures)), c.requires.two)
+    omega (
+      arith,
+      c.slots_at-in-loop-point.ensures,
+      slots_more f lists 2 q,
+      slots_le f lists 2 (q + 1) (point_count f)
+          (omega (arith, c.loop-point-test.true, c.point_total-count.ensures)),
+      c.requires.two,
+    )
 
 pub overflow_add-two : goal.overflow_add-two
 overflow_add-two c =
     let f = frame_in c.args.game.now in
     let lists = c.args.classes.now.lists in
     let q = c.loop-point.point in
-    omega (arith, c.slots_at-in-loop-point.ensures, c.loop-point.invariant.two_is, slots_more f lists 2 q, slots_le f lists 2 (q + 1) (point_count f) (omega (arith, c.loop-point-test.true, c.point_total-count.ensures)), c.requires.two)
+    omega (
+      arith,
+      c.slots_at-in-loop-point.ensures,
+      c.loop-point.invariant.two_is,
+      slots_more f lists 2 q,
+      slots_le f lists 2 (q + 1) (point_count f)
+          (omega (arith, c.loop-point-test.true, c.point_total-count.ensures)),
+      c.requires.two,
+    )
 
 pub loop-point-preserved : goal.loop-point-preserved
 loop-point-preserved c =

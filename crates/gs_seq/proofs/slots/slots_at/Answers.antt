@@ -8,22 +8,30 @@ use Rattle.gs_seq.proofs.slots.slots_at.Goals as goal
 
 pub classes-requires-clause-some : goal.classes-requires-clause-some
 classes-requires-clause-some c =
-    let r = point_reads c.args.game.now c.points.result.now c.args.point c.index-points-point.result c.points.ensures c.requires.in_range c.index-points-point.is in
+    let r = point_reads c.args.game.now c.points.result.now c.args.point c.index-points-point.result c.points.ensures c.requires.in_range
+    c.index-points-point.is in
     (round_in c.args.game.now c.args.point c.index-points-point.result r c.requires.in_range).0
 
 pub classes-requires-clause-top : goal.classes-requires-clause-top
 classes-requires-clause-top c =
     let f = frame_in c.args.game.now in
-    let r = point_reads c.args.game.now c.points.result.now c.args.point c.index-points-point.result c.points.ensures c.requires.in_range c.index-points-point.is in
-    omega (arith, (round_in c.args.game.now c.args.point c.index-points-point.result r c.requires.in_range).1, (over f c.args.classes.now c.requires.parents).rounds)
+    let r = point_reads c.args.game.now c.points.result.now c.args.point c.index-points-point.result c.points.ensures c.requires.in_range
+    c.index-points-point.is in
+    omega (
+      arith,
+      (round_in c.args.game.now c.args.point c.index-points-point.result r c.requires.in_range).1,
+      (over f c.args.classes.now c.requires.parents).rounds,
+    )
 
 pub overflow_mul-result : goal.overflow_mul-result
 overflow_mul-result c =
     let f = frame_in c.args.game.now in
-    let r = point_reads c.args.game.now c.points.result.now c.args.point c.index-points-point.result c.points.ensures c.requires.in_range c.index-points-point.is in
+    let r = point_reads c.args.game.now c.points.result.now c.args.point c.index-points-point.result c.points.ensures c.requires.in_range
+    c.index-points-point.is in
     let w = walked c.args.game.now 1 (omega arith) (omega arith) in
     let round = round_of f (at_point c.args.point) in
-    let few = class_few c.args.game.now c.args.classes.now c.requires.parents round (w.some_round c.args.point c.requires.in_range) (w.point_in c.args.point c.requires.in_range) in
+    let few = class_few c.args.game.now c.args.classes.now c.requires.parents round (w.some_round c.args.point c.requires.in_range)
+    (w.point_in c.args.point c.requires.in_range) in
     let least : c.from.result ≤ 200000 = omega (arith, c.from.ensures, c.classes.ensures, ap (class_count c.args.classes.now.lists) r.round, few) in
     let short : c.len.result < 2 ^ 33 = omega (arith, c.len.ensures, r.moves, moves_few c.args.game.now c.args.point c.requires.in_range) in
     omega (arith, mul-le-mul_right c.len.result least, short)
@@ -31,15 +39,20 @@ overflow_mul-result c =
 pub returns-then-point-player : goal.returns-then-point-player
 returns-then-point-player c =
     let f = frame_in c.args.game.now in
-    let r = point_reads c.args.game.now c.points.result.now c.args.point c.index-points-point.result c.points.ensures c.requires.in_range c.index-points-point.is in
-    let test : (player_at f c.args.point == c.args.player) ≡ true = (Decides-eqb (player_at f c.args.point) c.args.player).1 (sym r.player ∙ c.if-point-player.true) in
-    let many : c.from.result ≡ class_count c.args.classes.now.lists (round_of f (at_point c.args.point)) = c.from.ensures ∙ c.classes.ensures ∙ ap (class_count c.args.classes.now.lists) r.round in
+    let r = point_reads c.args.game.now c.points.result.now c.args.point c.index-points-point.result c.points.ensures c.requires.in_range
+    c.index-points-point.is in
+    let test : (player_at f c.args.point == c.args.player) ≡ true = (Decides-eqb (player_at f c.args.point) c.args.player).1
+    (sym r.player ∙ c.if-point-player.true) in
+    let many : c.from.result ≡ class_count c.args.classes.now.lists (round_of f (at_point c.args.point)) = c.from.ensures ∙ c.classes.ensures
+    ∙ ap (class_count c.args.classes.now.lists) r.round in
     let moves : c.len.result ≡ move_count f c.args.point = omega (arith, c.len.ensures, r.moves) in
     rw test (ap (λ n. n * c.len.result) many ∙ ap (λ n. class_count c.args.classes.now.lists (round_of f (at_point c.args.point)) * n) moves)
 
 pub returns-else-point-player : goal.returns-else-point-player
 returns-else-point-player c =
     let f = frame_in c.args.game.now in
-    let r = point_reads c.args.game.now c.points.result.now c.args.point c.index-points-point.result c.points.ensures c.requires.in_range c.index-points-point.is in
-    let test : (player_at f c.args.point == c.args.player) ≡ false = not_eq (player_at f c.args.point) c.args.player (λ e. c.if-point-player.false (r.player ∙ e)) in
+    let r = point_reads c.args.game.now c.points.result.now c.args.point c.index-points-point.result c.points.ensures c.requires.in_range
+    c.index-points-point.is in
+    let test : (player_at f c.args.point == c.args.player) ≡ false = not_eq (player_at f c.args.point) c.args.player
+    (λ e. c.if-point-player.false (r.player ∙ e)) in
     rw test refl

@@ -6,11 +6,18 @@ use Rattle.gs_seq.proofs.slots.slots_between.Goals as goal
 pub overflow_add-slots : goal.overflow_add-slots
 overflow_add-slots c =
     let more = slots_more (frame_in c.args.game.now) c.args.classes.now.lists c.args.player c.loop-point.point in
-    let few = slots_few c.args.game.now c.args.classes.now c.requires.parents c.args.player (c.loop-point.point + 1) (omega (arith, c.requires.in_range, c.loop-point-test.true)) in
+    let few = slots_few c.args.game.now c.args.classes.now c.requires.parents c.args.player (c.loop-point.point + 1)
+    (omega (arith, c.requires.in_range, c.loop-point-test.true)) in
     omega (arith, c.loop-point.invariant, c.slots_at-slots.ensures, more, few)
 
 pub loop-point-preserved : goal.loop-point-preserved
-loop-point-preserved c = omega (arith, c.loop-point.invariant, c.slots_at-slots.ensures, slots_more (frame_in c.args.game.now) c.args.classes.now.lists c.args.player c.loop-point.point)
+loop-point-preserved c = omega (
+  arith,
+  c.loop-point.invariant,
+  c.slots_at-slots.ensures,
+  slots_more (frame_in c.args.game.now) c.args.classes.now.lists
+      c.args.player c.loop-point.point,
+)
 
 pub returns : goal.returns
 returns c =

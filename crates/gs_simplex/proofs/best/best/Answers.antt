@@ -6,7 +6,8 @@ use Rattle.gs_simplex.specs.{Values.{IsRowIndex, IsColumnValue, CanValue}, Answe
 use Rattle.gs_simplex.proofs.{PairLists.{pair_list_is_list, column_decided}, Ring.{times_neg}, Multiples.{down_fraction}, Kept.{row_pos_kept, multiple_kept}}
 use Rattle.gs_simplex.proofs.best.best.Goals as goal
 
-module _ (p : Program) (l : Listing) (xs : List ℤ) (rows rows' : List ℕ) (pairs : IsPairList p l) (held : IsTableOf p l xs) (index : IsRowIndex p l rows') (same : rows ≡ rows') where
+module _ (p : Program) (l : Listing) (xs : List ℤ) (rows rows' : List ℕ) (pairs : IsPairList p l) (held : IsTableOf p l xs) (index : IsRowIndex p l rows')
+    (same : rows ≡ rows') where
   abbrev R : ℕ → ℕ → ℤ
   R = held.rows_of.0
 
@@ -47,7 +48,8 @@ module _ (p : Program) (l : Listing) (xs : List ℤ) (rows rows' : List ℕ) (pa
         ((v j jm d).listed i (index_at.listed i j h)));
     unlisted = λ j h out d. (v j h d).unlisted (index_at.unlisted j out);
     prices = λ j jn d. (let f = slice_index_or price j d in let m = kept.aim_kept.by in
-        down_fraction m.0 f.num f.den (table_aim p xs (p.cols + 1)) (neg_ℤ (table_aim p xs j)) (a (p.cols + 1)) (neg_ℤ (a j)) m.1 (m.2 (p.cols + 1) (omega arith))
+        down_fraction m.0 f.num f.den (table_aim p xs (p.cols + 1)) (neg_ℤ (table_aim p xs j)) (a (p.cols + 1)) (neg_ℤ (a j)) m.1
+        (m.2 (p.cols + 1) (omega arith))
         (neg_times_at m.0 (table_aim p xs j) (a j) (m.2 j (omega arith))) (w j jn d));
   }
 
@@ -58,7 +60,8 @@ index_of p l l' rows e u = let P : Listing → Type 0 = λ x. IsRowIndex p x row
 pub values-requires-clause-rows : goal.values-requires-clause-rows
 values-requires-clause-rows c =
     let p = c.args.p.now in let xs = c.args.numbers.now in let l = c.args.basis.items in
-    can_value p l xs c.deref-2.result.now c.in_ok-rows.rows.items c.requires.pairs c.requires.rows (index_of p l c.deref.result.now c.in_ok-rows.rows.items c.deref.ensures.value c.in_ok-rows.ensures) c.deref-2.ensures.value
+    can_value p l xs c.deref-2.result.now c.in_ok-rows.rows.items c.requires.pairs c.requires.rows
+    (index_of p l c.deref.result.now c.in_ok-rows.rows.items c.deref.ensures.value c.in_ok-rows.ensures) c.deref-2.ensures.value
 
 pub prices-requires-clause-multiple : goal.prices-requires-clause-multiple
 prices-requires-clause-multiple c =
@@ -76,7 +79,8 @@ returns c =
       best = (
         c.requires.rows.rows_of.0,
         c.requires.rows.rows_of.1,
-        best_at p l xs c.deref-2.result.now c.in_ok-rows.rows.items c.requires.pairs c.requires.rows (index_of p l c.deref.result.now c.in_ok-rows.rows.items c.deref.ensures.value c.in_ok-rows.ensures) c.deref-2.ensures.value
+        best_at p l xs c.deref-2.result.now c.in_ok-rows.rows.items c.requires.pairs c.requires.rows
+            (index_of p l c.deref.result.now c.in_ok-rows.rows.items c.deref.ensures.value c.in_ok-rows.ensures) c.deref-2.ensures.value
             c.in_ok-value.value.items c.in_ok-price.price.items c.in_ok-value.ensures.values c.in_ok-price.ensures.prices,
       );
     }

@@ -14,5 +14,6 @@ returns c =
     subst P (sym (take_at new (drop (length new) c.in_ok-rows.rows.items) n (omega (arith, c.mark_rows.auto.rows, c.deref_mut.ensures.len)))) (record {
       long = omega (arith, c.mark_rows.auto.rows, c.deref_mut.ensures.len, c.in_ok-rows.ensures.len);
       listed = c.mark_rows.ensures.listed;
-      unlisted = λ j out. c.mark_rows.ensures.unlisted j out ∙ ap (λ (t : List ℕ). slice_index t j) c.deref_mut.ensures.value ∙ ap (λ (t : List ℕ). slice_index t j) zeros ∙ all_zero p.cols j;
+      unlisted = λ j out. c.mark_rows.ensures.unlisted j out ∙ ap (λ (t : List ℕ). slice_index t j) c.deref_mut.ensures.value
+          ∙ ap (λ (t : List ℕ). slice_index t j) zeros ∙ all_zero p.cols j;
     })

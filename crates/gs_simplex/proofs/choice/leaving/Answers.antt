@@ -5,7 +5,8 @@ use Rattle.gs_simplex.proofs.choice.leaving.Goals as goal
 
 pub loop-place-preserved : goal.loop-place-preserved
 loop-place-preserved c =
-    one_more c.args.p.now c.args.basis.now (table_rows c.args.p.now c.args.numbers.now) c.args.e c.loop-place.place c.loop-place.best c.ratio_at.result c.better-best.result c.loop-place.invariant c.ratio_at.ensures
+    one_more c.args.p.now c.args.basis.now (table_rows c.args.p.now c.args.numbers.now) c.args.e c.loop-place.place c.loop-place.best c.ratio_at.result
+    c.better-best.result c.loop-place.invariant c.ratio_at.ensures
     c.better-best.ensures
 
 pub returns-in_err-best : goal.returns-in_err-best

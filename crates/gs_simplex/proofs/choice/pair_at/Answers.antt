@@ -14,7 +14,8 @@ pair_back x i j e =
     ap (λ (t : ℕ). (t, x.1)) f ∙ ap (λ (t : ℕ). (x.0 - 1 + 1, t)) g
 
 pub returns-clause-pair : goal.returns-clause-pair
-returns-clause-pair c = let n = c.requires.pairs.named c.args.place c.requires.inside in pair_back (slice_index_or c.args.basis.now c.args.place (0, 0)) n.0 n.1 n.2
+returns-clause-pair c = let n = c.requires.pairs.named c.args.place c.requires.inside in pair_back
+    (slice_index_or c.args.basis.now c.args.place (0, 0)) n.0 n.1 n.2
 
 pub returns-clause-row : goal.returns-clause-row
 returns-clause-row c = let n = c.requires.pairs.named c.args.place c.requires.inside in omega (arith, n.3, ap (λ (x : ℕ × ℕ). x.0) n.2)

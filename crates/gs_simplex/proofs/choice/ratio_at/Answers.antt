@@ -15,7 +15,15 @@ pub returns-then-over-le0 : goal.returns-then-over-le0
 returns-then-over-le0 c =
     let t = c.pair_at-row in let o = c.number_at-over in
     let P : ℤ → Type 0 = λ x. x ≤ℤ pos 0 in
-    record { pair = (t.result.0, t.result.1, t.ensures.pair, inr (subst P o.ensures.value (le_true o.result (pos 0) (stored_test o.result true o.ensures.narrow c.if-over-le0.true)))) }
+    record {
+      pair = (
+        t.result.0,
+        t.result.1,
+        t.ensures.pair,
+        inr
+            (subst P o.ensures.value (le_true o.result (pos 0) (stored_test o.result true o.ensures.narrow c.if-over-le0.true))),
+      );
+    }
 
 pub returns-then-is_free : goal.returns-then-is_free
 returns-then-is_free c = let t = c.pair_at-row in record { pair = (t.result.0, t.result.1, t.ensures.pair, inl (c.is_free.ensures.0 c.if-is_free.true)) }
@@ -25,7 +33,16 @@ returns c =
     let t = c.pair_at-row in let o = c.number_at-over in let s = c.number_at-side in
     let eo = kept_64 o.result o.ensures.narrow in let es = kept_64 s.result s.ensures.narrow in
     let N : ℤ → Type 0 = λ x. IsNarrow x in let R : ℤ → Type 0 = λ x. pos 0 <ℤ x in record {
-      pair = (t.result.0, t.result.1, t.ensures.pair, refl, λ f. true_not_false (sym (c.is_free.ensures.1 f) ∙ c.if-is_free.false), eo ∙ o.ensures.value, es ∙ s.ensures.value);
+      pair = (
+        t.result.0,
+        t.result.1,
+        t.ensures.pair,
+        refl,
+        λ f. true_not_false (sym (c.is_free.ensures.1 f) ∙ c.if-is_free.false),
+        eo ∙ o.ensures.value,
+        es
+            ∙ s.ensures.value,
+      );
       place = refl;
       rises = subst R (sym eo) (le_false o.result (pos 0) (stored_test o.result false o.ensures.narrow c.if-over-le0.false));
       narrow = subst N (sym eo) o.ensures.narrow;

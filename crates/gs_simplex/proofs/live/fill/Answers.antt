@@ -1,4 +1,5 @@
-use Rattle.std.proofs.Common.{◌≡◌, inl, inr, ℕ, ◌+◌, ◌<◌, ◌≤◌, List, length, slice_index, slice_set, ℤ, pos, to_z, w64, sym, ap, subst, ◌∙◌, arith, get_or-set_other, get_or-set_same}
+use Rattle.std.proofs.Common.{◌≡◌, inl, inr, ℕ, ◌+◌, ◌<◌, ◌≤◌, List, length, slice_index, slice_set, ℤ, pos, to_z, w64, sym, ap, subst, ◌∙◌, arith}
+use Rattle.std.proofs.Common.{get_or-set_other, get_or-set_same}
 use Rattle.std.proofs.{lemmas.Bool.{cases_eq, cases_lt, cases_order}, lemmas.Int.{to_z_pos}}
 use Rattle.gs_simplex.specs.{Numbers.{at}, Live.{IsSupport, AreFilled}}
 use Rattle.gs_simplex.proofs.Fits.{kept_64}
@@ -25,7 +26,8 @@ module _ (row : ℕ → ℤ) (filled : List ℕ) (count j : ℕ) (inside : count
   under_is : (k : ℕ) → k < count + 1 → slice_index (slice_set filled count j) k < j + 1
   under_is k h = elim (cases_lt k count) [
     | inl less ↦ omega (arith, before_is k less, u.under k less)
-    | inr more ↦ (let e : k ≡ count = omega arith in let P : ℕ → Type 0 = λ t. slice_index (slice_set filled count j) t < j + 1 in subst P (sym e) (omega (arith, last_is)))
+    | inr more ↦ (let e : k ≡ count = omega arith in let P : ℕ → Type 0 = λ t. slice_index (slice_set filled count j) t < j + 1 in subst P (sym e)
+        (omega (arith, last_is)))
   ]
 
   rises_is : (k h : ℕ) → k < h → h < count + 1 → slice_index (slice_set filled count j) k < slice_index (slice_set filled count j) h
@@ -61,7 +63,8 @@ ended row filled count width long u = record {
 pub loop-j-preserved-then-row-j-eq0 : goal.loop-j-preserved-then-row-j-eq0
 loop-j-preserved-then-row-j-eq0 c =
     let row = c.args.row.now in let j = c.loop-j.j in
-    let z : at row j ≡ pos 0 = sym (kept_64 (at row j) (c.requires.narrow j c.loop-j-test.true)) ∙ ap (to_z w64) c.if-row-j-eq0.true ∙ to_z_pos w64 0 (omega arith) in
+    let z : at row j ≡ pos 0 = sym (kept_64 (at row j) (c.requires.narrow j c.loop-j-test.true)) ∙ ap (to_z w64) c.if-row-j-eq0.true
+    ∙ to_z_pos w64 0 (omega arith) in
     skipped (at row) c.loop-j.filled c.loop-j.count j c.loop-j.invariant z
 
 pub loop-j-preserved : goal.loop-j-preserved

@@ -9,10 +9,14 @@ returns-in_default c =
 
 pub returns-in-Some-leaving : goal.returns-in-Some-leaving
 returns-in-Some-leaving c =
-    let p = c.args.p.now in let w = c.in-Some.ensures in
-    (enters_from (p.rows * (p.cols + 2) + p.cols - p.rows * (p.cols + 2)) refl c.requires.table c.args.basis.now c.in-Some.column c.requires.rows w.0 w.1 w.2, c.in-Some-leaving.ensures)
+    let p = c.args.p.now in let w = c.in-Some.ensures in (
+      enters_from (p.rows * (p.cols + 2) + p.cols - p.rows * (p.cols + 2)) refl c.requires.table c.args.basis.now c.in-Some.column c.requires.rows w.0 w.1 w.2,
+      c.in-Some-leaving.ensures,
+    )
 
 pub returns-in-None : goal.returns-in-None
 returns-in-None c =
-    let p = c.args.p.now in let w = c.in-Some.ensures in
-    (enters_from (p.rows * (p.cols + 2) + p.cols - p.rows * (p.cols + 2)) refl c.requires.table c.args.basis.now c.in-Some.column c.requires.rows w.0 w.1 w.2, c.in-None.ensures)
+    let p = c.args.p.now in let w = c.in-Some.ensures in (
+      enters_from (p.rows * (p.cols + 2) + p.cols - p.rows * (p.cols + 2)) refl c.requires.table c.args.basis.now c.in-Some.column c.requires.rows w.0 w.1 w.2,
+      c.in-None.ensures,
+    )

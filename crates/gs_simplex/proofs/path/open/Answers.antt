@@ -6,7 +6,14 @@ use Rattle.gs_simplex.proofs.path.open.Goals as goal
 pub loop-step-init : goal.loop-step-init
 loop-step-init c =
     let s = c.requires.start in let p = c.args.p.now in
-    record { room = s.room; table = s.table; tops = s.tops; pairs = empty_pairs p; so_far = so_far_start p c.args.opening.now c.args.table.now.numbers.items s.rows }
+    record {
+      room = s.room;
+      table = s.table;
+      tops = s.tops;
+      pairs = empty_pairs p;
+      so_far = so_far_start p c.args.opening.now
+          c.args.table.now.numbers.items s.rows;
+    }
 
 pub pair_at-row-requires-clause-pairs : goal.pair_at-row-requires-clause-pairs
 pair_at-row-requires-clause-pairs c = opening_pairs c.requires.opens
@@ -14,7 +21,8 @@ pair_at-row-requires-clause-pairs c = opening_pairs c.requires.opens
 pub list-requires-clause-pairs : goal.list-requires-clause-pairs
 list-requires-clause-pairs c =
     let v = c.loop-step.invariant in let t = c.loop-step.step in
-    open_pairs c.pair_at-row.result.0 c.pair_at-row.result.1 c.requires.opens c.loop-step-test.true c.pair_at-row.ensures.pair v.table v.so_far t (omega (arith, c.loop-step-test.true))
+    open_pairs c.pair_at-row.result.0 c.pair_at-row.result.1 c.requires.opens c.loop-step-test.true c.pair_at-row.ensures.pair v.table v.so_far t
+    (omega (arith, c.loop-step-test.true))
 
 pub list-requires-clause-rows : goal.list-requires-clause-rows
 list-requires-clause-rows c =
@@ -32,7 +40,8 @@ returns-in-Some c = λ limit.
     let P : Stop → Type 0 = λ x. IsStop c.args.p.now c.args.opening.now limit x in
     subst P (sym c.wide_stop.ensures) (
       c.requires.small,
-      open_wide c.pair_at-row.result.0 c.pair_at-row.result.1 c.requires.opens c.loop-step-test.true c.pair_at-row.ensures.pair v.table v.so_far w.row w.column w.number
+      open_wide c.pair_at-row.result.0 c.pair_at-row.result.1 c.requires.opens c.loop-step-test.true c.pair_at-row.ensures.pair v.table v.so_far w.row
+          w.column w.number
           c.in-Some.ensures.listed limit,
     )
 
@@ -40,7 +49,8 @@ pub loop-step-preserved : goal.loop-step-preserved
 loop-step-preserved c =
     let p = c.args.p.now in let o = c.args.opening.now in let t = c.loop-step.step in let v = c.loop-step.invariant in
     let r = c.pair_at-row.result.0 in let k = c.pair_at-row.result.1 in let xs = c.loop-step.table.numbers.items in let new = c.list.new.self.numbers.items in
-    let a : IsTableAfter p xs new r k = none_of c.list.result (IsTableAfter p xs new r k) (λ w. IsWideAfter p xs r k w.row w.column w.number) c.in_default.is c.list.ensures.listed in
+    let a : IsTableAfter p xs new r k = none_of c.list.result (IsTableAfter p xs new r k) (λ w. IsWideAfter p xs r k w.row w.column w.number) c.in_default.is
+    c.list.ensures.listed in
     record {
       room = c.list.ensures.room;
       table = a.table;

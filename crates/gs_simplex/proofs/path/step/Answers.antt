@@ -19,7 +19,8 @@ returns-in-Unbounded c =
 
 pub returns-then-made-limit : goal.returns-then-made-limit
 returns-then-made-limit c =
-    let p = c.args.p.now in let o = c.args.opening.now in let l = c.args.basis.now in let e = c.in-Leaves.column in let v = c.requires.state in let xs = c.args.table.now.numbers.items in
+    let p = c.args.p.now in let o = c.args.opening.now in let l = c.args.basis.now in let e = c.in-Leaves.column in let v = c.requires.state in let xs =
+    c.args.table.now.numbers.items in
     let P : List ℤ → Type 0 = λ x. (Enters p l (table_aim p x) e) × IsLeaving p l (table_rows p x) e (Some c.in-Leaves.place) in
     let w = subst P c.deref.ensures.value c.in-Leaves.ensures in
     let T : ℕ → Type 0 = λ k. IsSoFar p o (length o + k) l xs in
@@ -32,12 +33,14 @@ pivot-requires-clause-rows c =
 
 pub returns-in-Some : goal.returns-in-Some
 returns-in-Some c =
-    let p = c.args.p.now in let o = c.args.opening.now in let l = c.args.basis.now in let e = c.in-Leaves.column in let v = c.requires.state in let xs = c.args.table.now.numbers.items in
+    let p = c.args.p.now in let o = c.args.opening.now in let l = c.args.basis.now in let e = c.in-Leaves.column in let v = c.requires.state in let xs =
+    c.args.table.now.numbers.items in
     let w = c.in-Some.cell in let t = length o + c.args.made in
     let P : List ℤ → Type 0 = λ x. (Enters p l (table_aim p x) e) × IsLeaving p l (table_rows p x) e (Some c.in-Leaves.place) in
     let f = subst P c.deref.ensures.value c.in-Leaves.ensures in
     let a : PathStops p o c.args.limit (wide (t + 1) (w.row + 1) (w.column + 1) (stated p w.row w.column w.number)) =
-    pivot_wide c.in-Leaves.place (omega arith) v.pairs v.table v.so_far f.0 f.1 w.row w.column w.number c.in-Some.ensures.pivoted c.args.limit (omega (arith, c.requires.within, c.if-made-limit.false)) in
+    pivot_wide c.in-Leaves.place (omega arith) v.pairs v.table v.so_far f.0 f.1 w.row w.column w.number c.in-Some.ensures.pivoted c.args.limit
+    (omega (arith, c.requires.within, c.if-made-limit.false)) in
     let s : t + 1 ≡ p.rows + c.args.made + 1 = omega (arith, c.requires.opens.long) in
     let Q : ℕ → Type 0 = λ k. PathStops p o c.args.limit (wide k (w.row + 1) (w.column + 1) (stated p w.row w.column w.number)) in
     let R : Stop → Type 0 = λ x. IsStop p o c.args.limit x in
@@ -45,16 +48,26 @@ returns-in-Some c =
 
 pub returns-in_default : goal.returns-in_default
 returns-in_default c =
-    let p = c.args.p.now in let o = c.args.opening.now in let l = c.args.basis.now in let e = c.in-Leaves.column in let v = c.requires.state in let xs = c.args.table.now.numbers.items in
+    let p = c.args.p.now in let o = c.args.opening.now in let l = c.args.basis.now in let e = c.in-Leaves.column in let v = c.requires.state in let xs =
+    c.args.table.now.numbers.items in
     let t = length o + c.args.made in let next = c.pivot.new.basis in let new = c.pivot.new.table.numbers.items in let q = c.in-Leaves.place in
     let P : List ℤ → Type 0 = λ x. (Enters p l (table_aim p x) e) × IsLeaving p l (table_rows p x) e (Some q) in
     let f = subst P c.deref.ensures.value c.in-Leaves.ensures in
-    let w : IsPivoted p l next xs new q e = none_of c.pivot.result (IsPivoted p l next xs new q e) (λ x. IsWidePivot p l xs q e x.row x.column x.number) c.in_default.is c.pivot.ensures.pivoted in
+    let w : IsPivoted p l next xs new q e = none_of c.pivot.result (IsPivoted p l next xs new q e) (λ x. IsWidePivot p l xs q e x.row x.column x.number)
+    c.in_default.is c.pivot.ensures.pivoted in
     let n = pivot_next q (omega arith) v.pairs v.table v.so_far f.0 f.1 next new w in
     let s : t + 1 ≡ length o + (c.args.made + 1) = omega arith in
     let T : ℕ → Type 0 = λ k. IsSoFar p o k next new in
     record {
-      state = record { room = c.pivot.ensures.room; table = n.0; tops = if_none c.pivot.result (HasTops p new c.pivot.new.table.tops.items) c.in_default.is c.pivot.ensures.tops; pairs = n.1; so_far = subst T s n.2 };
+      state = record {
+        room = c.pivot.ensures.room;
+        table = n.0;
+        tops = if_none c.pivot.result (HasTops p new c.pivot.new.table.tops.items) c.in_default.is
+            c.pivot.ensures.tops;
+        pairs = n.1;
+        so_far = subst T s n.2;
+      };
       within = omega (arith, c.requires.within, c.if-made-limit.false);
-      pivot = turn_at c.args.made q (c.pair_at-leaving.result.0) (c.pair_at-leaving.result.1) c.requires.opens v.pairs v.so_far f.0 f.1 c.pair_at-leaving.ensures.pair n.2;
+      pivot = turn_at c.args.made q (c.pair_at-leaving.result.0) (c.pair_at-leaving.result.1) c.requires.opens v.pairs v.so_far f.0 f.1
+          c.pair_at-leaving.ensures.pair n.2;
     }

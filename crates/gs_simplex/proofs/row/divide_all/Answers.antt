@@ -6,7 +6,8 @@ use Rattle.gs_simplex.proofs.row.divide_all.Goals as goal
 
 pub guessed_quotient-requires-clause-divides : goal.guessed_quotient-requires-clause-divides
 guessed_quotient-requires-clause-divides c =
-    let v = c.loop-k.invariant in let k = c.loop-k.k in let old = c.args.row.now in let row = c.loop-k.row in let places = c.args.places.now in let j = slice_index places k in
+    let v = c.loop-k.invariant in let k = c.loop-k.k in let old = c.args.row.now in let row = c.loop-k.row in let places = c.args.places.now in let j =
+    slice_index places k in
     let u = c.requires.support in let w = columns_of places c.args.found (length old) (at old) (at old) u in let kf = c.loop-k-test.true in
     let inside : j < length old = u.inside k kf in
     let e : at row j ≡ at old j = still_old places c.args.found k (length old) old row (pos 0) w kf c.loop-k.auto.row v.left in
@@ -16,14 +17,17 @@ guessed_quotient-requires-clause-divides c =
     subst P (sym (kept_64 (at row j) narrow ∙ e)) (c.requires.divides j inside)
 
 -- the quotient as it is stored
-stored_is : (by : ℕ) (x old q : ℤ) → unsigned_abs old < 2 ^ 62 → unsigned_abs q < 2 ^ 62 → x ≡ old → to_z w64 (of_z w64 x) ≡ pos by *ℤ q → old ≡ pos by *ℤ to_z w64 (of_z w64 q)
+stored_is : (by : ℕ) (x old q : ℤ) → unsigned_abs old < 2 ^ 62 → unsigned_abs q < 2 ^ 62 → x ≡ old → to_z w64 (of_z w64 x) ≡ pos by *ℤ q
+    → old ≡ pos by *ℤ to_z w64 (of_z w64 q)
 stored_is by x old q ho hq e v = sym (kept_64 old ho) ∙ ap (λ t. to_z w64 (of_z w64 t)) (sym e) ∙ v ∙ ap (λ t. pos by *ℤ t) (sym (kept_64 q hq))
 
 pub loop-k-preserved : goal.loop-k-preserved
 loop-k-preserved c =
-    let v = c.loop-k.invariant in let k = c.loop-k.k in let old = c.args.row.now in let row = c.loop-k.row in let places = c.args.places.now in let j = slice_index places k in
+    let v = c.loop-k.invariant in let k = c.loop-k.k in let old = c.args.row.now in let row = c.loop-k.row in let places = c.args.places.now in let j =
+    slice_index places k in
     let q = c.guessed_quotient.result in let n = c.guessed_quotient.ensures in let z = to_z w64 (of_z w64 q) in
-    let u = c.requires.support in let w = columns_of places c.args.found (length old) (at old) (at old) u in let kf = c.loop-k-test.true in let long : length row ≡ length old = c.loop-k.auto.row in
+    let u = c.requires.support in let w = columns_of places c.args.found (length old) (at old) (at old) u in let kf = c.loop-k-test.true in let long : length
+    row ≡ length old = c.loop-k.auto.row in
     let e : at row j ≡ at old j = still_old places c.args.found k (length old) old row z w kf long v.left in
     let is : at old j ≡ pos c.args.by *ℤ z = stored_is c.args.by (at row j) (at old j) q (c.requires.narrow j (u.inside k kf)) n.narrow e n.value in
     let small : unsigned_abs z < 2 ^ 62 = (let P : ℤ → Type 0 = λ t. unsigned_abs t < 2 ^ 62 in subst P (sym (kept_64 q n.narrow)) n.narrow) in

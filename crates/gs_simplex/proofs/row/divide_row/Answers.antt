@@ -15,4 +15,5 @@ returns-then-by-gt1-clause-bound c = λ most h j l.
     (omega (arith, c.divide_all.auto.row))
 
 pub returns-clause-divided : goal.returns-clause-divided
-returns-clause-divided c = undivided_row c.args.row.now c.narrow_divisor-by.result c.requires.some c.narrow_divisor-by.ensures (omega (arith, c.if-by-gt1.false))
+returns-clause-divided c = undivided_row c.args.row.now c.narrow_divisor-by.result c.requires.some c.narrow_divisor-by.ensures
+    (omega (arith, c.if-by-gt1.false))

@@ -11,10 +11,12 @@ loop-number-preserved c =
     let i = c.loop-number.number-index in
     let b : unsigned_abs (at c.args.mixed.now i) ≤ 2 ^ 125 = c.requires i c.loop-number-test.true in
     one_more (at c.args.mixed.now) i c.loop-number.found c.common_divisor-found.result c.unsigned_abs.result
-    (c.unsigned_abs.ensures.value ∙ ap unsigned_abs (kept_128 (at c.args.mixed.now i) (omega (arith, b)))) c.common_divisor-found.ensures c.loop-number.invariant
+    (c.unsigned_abs.ensures.value ∙ ap unsigned_abs (kept_128 (at c.args.mixed.now i) (omega (arith, b)))) c.common_divisor-found.ensures
+    c.loop-number.invariant
 
 pub returns-then-found-eq1 : goal.returns-then-found-eq1
-returns-then-found-eq1 c = one_of_all (at c.args.mixed.now) c.loop-number.number-index (length c.args.mixed.now) c.loop-number.found (omega arith) c.if-found-eq1.true c.loop-number.invariant
+returns-then-found-eq1 c = one_of_all (at c.args.mixed.now) c.loop-number.number-index (length c.args.mixed.now) c.loop-number.found
+    (omega arith) c.if-found-eq1.true c.loop-number.invariant
 
 pub returns : goal.returns
 returns c =

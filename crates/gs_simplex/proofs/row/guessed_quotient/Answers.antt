@@ -4,7 +4,8 @@ use Rattle.gs_simplex.proofs.{Fits.{kept_64}, Guesses.{quotient_narrow}}
 use Rattle.gs_simplex.proofs.row.guessed_quotient.Goals as goal
 
 pub narrow_quotient-requires-clause-divides : goal.narrow_quotient-requires-clause-divides
-narrow_quotient-requires-clause-divides c = let P : ℤ → Type 0 = λ t. c.args.by ∣ unsigned_abs t in subst P (sym (kept_64 c.args.number c.requires.narrow)) c.requires.divides
+narrow_quotient-requires-clause-divides c = let P : ℤ → Type 0 = λ t. c.args.by ∣ unsigned_abs t in subst P (sym (kept_64 c.args.number c.requires.narrow))
+    c.requires.divides
 
 pub returns-in-Some-clause-value : goal.returns-in-Some-clause-value
 returns-in-Some-clause-value c =

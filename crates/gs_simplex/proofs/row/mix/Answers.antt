@@ -1,4 +1,5 @@
-use Rattle.std.proofs.Common.{ap, arith, ◌+◌, ◌≡◌, ◌≢◌, ◌<◌, ◌≤◌, ◌^◌, ℕ, List, ℤ, ◌-ℤ◌, ◌*ℤ◌, unsigned_abs, length, sym, subst, ◌∙◌, to_z, of_z, w64, set, get_or-set_other, get_or-set_same, below_more}
+use Rattle.std.proofs.Common.{ap, arith, ◌+◌, ◌≡◌, ◌≢◌, ◌<◌, ◌≤◌, ◌^◌, ℕ, List, ℤ, ◌-ℤ◌, ◌*ℤ◌, unsigned_abs, length, sym, subst, ◌∙◌, to_z, of_z, w64, set}
+use Rattle.std.proofs.Common.{get_or-set_other, get_or-set_same, below_more}
 use mir.Syntax.{w128}
 use Rattle.gs_simplex.specs.Numbers.{at}
 use Rattle.gs_simplex.proofs.Fits.{kept_64, kept_128}
@@ -12,7 +13,8 @@ one_more : (own far : ℤ) (row lead mixed : List ℤ) (j : ℕ) (r : ℤ) → j
 one_more own far row lead mixed j r h nr np e small inv =
     below_more _ _
     (λ k l. let ne : k ≢ j = omega arith in rw get_or-set_other (inv k l))
-    (rw get_or-set_same (kept_128 r (omega (arith, small)) ∙ e ∙ ap (λ t. to_z w64 (of_z w64 own) *ℤ t -ℤ to_z w64 (of_z w64 far) *ℤ to_z w64 (of_z w64 (at lead j))) (kept_64 (at row j) nr)
+    (rw get_or-set_same (kept_128 r (omega (arith, small)) ∙ e
+    ∙ ap (λ t. to_z w64 (of_z w64 own) *ℤ t -ℤ to_z w64 (of_z w64 far) *ℤ to_z w64 (of_z w64 (at lead j))) (kept_64 (at row j) nr)
     ∙ ap (λ t. to_z w64 (of_z w64 own) *ℤ at row j -ℤ to_z w64 (of_z w64 far) *ℤ t) (kept_64 (at lead j) np)))
 
 one_within : (mixed : List ℤ) (j : ℕ) (r : ℤ) → j < length mixed → unsigned_abs r ≤ 2 ^ 125 → ((k : ℕ) → k < j → unsigned_abs (at mixed k) ≤ 2 ^ 125)

@@ -4,13 +4,21 @@ use Rattle.gs_simplex.proofs.row.mixed_number.Goals as goal
 pub overflow_sub-result : goal.overflow_sub-result
 overflow_sub-result c =
     let q = c.requires in
-    rw (product_kept c.args.own c.args.x c.from.result c.from-2.result q.narrow_own q.narrow_x c.from.ensures c.from-2.ensures, product_kept c.args.far c.args.y c.from-3.result c.from-4.result q.narrow_far q.narrow_y c.from-3.ensures c.from-4.ensures)
+    rw (
+      product_kept c.args.own c.args.x c.from.result c.from-2.result q.narrow_own q.narrow_x c.from.ensures c.from-2.ensures,
+      product_kept c.args.far c.args.y
+          c.from-3.result c.from-4.result q.narrow_far q.narrow_y c.from-3.ensures c.from-4.ensures,
+    )
     (mixed_fits c.args.own c.args.x c.args.far c.args.y q.narrow_own q.narrow_x q.narrow_far q.narrow_y)
 
 pub returns-clause-value : goal.returns-clause-value
 returns-clause-value c =
     let q = c.requires in
-    rw (product_kept c.args.own c.args.x c.from.result c.from-2.result q.narrow_own q.narrow_x c.from.ensures c.from-2.ensures, product_kept c.args.far c.args.y c.from-3.result c.from-4.result q.narrow_far q.narrow_y c.from-3.ensures c.from-4.ensures)
+    rw (
+      product_kept c.args.own c.args.x c.from.result c.from-2.result q.narrow_own q.narrow_x c.from.ensures c.from-2.ensures,
+      product_kept c.args.far c.args.y
+          c.from-3.result c.from-4.result q.narrow_far q.narrow_y c.from-3.ensures c.from-4.ensures,
+    )
     (mixed_kept c.args.own c.args.x c.args.far c.args.y q.narrow_own q.narrow_x q.narrow_far q.narrow_y)
 
 pub returns-clause-within : goal.returns-clause-within

@@ -30,10 +30,12 @@ returns-in-None-clause-divisor c =
     let h : g < 2 ^ 62 = divisor_narrow g (unsigned_abs z) (some_size z c.requires.some) c.requires.narrow (subst P e c.short_gcd-next.ensures.1) in
     let m : to_z w64 g ≡ pos g = to_z_pos w64 g (omega (arith, h)) in
     let n : c.of.result.number ≡ pos g = c.of.ensures ∙ m in
-    let A : ℕ → Type 0 = λ t. IsGcd t c.unsigned_abs-in-None.result g in let B : ℕ → Type 0 = λ t. IsGcd (unsigned_abs d) t g in let C : ℤ → Type 0 = λ t. IsGcd (unsigned_abs d) (unsigned_abs z) (unsigned_abs t) in
+    let A : ℕ → Type 0 = λ t. IsGcd t c.unsigned_abs-in-None.result g in let B : ℕ → Type 0 = λ t. IsGcd (unsigned_abs d) t g in let C : ℤ
+    → Type 0 = λ t. IsGcd (unsigned_abs d) (unsigned_abs z) (unsigned_abs t) in
     subst C (sym n) (subst B e (subst A f c.short_gcd-next.ensures))
 
 pub returns-in-None-clause-narrow : goal.returns-in-None-clause-narrow
 returns-in-None-clause-narrow c =
     let z = c.args.number in
-    let u : unsigned_abs c.of.result.number < 2 ^ 62 = divisor_narrow (unsigned_abs c.of.result.number) (unsigned_abs z) (some_size z c.requires.some) c.requires.narrow (returns-in-None-clause-divisor c).1 in u
+    let u : unsigned_abs c.of.result.number < 2 ^ 62 = divisor_narrow (unsigned_abs c.of.result.number) (unsigned_abs z)
+    (some_size z c.requires.some) c.requires.narrow (returns-in-None-clause-divisor c).1 in u

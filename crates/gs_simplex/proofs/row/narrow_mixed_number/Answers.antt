@@ -5,13 +5,21 @@ use Rattle.gs_simplex.proofs.row.narrow_mixed_number.Goals as goal
 pub overflow_sub-result : goal.overflow_sub-result
 overflow_sub-result c =
     let a = c.args in let r = c.ranges in
-    rw (narrow_product a.own a.x (unsigned_abs a.far * unsigned_abs a.y) c.requires r.own r.x, narrow_product a.far a.y (unsigned_abs a.own * unsigned_abs a.x) (omega (arith, c.requires)) r.far r.y)
+    rw (
+      narrow_product a.own a.x (unsigned_abs a.far * unsigned_abs a.y) c.requires r.own r.x,
+      narrow_product a.far a.y (unsigned_abs a.own * unsigned_abs a.x)
+          (omega (arith, c.requires)) r.far r.y,
+    )
     (fits_signed_from_abs w64 (a.own *ℤ a.x -ℤ a.far *ℤ a.y) (omega (arith, narrow_difference a.own a.x a.far a.y c.requires)))
 
 pub returns-clause-value : goal.returns-clause-value
 returns-clause-value c =
     let a = c.args in let r = c.ranges in
-    rw (narrow_product a.own a.x (unsigned_abs a.far * unsigned_abs a.y) c.requires r.own r.x, narrow_product a.far a.y (unsigned_abs a.own * unsigned_abs a.x) (omega (arith, c.requires)) r.far r.y)
+    rw (
+      narrow_product a.own a.x (unsigned_abs a.far * unsigned_abs a.y) c.requires r.own r.x,
+      narrow_product a.far a.y (unsigned_abs a.own * unsigned_abs a.x)
+          (omega (arith, c.requires)) r.far r.y,
+    )
     (kept_64 (a.own *ℤ a.x -ℤ a.far *ℤ a.y) (narrow_difference a.own a.x a.far a.y c.requires))
 
 pub returns-clause-narrow : goal.returns-clause-narrow

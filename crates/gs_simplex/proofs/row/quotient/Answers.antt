@@ -11,5 +11,12 @@ returns-clause-small_result c = quotient_within c.args.by c.args.number c.requir
 pub returns-then-unsigned_abs-lt-WIDE-clause-value : goal.returns-then-unsigned_abs-lt-WIDE-clause-value
 returns-then-unsigned_abs-lt-WIDE-clause-value c =
     let z = c.args.number in
-    let small : unsigned_abs z < 2 ^ 62 = omega (arith, c.if-unsigned_abs-lt-WIDE.true, c.unsigned_abs.ensures.value, ap unsigned_abs (kept_128 z (omega (arith, c.requires.within)))) in
-    quotient_64 c.args.by z _ c.from.result _ c.requires.divides small c.if-by-lt-WIDE.true (stored z small) (to_z_pos w64 c.args.by (omega (arith, c.if-by-lt-WIDE.true))) c.from.ensures
+    let small : unsigned_abs z < 2 ^ 62 = omega (
+      arith,
+      c.if-unsigned_abs-lt-WIDE.true,
+      c.unsigned_abs.ensures.value,
+      ap unsigned_abs (kept_128 z
+          (omega (arith, c.requires.within))),
+    ) in
+    quotient_64 c.args.by z _ c.from.result _ c.requires.divides small c.if-by-lt-WIDE.true (stored z small)
+    (to_z_pos w64 c.args.by (omega (arith, c.if-by-lt-WIDE.true))) c.from.ensures

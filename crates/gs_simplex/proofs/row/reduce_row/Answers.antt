@@ -1,4 +1,5 @@
-use Rattle.std.proofs.Common.{◌≡◌, ℕ, ◌+◌, ◌*◌, ◌<◌, ◌≤◌, ◌^◌, ℤ, pos, ◌-ℤ◌, ◌*ℤ◌, ◌<ℤ◌, unsigned_abs, length, slice_index, to_z, of_z, w64, sym, ap, subst, ◌∙◌, arith}
+use Rattle.std.proofs.Common.{◌≡◌, ℕ, ◌+◌, ◌*◌, ◌<◌, ◌≤◌, ◌^◌, ℤ, pos, ◌-ℤ◌, ◌*ℤ◌, ◌<ℤ◌, unsigned_abs, length, slice_index, to_z, of_z, w64, sym, ap, subst}
+use Rattle.std.proofs.Common.{◌∙◌, arith}
 use Rattle.std.proofs.lemmas.Nat.{mul-le}
 use Rattle.gs_simplex.specs.{Rows.{IsNarrow}, Numbers.{at, IsShared, IsMultiple}, Live.{IsSupport, IsChange}}
 use Rattle.gs_simplex.proofs.{Fits.{kept_64, narrow_passed, difference_bound}, Lives.{support_mixed, support_row}}
@@ -63,7 +64,8 @@ pub known_or_greatest-near-requires-clause-support : goal.known_or_greatest-near
 known_or_greatest-near-requires-clause-support c =
     let row = at c.args.row.now in
     let P : ℕ → Type 0 = λ w. IsSupport c.args.places.now c.args.found w row row in
-    subst P (sym c.requires.long) (support_row c.args.places.now c.args.found (length c.args.lead.now.numbers.now) row (at c.args.lead.now.numbers.now) c.requires.support)
+    subst P (sym c.requires.long) (support_row c.args.places.now c.args.found (length c.args.lead.now.numbers.now) row
+    (at c.args.lead.now.numbers.now) c.requires.support)
 
 -- a bound on the numbers bounds their products
 products_below : (a b x y most top : ℕ) → x ≤ most → y ≤ top → a * most + b * top < 2 ^ 62 → a * x + b * y < 2 ^ 62
@@ -73,22 +75,27 @@ pub mix_narrow-requires-clause-narrow : goal.mix_narrow-requires-clause-narrow
 mix_narrow-requires-clause-narrow c = λ k h.
     let l = c.args.lead.now in let j = slice_index c.touched-count.result.0.now k in
     let inside : j < length c.args.row.now = (changed (goal.at.mix_narrow-requires-clause-narrow c).After-touched-count).inside k h in
-    products_below _ _ (unsigned_abs (at c.args.row.now j)) (unsigned_abs (at l.numbers.now j)) c.known_or_greatest-near.result l.most (c.known_or_greatest-near.ensures j inside) (l.bound j (omega (arith, c.requires.long))) (c.stays_narrow.ensures c.if-stays_narrow.true)
+    products_below _ _ (unsigned_abs (at c.args.row.now j)) (unsigned_abs (at l.numbers.now j)) c.known_or_greatest-near.result l.most
+    (c.known_or_greatest-near.ensures j inside) (l.bound j (omega (arith, c.requires.long))) (c.stays_narrow.ensures c.if-stays_narrow.true)
 
 pub lessen-requires-clause-support : goal.lessen-requires-clause-support
 lessen-requires-clause-support c =
     let lead = c.args.lead.now.numbers.now in let row = c.args.row.now in let mid = c.mix_narrow.new.row in let m = c.multipliers-own in
     let P : ℕ → Type 0 = λ w. IsSupport c.args.places.now c.args.found w (at mid) (at mid) in
-    subst P (sym (c.mix_narrow.auto.row ∙ c.requires.long)) (support_mixed c.args.places.now c.args.found (length lead) (at row) (at lead) (at mid) (to_z w64 (of_z w64 m.result.0)) (to_z w64 (of_z w64 m.result.1)) c.requires.support (λ j h. c.mix_narrow.ensures.mixed j (omega (arith, c.requires.long))))
+    subst P (sym (c.mix_narrow.auto.row ∙ c.requires.long))
+    (support_mixed c.args.places.now c.args.found (length lead) (at row) (at lead) (at mid) (to_z w64 (of_z w64 m.result.0))
+    (to_z w64 (of_z w64 m.result.1)) c.requires.support (λ j h. c.mix_narrow.ensures.mixed j (omega (arith, c.requires.long))))
 
 pub lessen-requires-clause-bound : goal.lessen-requires-clause-bound
 lessen-requires-clause-bound c = λ j h.
     let l = c.args.lead.now in let row = c.args.row.now in let m = c.multipliers-own.result in let most = c.known_or_greatest-near in
     let inside : j < length row = omega (arith, c.mix_narrow.auto.row) in
-    let e : at c.mix_narrow.new.row j ≡ to_z w64 (of_z w64 m.0) *ℤ at row j -ℤ to_z w64 (of_z w64 m.1) *ℤ at l.numbers.now j = c.mix_narrow.ensures.mixed j inside in
+    let e : at c.mix_narrow.new.row j ≡ to_z w64 (of_z w64 m.0) *ℤ at row j -ℤ to_z w64 (of_z w64 m.1) *ℤ at l.numbers.now j =
+    c.mix_narrow.ensures.mixed j inside in
     let b : unsigned_abs (at c.mix_narrow.new.row j) ≤ unsigned_abs (to_z w64 (of_z w64 m.0)) * most.result + unsigned_abs (to_z w64 (of_z w64 m.1)) * l.most =
     (let P : ℤ → Type 0 = λ t. unsigned_abs t ≤ unsigned_abs (to_z w64 (of_z w64 m.0)) * most.result + unsigned_abs (to_z w64 (of_z w64 m.1)) * l.most in
-    subst P (sym e) (difference_bound (to_z w64 (of_z w64 m.0)) (at row j) (to_z w64 (of_z w64 m.1)) (at l.numbers.now j) most.result l.most (most.ensures j inside) (l.bound j (omega (arith, c.requires.long))))) in
+    subst P (sym e) (difference_bound (to_z w64 (of_z w64 m.0)) (at row j) (to_z w64 (of_z w64 m.1)) (at l.numbers.now j) most.result l.most
+    (most.ensures j inside) (l.bound j (omega (arith, c.requires.long))))) in
     omega (arith, b, c.mixed_most.ensures)
 
 pub narrow_into-requires-clause-small : goal.narrow_into-requires-clause-small
@@ -103,7 +110,8 @@ narrow_into-requires-clause-divides c =
     by_divides c.divisor.result c.max-by.result (length mixed) (at mixed) c.divisor.ensures c.max-by.ensures
 
 -- the multipliers as they are stored
-stored_shared : (lc rc own far : ℤ) → IsNarrow lc → IsNarrow rc → IsNarrow own → IsNarrow far → IsShared (to_z w64 (of_z w64 lc)) (to_z w64 (of_z w64 rc)) own far
+stored_shared : (lc rc own far : ℤ) → IsNarrow lc → IsNarrow rc → IsNarrow own → IsNarrow far
+    → IsShared (to_z w64 (of_z w64 lc)) (to_z w64 (of_z w64 rc)) own far
     → IsShared lc rc (to_z w64 (of_z w64 own)) (to_z w64 (of_z w64 far))
 stored_shared lc rc own far nl nr na nb sh = record {
   by = (
@@ -116,11 +124,14 @@ stored_shared lc rc own far nl nr na nb sh = record {
 
 pub returns-then-stays_narrow : goal.returns-then-stays_narrow
 returns-then-stays_narrow c =
-    let lead = c.args.lead.now.numbers.now in let row = c.args.row.now in let mid = c.mix_narrow.new.row in let k = c.args.lead.now.column in let m = c.multipliers-own in
+    let lead = c.args.lead.now.numbers.now in let row = c.args.row.now in let mid = c.mix_narrow.new.row in let k = c.args.lead.now.column in let m =
+    c.multipliers-own in
     let inside : k < length lead = c.args.lead.now.inside in
     let long : length mid ≡ length lead = omega (arith, c.mix_narrow.auto.row, c.requires.long) in
-    let sh = stored_shared (at lead k) (at row k) m.result.0 m.result.1 (c.args.lead.now.narrow k inside) (c.requires.narrow k (omega (arith, c.requires.long))) m.ensures.narrow_own m.ensures.narrow_far m.ensures.shared in (
-      mixed_times (at lead) (at row) (at mid) (at c.lessen.new.row) k (length lead) (to_z w64 (of_z w64 m.result.0)) (to_z w64 (of_z w64 m.result.1)) sh (λ j l. c.mix_narrow.ensures.mixed j (omega (arith, c.requires.long)))
+    let sh = stored_shared (at lead k) (at row k) m.result.0 m.result.1 (c.args.lead.now.narrow k inside) (c.requires.narrow k (omega (arith, c.requires.long)))
+    m.ensures.narrow_own m.ensures.narrow_far m.ensures.shared in (
+      mixed_times (at lead) (at row) (at mid) (at c.lessen.new.row) k (length lead) (to_z w64 (of_z w64 m.result.0)) (to_z w64 (of_z w64 m.result.1)) sh
+          (λ j l. c.mix_narrow.ensures.mixed j (omega (arith, c.requires.long)))
           (let P : ℕ → Type 0 = λ t. IsMultiple t (at mid) (at c.lessen.new.row) in subst P long c.lessen.ensures.multiple),
       c.lessen.ensures.narrow,
       c.lessen.ensures.bound,
@@ -128,27 +139,33 @@ returns-then-stays_narrow c =
 
 pub returns-in-None : goal.returns-in-None
 returns-in-None c =
-    let lead = c.args.lead.now.numbers.now in let row = c.args.row.now in let mixed = c.mix.new.mixed in let k = c.args.lead.now.column in let m = c.multipliers-own in
+    let lead = c.args.lead.now.numbers.now in let row = c.args.row.now in let mixed = c.mix.new.mixed in let k = c.args.lead.now.column in let m =
+    c.multipliers-own in
     let inside : k < length lead = c.args.lead.now.inside in
     let long : length mixed ≡ length lead = omega (arith, c.mix.auto.mixed, c.requires.long, c.requires.room) in
     let some : 0 < length lead = omega arith in
-    let sh = stored_shared (at lead k) (at row k) m.result.0 m.result.1 (c.args.lead.now.narrow k inside) (c.requires.narrow k (omega (arith, c.requires.long))) m.ensures.narrow_own m.ensures.narrow_far m.ensures.shared in
+    let sh = stored_shared (at lead k) (at row k) m.result.0 m.result.1 (c.args.lead.now.narrow k inside) (c.requires.narrow k (omega (arith, c.requires.long)))
+    m.ensures.narrow_own m.ensures.narrow_far m.ensures.shared in
     let own = to_z w64 (of_z w64 m.result.0) in let far = to_z w64 (of_z w64 m.result.1) in
     let is : (j : ℕ) → j < length lead → at mixed j ≡ own *ℤ at row j -ℤ far *ℤ at lead j = λ j l. c.mix.ensures.mixed j (omega (arith, c.requires.long)) in
     let new = c.narrow_into.new.row in let q = c.in-None.ensures in
     let same : length new ≡ length mixed = omega (arith, c.narrow_into.auto.row, c.requires.long) in (
-      (reduced_from (at lead) (at row) k (length lead) c.divisor.result c.max-by.result own far mixed sh some long is c.divisor.ensures c.max-by.ensures (at new) (λ j l. q.each j (omega arith))).multiple,
+      (reduced_from (at lead) (at row) k (length lead) c.divisor.result c.max-by.result own far mixed sh some long is c.divisor.ensures c.max-by.ensures
+          (at new) (λ j l. q.each j (omega arith))).multiple,
       λ j l. q.narrow j (omega arith),
       λ j l. (let n : unsigned_abs (at new j) < 2 ^ 62 = q.narrow j (omega arith) in omega arith),
     )
 
 pub returns-in-Some : goal.returns-in-Some
 returns-in-Some c =
-    let lead = c.args.lead.now.numbers.now in let row = c.args.row.now in let mixed = c.mix.new.mixed in let k = c.args.lead.now.column in let m = c.multipliers-own in
+    let lead = c.args.lead.now.numbers.now in let row = c.args.row.now in let mixed = c.mix.new.mixed in let k = c.args.lead.now.column in let m =
+    c.multipliers-own in
     let inside : k < length lead = c.args.lead.now.inside in
     let long : length mixed ≡ length lead = omega (arith, c.mix.auto.mixed, c.requires.long, c.requires.room) in
     let some : 0 < length lead = omega arith in
-    let sh = stored_shared (at lead k) (at row k) m.result.0 m.result.1 (c.args.lead.now.narrow k inside) (c.requires.narrow k (omega (arith, c.requires.long))) m.ensures.narrow_own m.ensures.narrow_far m.ensures.shared in
+    let sh = stored_shared (at lead k) (at row k) m.result.0 m.result.1 (c.args.lead.now.narrow k inside) (c.requires.narrow k (omega (arith, c.requires.long)))
+    m.ensures.narrow_own m.ensures.narrow_far m.ensures.shared in
     let own = to_z w64 (of_z w64 m.result.0) in let far = to_z w64 (of_z w64 m.result.1) in
     let is : (j : ℕ) → j < length lead → at mixed j ≡ own *ℤ at row j -ℤ far *ℤ at lead j = λ j l. c.mix.ensures.mixed j (omega (arith, c.requires.long)) in
-    reduced_wide (at lead) (at row) k (length lead) c.divisor.result c.max-by.result own far mixed sh some long is c.divisor.ensures c.max-by.ensures c.in-Some.wide.column c.in-Some.wide.number c.in-Some.ensures
+    reduced_wide (at lead) (at row) k (length lead) c.divisor.result c.max-by.result own far mixed sh some long is c.divisor.ensures c.max-by.ensures
+    c.in-Some.wide.column c.in-Some.wide.number c.in-Some.ensures

@@ -17,7 +17,9 @@ returns-clause-of_far c =
     let P : ℕ → Type 0 = λ t. c.short_gcd.result ∣ t in subst P e c.short_gcd.ensures.0
 
 pub returns-clause-some : goal.returns-clause-some
-returns-clause-some c = (divisor_bounds c.short_gcd.result (unsigned_abs c.args.own) (omega (arith, ints, c.requires.own)) c.requires.narrow (returns-clause-of_own c)).0
+returns-clause-some c = (divisor_bounds c.short_gcd.result (unsigned_abs c.args.own) (omega (arith, ints, c.requires.own)) c.requires.narrow
+    (returns-clause-of_own c)).0
 
 pub returns-clause-small : goal.returns-clause-small
-returns-clause-small c = (divisor_bounds c.short_gcd.result (unsigned_abs c.args.own) (omega (arith, ints, c.requires.own)) c.requires.narrow (returns-clause-of_own c)).1
+returns-clause-small c = (divisor_bounds c.short_gcd.result (unsigned_abs c.args.own) (omega (arith, ints, c.requires.own)) c.requires.narrow
+    (returns-clause-of_own c)).1

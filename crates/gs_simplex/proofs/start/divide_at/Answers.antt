@@ -4,11 +4,13 @@ use Rattle.gs_simplex.specs.Numbers.{at, IsDivided}
 use Rattle.gs_simplex.proofs.Places.{at_part, part_long, length_put, at_put_inside, narrow_put, divided_same}
 use Rattle.gs_simplex.proofs.start.divide_at.Goals as goal
 
-divided : (xs ys : List ℤ) (start w n : ℕ) → n ≡ start + w - start → start + w ≤ length xs → length ys ≡ n → 0 < w → IsDivided (length (take n (drop start xs))) (at (take n (drop start xs))) (at ys)
+divided : (xs ys : List ℤ) (start w n : ℕ) → n ≡ start + w - start → start + w ≤ length xs → length ys ≡ n → 0 < w
+    → IsDivided (length (take n (drop start xs))) (at (take n (drop start xs))) (at ys)
     → IsDivided w (λ j. at xs (start + j)) (λ j. at (put_mid start n xs ys) (start + j))
 divided xs ys start w n e h long some u =
     let P : ℕ → Type 0 = λ k. IsDivided k (at (take n (drop start xs))) (at ys) in
-    divided_same w (at (take n (drop start xs))) (λ j. at xs (start + j)) (at ys) (λ j. at (put_mid start n xs ys) (start + j)) some (λ j l. at_part xs start n j (omega arith)) (λ j l. sym (at_put_inside xs ys start n j (omega arith) long (omega arith)))
+    divided_same w (at (take n (drop start xs))) (λ j. at xs (start + j)) (at ys) (λ j. at (put_mid start n xs ys) (start + j)) some
+    (λ j l. at_part xs start n j (omega arith)) (λ j l. sym (at_put_inside xs ys start n j (omega arith) long (omega arith)))
     (subst P (part_long xs start w n e h) u)
 
 pub returns-clause-divided : goal.returns-clause-divided

@@ -3,11 +3,13 @@ use Rattle.gs_simplex.specs.Numbers.{at, cell, IsDivided}
 use Rattle.gs_simplex.proofs.Places.{divided_same, row_stays, rows_left}
 use Rattle.gs_simplex.proofs.start.divide_rows.Goals as goal
 
-module _ (old now new : List ℤ) (w i : ℕ) (some : 0 < w) (done : (h : ℕ) → h < i → IsDivided w (cell old w h) (cell now w h)) (left : (h : ℕ) → i ≤ h → (j : ℕ) → j < w → cell now w h j ≡ cell old w h j)
+module _ (old now new : List ℤ) (w i : ℕ) (some : 0 < w) (done : (h : ℕ) → h < i → IsDivided w (cell old w h) (cell now w h))
+    (left : (h : ℕ) → i ≤ h → (j : ℕ) → j < w → cell now w h j ≡ cell old w h j)
     (others : (k : ℕ) → (k < i * w) ⊎ (i * w + w ≤ k) → at new k ≡ at now k) (here : IsDivided w (cell now w i) (cell new w i)) where
   done_more : (h : ℕ) → h < i + 1 → IsDivided w (cell old w h) (cell new w h)
   done_more = below_more (λ h. IsDivided w (cell old w h) (cell new w h)) i
-      (λ h l. divided_same w (cell old w h) (cell old w h) (cell now w h) (cell new w h) some (λ j jw. refl) (λ j jw. sym (row_stays now new w i others h (λ e. omega arith) j jw)) (done h l))
+      (λ h l. divided_same w (cell old w h) (cell old w h) (cell now w h) (cell new w h) some (λ j jw. refl)
+      (λ j jw. sym (row_stays now new w i others h (λ e. omega arith) j jw)) (done h l))
       (divided_same w (cell now w i) (cell old w i) (cell new w i) (cell new w i) some (λ j jw. left i (omega arith) j jw) (λ j jw. refl) here)
 
 pub loop-i-preserved : goal.loop-i-preserved

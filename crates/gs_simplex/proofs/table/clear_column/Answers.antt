@@ -8,7 +8,8 @@ pub loop-i-preserved-then-i-lead : goal.loop-i-preserved-then-i-lead
 loop-i-preserved-then-i-lead c =
     let v = c.loop-i.invariant in let lead = c.args.lead.now in let w = length lead.numbers.now in let now = c.loop-i.numbers in let i = c.loop-i.i in
     let here : IsAtMost w (cell now w i) lead.most = (let P : ℕ → Type 0 = λ t. IsAtMost w (cell now w t) lead.most in
-    subst P (sym c.if-i-lead.true) (at_most_same w lead.most (at lead.numbers.now) (cell now w lead.row) (λ j jw. sym (v.kept j jw ∙ c.requires.lead j jw)) lead.bound)) in
+    subst P (sym c.if-i-lead.true) (at_most_same w lead.most (at lead.numbers.now) (cell now w lead.row) (λ j jw. sym (v.kept j jw ∙ c.requires.lead j jw))
+    lead.bound)) in
     record {
       width = refl;
       done = below_more _ c.loop-i.i v.done (λ ne. absurd (ne c.if-i-lead.true));
@@ -23,16 +24,19 @@ loop-i-preserved-then-i-lead c =
 pub reduce_at-requires-clause-support : goal.reduce_at-requires-clause-support
 reduce_at-requires-clause-support c =
     let lead = c.args.lead.now in let count = length c.args.owns.now in
-    let v = c.loop-i.invariant in let w = length lead.numbers.now in let i = c.loop-i.i in let old = c.args.numbers.now in let now = c.loop-i.numbers in let row = at lead.numbers.now in
+    let v = c.loop-i.invariant in let w = length lead.numbers.now in let i = c.loop-i.i in let old = c.args.numbers.now in let now =
+    c.loop-i.numbers in let row = at lead.numbers.now in
     support_same _ c.args.found w (cell old w i) (cell now w i) row row (λ j h. sym (v.left i (omega arith) j h)) (λ j h. refl)
-    (support_of c.args.places.now c.loop-i.places c.args.owns.now c.args.found count lead.row w i (cell old w) row c.requires.live c.loop-i-test.true c.if-i-lead.false c.loop-i.auto.places v.places)
+    (support_of c.args.places.now c.loop-i.places c.args.owns.now c.args.found count lead.row w i (cell old w) row c.requires.live c.loop-i-test.true
+    c.if-i-lead.false c.loop-i.auto.places v.places)
 
 pub reduce_at-requires-clause-bound : goal.reduce_at-requires-clause-bound
 reduce_at-requires-clause-bound c =
     let lead = c.args.lead.now in let v = c.loop-i.invariant in
     let w = length lead.numbers.now in let i = c.loop-i.i in
     let P : ℕ → Type 0 = λ t. IsAtMost w (cell c.loop-i.numbers w i) t in
-    subst P (sym (v.tops_left i (omega arith))) (at_most_same w (slice_index c.args.tops.now i) (cell c.args.numbers.now w i) (cell c.loop-i.numbers w i) (λ j jw. sym (v.left i (omega arith) j jw)) (c.requires.tops i c.loop-i-test.true c.if-i-lead.false))
+    subst P (sym (v.tops_left i (omega arith))) (at_most_same w (slice_index c.args.tops.now i) (cell c.args.numbers.now w i) (cell c.loop-i.numbers w i)
+    (λ j jw. sym (v.left i (omega arith) j jw)) (c.requires.tops i c.loop-i-test.true c.if-i-lead.false))
 
 pub returns-in-Err-clause-cleared : goal.returns-in-Err-clause-cleared
 returns-in-Err-clause-cleared c =
@@ -41,7 +45,8 @@ returns-in-Err-clause-cleared c =
     let row = at lead.numbers.now in
     let z = c.in-Err.wide.number in
     let here : IsReducedTo row lead.column w (cell old w i) c.in-Err.wide.column z =
-    reduced_to_same row row lead.column w (cell now w i) (cell old w i) c.in-Err.wide.column z lead.inside (λ j h. refl) (λ j h. c.loop-i.invariant.left i (omega arith) j h) c.in-Err.ensures.answer in
+    reduced_to_same row row lead.column w (cell now w i) (cell old w i) c.in-Err.wide.column z lead.inside (λ j h. refl)
+    (λ j h. c.loop-i.invariant.left i (omega arith) j h) c.in-Err.ensures.answer in
     let P : ℤ → Type 0 = λ t. IsClearedTo old count w lead.row lead.column row i c.in-Err.wide.column t in
     subst P (sym (kept_128 z (omega (arith, here.size)))) (record {
       inside = c.loop-i-test.true;
@@ -63,7 +68,8 @@ module _ (old now new : List ℤ) (lead : ℕ → ℤ) (count w r c i : ℕ) (cw
     (here : IsMixed lead c w (cell now w i) (cell new w i)) where
   done_more : (h : ℕ) → h < i + 1 → h ≢ r → IsMixed lead c w (cell old w h) (cell new w h)
   done_more = below_more (λ h. h ≢ r → IsMixed lead c w (cell old w h) (cell new w h)) i
-      (λ h l d. mixed_same lead c w (cell old w h) (cell old w h) (cell now w h) (cell new w h) cw (λ j jw. refl) (λ j jw. sym (row_stays now new w i others h (λ e. omega arith) j jw)) (done h l d))
+      (λ h l d. mixed_same lead c w (cell old w h) (cell old w h) (cell now w h) (cell new w h) cw (λ j jw. refl)
+      (λ j jw. sym (row_stays now new w i others h (λ e. omega arith) j jw)) (done h l d))
       (λ d. mixed_same lead c w (cell now w i) (cell old w i) (cell new w i) (cell new w i) cw (λ j jw. left i (omega arith) j jw) (λ j jw. refl) here)
 
   kept_more : (j : ℕ) → j < w → cell new w r j ≡ cell old w r j
@@ -82,7 +88,8 @@ loop-i-preserved c =
       left = rows_left old now new w i c.reduce_at.ensures.others v.left;
       kept = kept_more old now new row count w lead.row lead.column i lead.inside c.if-i-lead.false v.done v.left v.kept c.reduce_at.ensures.others a.0;
       narrow = a.1;
-      tops_done = tops_more now new c.loop-i.tops w i c.in-Ok.top (omega (arith, c.loop-i.auto.tops, c.requires.few_tops)) (λ h l j jw. row_stays now new w i c.reduce_at.ensures.others h (λ e. omega arith) j jw) v.tops_done a.2;
+      tops_done = tops_more now new c.loop-i.tops w i c.in-Ok.top (omega (arith, c.loop-i.auto.tops, c.requires.few_tops))
+          (λ h l j jw. row_stays now new w i c.reduce_at.ensures.others h (λ e. omega arith) j jw) v.tops_done a.2;
       tops_left = tops_left_more c.loop-i.tops c.args.tops.now i c.in-Ok.top v.tops_left;
       places = λ k h. get_or-set_other c.loop-i.places 0 k (slice_index c.args.owns.now i) 0 (λ e. omega arith) ∙ v.places k h;
     }

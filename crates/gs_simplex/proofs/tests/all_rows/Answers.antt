@@ -6,6 +6,8 @@ use Rattle.gs_simplex.proofs.tests.all_rows.Goals as goal
 pub loop-row-preserved : goal.loop-row-preserved
 loop-row-preserved c =
     let rows = c.args.rows.now in let n = c.loop-row.row-index in
-    let here : IsWideRow c.args.width c.deref.result.now = record { long = omega (arith, c.if-len-width.false, c.len.ensures, c.deref.ensures.len); narrow = c.if-not-all_narrow.ensures refl } in
+    let here : IsWideRow c.args.width c.deref.result.now =
+    record { long = omega (arith, c.if-len-width.false, c.len.ensures, c.deref.ensures.len); narrow = c.if-not-all_narrow.ensures refl } in
     let P : List ℤ → Type 0 = λ x. IsWideRow c.args.width x in
-    below_more (λ k. IsWideRow c.args.width (slice_index_or (map vec_items rows) k [])) n c.loop-row.invariant (subst P (c.deref.ensures.value ∙ vec_at rows n c.row-item.result c.loop-row-test.true c.row-item.is) here)
+    below_more (λ k. IsWideRow c.args.width (slice_index_or (map vec_items rows) k [])) n c.loop-row.invariant
+    (subst P (c.deref.ensures.value ∙ vec_at rows n c.row-item.result c.loop-row-test.true c.row-item.is) here)

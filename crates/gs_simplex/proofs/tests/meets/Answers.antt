@@ -11,5 +11,6 @@ returns c = λ done.
     let p = c.args.p.now in let o = c.args.opening.now in let xs = c.take_all.new.table.numbers.items in
     let P : List ℤ → Type 0 = λ x. HasFeasibleSides p o (table_rows p x) in (
       c.if-not-is_shaped.ensures refl,
-      opening_from p o xs (c.if-not-take_all.ensures refl) (c.if-not-names_all_rows.ensures refl) (c.if-not-names_free_columns.ensures refl) (subst P c.deref.ensures.value (c.if-not-has_feasible_sides.ensures refl)) c.if-opening-p.false,
+      opening_from p o xs (c.if-not-take_all.ensures refl) (c.if-not-names_all_rows.ensures refl) (c.if-not-names_free_columns.ensures refl)
+          (subst P c.deref.ensures.value (c.if-not-has_feasible_sides.ensures refl)) c.if-opening-p.false,
     )

@@ -1,4 +1,5 @@
-use Rattle.std.proofs.Common.{◌≡◌, ◌+◌, ◌*◌, ◌^◌, ◌<◌, List, length, get_or, take, refl, ap, ◌∙◌, arith, rules, pos, ◌*ℤ◌, unsigned_abs, FitsSigned, of_z, to_z, to_z-of_z}
+use Rattle.std.proofs.Common.{◌≡◌, ◌+◌, ◌*◌, ◌^◌, ◌<◌, List, length, get_or, take, refl, ap, ◌∙◌, arith, rules, pos, ◌*ℤ◌, unsigned_abs, FitsSigned, of_z, to_z}
+use Rattle.std.proofs.Common.{to_z-of_z}
 use Rattle.std.proofs.{lemmas.Nat.{mul-add-lt}, Math.Nat.{mul_comm}}
 use Rattle.std.specs.Int.{w64}
 use Rattle.gs_model.specs.{Frame.{end_at}, Sums.{sum_z}}
@@ -11,12 +12,14 @@ use Rattle.gs_solve.proofs.{EndSteps.{form_is}, payoffs.add_row.Goals.{After-pay
 use Rattle.gs_solve.proofs.payoffs.add_row.Goals as goal
 
 -- where the walk stands, and what is known of the pair there
-at_pair : (c : In-Some) → IsTurn {X = Pair} c.args.row c.loop-pair.pair-iterator c.next.new.self c.in-Some.pair × IsKnown (abstract_frame c.args.form.now) (lists_of c.args.form.now) 1 c.args.end c.in-Some.pair
+at_pair : (c : In-Some) → IsTurn {X = Pair} c.args.row c.loop-pair.pair-iterator c.next.new.self c.in-Some.pair
+    × IsKnown (abstract_frame c.args.form.now) (lists_of c.args.form.now) 1 c.args.end c.in-Some.pair
 at_pair c =
     let u = form_is c.args.form.now in
     let t = turn {X = Pair} c.args.row c.loop-pair.pair-iterator c.next.new.self c.in-Some.pair c.loop-pair.invariant.on c.in-Some.ensures.steps in (
       t,
-      known (abstract_frame c.args.form.now) u.in_range (lists_of c.args.form.now) u.classes 1 u.one (modest (game_in c.args.form.now)) c.args.end c.requires.end c.args.class c.args.row c.requires.row c.loop-pair.pair-iterator
+      known (abstract_frame c.args.form.now) u.in_range (lists_of c.args.form.now) u.classes 1 u.one (modest (game_in c.args.form.now)) c.args.end
+          c.requires.end c.args.class c.args.row c.requires.row c.loop-pair.pair-iterator
           c.next.new.self c.in-Some.pair t,
     )
 
@@ -28,13 +31,26 @@ inside c =
     let at = goal.at.After-sequence_at-two c in
     let u = form_is c.args.form.now in
     let n = form_sizes f ls in
-    let k : c.sequence_at-one.result < n.ones = omega (arith, c.sequence_at-one.ensures, first_in f ls u c.args.end c.args.class c.requires.end c.requires.class) in
-    let l : c.sequence_at-two.result < c.args.twos = omega (arith, c.sequence_at-two.ensures, second_in f ls u c.args.end c.in-Some.pair.two c.requires.end (at_pair at.In-Some).1.class, c.requires.twos) in
-    omega (arith, mul-add-lt c.sequence_at-one.result c.args.twos c.sequence_at-two.result n.ones k l, c.requires.long, c.loop-pair.auto.sums, mul_comm c.args.twos n.ones)
+    let k : c.sequence_at-one.result < n.ones = omega (
+      arith,
+      c.sequence_at-one.ensures,
+      first_in f ls u c.args.end c.args.class c.requires.end
+          c.requires.class,
+    ) in
+    let l : c.sequence_at-two.result < c.args.twos = omega
+    (arith, c.sequence_at-two.ensures, second_in f ls u c.args.end c.in-Some.pair.two c.requires.end (at_pair at.In-Some).1.class, c.requires.twos) in
+    omega (
+      arith,
+      mul-add-lt c.sequence_at-one.result c.args.twos c.sequence_at-two.result n.ones k l,
+      c.requires.long,
+      c.loop-pair.auto.sums,
+      mul_comm c.args.twos n.ones,
+    )
 
 pays_is : (c : After-pays) → to_z w64 (of_z w64 c.pays.result) ≡ pair_pays 1 (end_at (abstract_frame c.args.form.now) c.args.end) c.in-Some.pair
 pays_is c =
-    let fits : FitsSigned w64 c.pays.result = search rules in to_z-of_z {w = w64} {z = c.pays.result} fits ∙ c.pays.ensures ∙ ap (λ e. pair_pays 1 e c.in-Some.pair) c.end_in-at.ensures.value
+    let fits : FitsSigned w64 c.pays.result = search rules in to_z-of_z {w = w64} {z = c.pays.result} fits ∙ c.pays.ensures
+    ∙ ap (λ e. pair_pays 1 e c.in-Some.pair) c.end_in-at.ensures.value
 
 pub loop-pair-init : goal.loop-pair-init
 loop-pair-init c =
@@ -42,7 +58,11 @@ loop-pair-init c =
     let row : List Pair = c.args.row in
     let left : List Pair = c.into_iter-pair-iterator.result in
     let begins : left ≡ row = cc in
-    record { on = begun row left begins; added = added_none (λ k. sum_z (v k) (take (passed row left) row)) c.args.sums.now (λ k. ap (λ n. sum_z (v k) (take n row)) (none_passed row left begins)) }
+    record {
+      on = begun row left begins;
+      added = added_none (λ k. sum_z (v k) (take (passed row left) row)) c.args.sums.now
+          (λ k. ap (λ n. sum_z (v k) (take n row)) (none_passed row left begins));
+    }
 
 pub sequence_at-two-requires-clause-class : goal.sequence_at-two-requires-clause-class
 sequence_at-two-requires-clause-class c = (at_pair (goal.at.sequence_at-two-requires-clause-class c).In-Some).1.class
@@ -64,7 +84,8 @@ add-requires-clause-fits c =
     let row : List Pair = c.args.row in
     let i = passed row c.loop-pair.pair-iterator in
     let place = c.sequence_at-one.result * c.args.twos + c.sequence_at-two.result in
-    let within = added_within (λ k. sum_z (pair_adds f ls z c.args.class k) (take i row)) c.args.sums.now c.loop-pair.sums (2 ^ 61) (2 ^ 42) (2 ^ 61 + 2 ^ 42) c.loop-pair.invariant.added c.requires.within
+    let within = added_within (λ k. sum_z (pair_adds f ls z c.args.class k) (take i row)) c.args.sums.now c.loop-pair.sums (2 ^ 61) (2 ^ 42)
+    (2 ^ 61 + 2 ^ 42) c.loop-pair.invariant.added c.requires.within
     (λ k. prefix_small f u.in_range ls u.classes u.one (modest (game_in c.args.form.now)) z c.requires.end c.args.class row c.requires.row k i) (omega arith) in
     let here = within place (inside at.After-sequence_at-two) in
     let both = abs_sum (get_or c.loop-pair.sums place (pos 0)) (to_z w64 (of_z w64 c.pays.result)) in
@@ -87,9 +108,11 @@ loop-pair-preserved c =
     ∙ ap (λ x. end_sequence f ls 1 z c.args.class * (form_sizes f ls).twos + x) c.sequence_at-two.ensures in
     record {
       on = t.on;
-      added = added_then (λ k. sum_z (v k) (take i row)) (λ k. unit place k *ℤ to_z w64 (of_z w64 c.pays.result)) (λ k. sum_z (v k) (take (passed row c.next.new.self) row)) c.args.sums.now c.loop-pair.sums c.add.new.sums
+      added = added_then (λ k. sum_z (v k) (take i row)) (λ k. unit place k *ℤ to_z w64 (of_z w64 c.pays.result))
+          (λ k. sum_z (v k) (take (passed row c.next.new.self) row)) c.args.sums.now c.loop-pair.sums c.add.new.sums
           c.loop-pair.invariant.added c.add.ensures
-          (λ k. sum_turned (v k) row c.loop-pair.pair-iterator c.next.new.self pair t _ _ refl (ap (λ x. unit x k *ℤ to_z w64 (of_z w64 c.pays.result)) cell ∙ ap (λ w. unit (cell_at f ls z c.args.class pair.two) k *ℤ w) (pays_is at.After-pays)));
+          (λ k. sum_turned (v k) row c.loop-pair.pair-iterator c.next.new.self pair t _ _ refl (ap (λ x. unit x k *ℤ to_z w64 (of_z w64 c.pays.result)) cell
+          ∙ ap (λ w. unit (cell_at f ls z c.args.class pair.two) k *ℤ w) (pays_is at.After-pays)));
     }
 
 pub returns : goal.returns
@@ -99,5 +122,7 @@ returns c =
     let u = form_is c.args.form.now in
     let row : List Pair = c.args.row in
     let v = pair_adds f ls c.args.end c.args.class in
-    added_same (λ k. sum_z (v k) (take (passed row c.loop-pair.pair-iterator) row)) (class_adds f ls c.args.end c.args.class) c.args.sums.now c.loop-pair.sums c.loop-pair.invariant.added
-    (λ k. sum_ended (v k) row c.loop-pair.pair-iterator c.in-None.ensures.steps.0 _ refl ∙ row_adds f u.in_range ls u.classes u.one (modest (game_in c.args.form.now)) c.args.end c.requires.end c.args.class row c.requires.row k)
+    added_same (λ k. sum_z (v k) (take (passed row c.loop-pair.pair-iterator) row)) (class_adds f ls c.args.end c.args.class) c.args.sums.now c.loop-pair.sums
+    c.loop-pair.invariant.added
+    (λ k. sum_ended (v k) row c.loop-pair.pair-iterator c.in-None.ensures.steps.0 _ refl
+    ∙ row_adds f u.in_range ls u.classes u.one (modest (game_in c.args.form.now)) c.args.end c.requires.end c.args.class row c.requires.row k)

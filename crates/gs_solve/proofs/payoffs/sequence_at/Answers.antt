@@ -9,7 +9,8 @@ use Rattle.gs_solve.proofs.payoffs.sequence_at.Goals as goal
 
 -- the step is the last one of the form's game
 step_is : (c : After-end_step-step) → last_step (abstract_frame c.args.form.now) c.args.player (at_end c.args.end) ≡ option_map step_of c.end_step-step.result
-step_is c = sym (subst (λ g. option_map step_of c.end_step-step.result ≡ last_step (frame_in g) c.args.player (at_end c.args.end)) c.game.ensures c.end_step-step.ensures)
+step_is c = sym (subst (λ g. option_map step_of c.end_step-step.result ≡ last_step (frame_in g) c.args.player (at_end c.args.end)) c.game.ensures
+    c.end_step-step.ensures)
 
 pub end_step-step-requires : goal.end_step-step-requires
 end_step-step-requires c = subst (λ g. c.args.end < end_count (frame_in g)) (sym c.game.ensures) c.requires.end
@@ -26,5 +27,6 @@ pub returns : goal.returns
 returns c =
     let f = abstract_frame c.args.form.now in
     let ls = lists_of c.args.form.now in
-    c.sequence_by.ensures ∙ ap (λ o. sequence_by f ls o c.end_round.result (first_member ls c.end_round.result c.args.class)) (sym (step_is (goal.at.returns c).After-end_step-step))
+    c.sequence_by.ensures ∙ ap (λ o. sequence_by f ls o c.end_round.result (first_member ls c.end_round.result c.args.class))
+    (sym (step_is (goal.at.returns c).After-end_step-step))
     ∙ ap (λ r. sequence_by f ls (last_step f c.args.player (at_end c.args.end)) r (first_member ls r c.args.class)) c.end_round.ensures.value

@@ -13,7 +13,8 @@ of_filter-requires-clause-parents c = subst AreParents (sym c.parents.ensures) (
 pub of_filter-requires-clause-classes : goal.of_filter-requires-clause-classes
 of_filter-requires-clause-classes c =
     let new = rows c.in_ok-lists.lists.items in
-    subst (λ (ps : List (List ℕ)). IsClasses ps new) (sym c.parents.ensures) (classes_of (frame_of (rules_of c.args.grouped.now.signals.now)) c.args.grouped.now.classes.now.lists (rows c.args.numbers.now) new c.in_ok-lists.ensures)
+    subst (λ (ps : List (List ℕ)). IsClasses ps new) (sym c.parents.ensures)
+    (classes_of (frame_of (rules_of c.args.grouped.now.signals.now)) c.args.grouped.now.classes.now.lists (rows c.args.numbers.now) new c.in_ok-lists.ensures)
 
 pub returns-clause-parted : goal.returns-clause-parted
 returns-clause-parted c =

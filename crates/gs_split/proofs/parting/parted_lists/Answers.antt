@@ -14,7 +14,13 @@ bounds-numbers-from c =
     omega (arith, c.from-in-loop-done.ensures, c.requires.rounds, length-rows c.args.numbers.now, c.loop-done-test.true, c.rounds-done-end.ensures.value, l)
 
 pub round_parted-requires-clause-top : goal.round_parted-requires-clause-top
-round_parted-requires-clause-top c = omega (arith, c.loop-done-test.true, c.rounds-done-end.ensures.value, last_round_of (rules_of c.args.grouped.now.signals.now))
+round_parted-requires-clause-top c = omega (
+  arith,
+  c.loop-done-test.true,
+  c.rounds-done-end.ensures.value,
+  last_round_of (rules_of
+      c.args.grouped.now.signals.now),
+)
 
 pub round_parted-requires-clause-any : goal.round_parted-requires-clause-any
 round_parted-requires-clause-any c = λ one.
@@ -28,14 +34,18 @@ round_parted-requires-clause-above c = λ more.
     let new = rows c.loop-done.lists.items in
     let is = c.last_classes-above.ensures ∙ ap (λ (vs : List (Vec ℕ Global)). last_class_list (rows vs)) c.deref.ensures.value in
     let n : length new ≡ c.loop-done.done + 1 - 1 = omega (arith, c.loop-done.invariant.long) in
-    ap (λ (l : List ℕ). length l) is ∙ above_long f c.args.grouped.now.classes.now.lists (rows c.args.numbers.now) new c.loop-done.invariant.each (omega (arith, more, c.loop-done.invariant.long)) ∙ ap (signal_count f) n
+    ap (λ (l : List ℕ). length l) is ∙ above_long f c.args.grouped.now.classes.now.lists (rows c.args.numbers.now) new c.loop-done.invariant.each
+    (omega (arith, more, c.loop-done.invariant.long)) ∙ ap (signal_count f) n
 
 pub round_parted-requires-clause-numbers : goal.round_parted-requires-clause-numbers
 round_parted-requires-clause-numbers c =
     let f = frame_of (rules_of c.args.grouped.now.signals.now) in
-    let lt : c.loop-done.done + 1 ≤ last_round f = omega (arith, c.loop-done-test.true, c.rounds-done-end.ensures.value, last_round_of (rules_of c.args.grouped.now.signals.now)) in
-    let at = c.deref-in-loop-done.ensures.value ∙ round_read c.args.numbers.now c.from-in-loop-done.result c.index-numbers-from.result (omega (arith, c.from-in-loop-done.ensures, c.requires.rounds, length-rows c.args.numbers.now, lt)) c.index-numbers-from.is in
-    ap (λ (l : List ℕ). length l) at ∙ ap (λ k. length (list_of (rows c.args.numbers.now) (k + 1))) c.from-in-loop-done.ensures ∙ c.requires.each (c.loop-done.done + 1) (omega arith) lt
+    let lt : c.loop-done.done + 1 ≤ last_round f = omega
+    (arith, c.loop-done-test.true, c.rounds-done-end.ensures.value, last_round_of (rules_of c.args.grouped.now.signals.now)) in
+    let at = c.deref-in-loop-done.ensures.value ∙ round_read c.args.numbers.now c.from-in-loop-done.result c.index-numbers-from.result
+    (omega (arith, c.from-in-loop-done.ensures, c.requires.rounds, length-rows c.args.numbers.now, lt)) c.index-numbers-from.is in
+    ap (λ (l : List ℕ). length l) at ∙ ap (λ k. length (list_of (rows c.args.numbers.now) (k + 1))) c.from-in-loop-done.ensures
+    ∙ c.requires.each (c.loop-done.done + 1) (omega arith) lt
 
 pub loop-done-preserved : goal.loop-done-preserved
 loop-done-preserved c =
@@ -45,20 +55,26 @@ loop-done-preserved c =
     let lists = c.loop-done.lists.items in
     let here = c.in_ok-here.here in
     let above = c.last_classes-above.result.now in
-    let lt : c.loop-done.done + 1 ≤ last_round f = omega (arith, c.loop-done-test.true, c.rounds-done-end.ensures.value, last_round_of (rules_of c.args.grouped.now.signals.now)) in
+    let lt : c.loop-done.done + 1 ≤ last_round f = omega
+    (arith, c.loop-done-test.true, c.rounds-done-end.ensures.value, last_round_of (rules_of c.args.grouped.now.signals.now)) in
     let is = c.last_classes-above.ensures ∙ ap (λ (vs : List (Vec ℕ Global)). last_class_list (rows vs)) c.deref.ensures.value in
-    let at = c.deref-in-loop-done.ensures.value ∙ round_read c.args.numbers.now c.from-in-loop-done.result c.index-numbers-from.result (omega (arith, c.from-in-loop-done.ensures, c.requires.rounds, length-rows c.args.numbers.now, lt)) c.index-numbers-from.is ∙ ap (λ k. list_of numbers (k + 1)) c.from-in-loop-done.ensures in
-    let more : rows c.push.new.self.items ≡ rows lists ++ here.items ∷ [] = ap (λ (vs : List (Vec ℕ Global)). rows vs) c.in_ok-push.ensures.items ∙ map-append (λ (v : Vec ℕ Global). v.items) lists (here ∷ []) in
+    let at = c.deref-in-loop-done.ensures.value ∙ round_read c.args.numbers.now c.from-in-loop-done.result c.index-numbers-from.result
+    (omega (arith, c.from-in-loop-done.ensures, c.requires.rounds, length-rows c.args.numbers.now, lt)) c.index-numbers-from.is
+    ∙ ap (λ k. list_of numbers (k + 1)) c.from-in-loop-done.ensures in
+    let more : rows c.push.new.self.items ≡ rows lists ++ here.items ∷ [] = ap (λ (vs : List (Vec ℕ Global)). rows vs) c.in_ok-push.ensures.items
+    ∙ map-append (λ (v : Vec ℕ Global). v.items) lists (here ∷ []) in
     let n : c.loop-done.done + 1 ≡ suc (length (rows lists)) = omega (arith, c.loop-done.invariant.long) in
     record {
       long = ap (λ (l : ClassLists). length l) more ∙ length-append (rows lists) (here.items ∷ []) ∙ ap (λ k. k + 1) c.loop-done.invariant.long;
       each = subst (ArePartedTo f old numbers) (sym more)
           (turned_more f old numbers (rows lists) above here.items is c.loop-done.invariant.each
-          (subst (λ r. IsRoundParted f old above (list_of numbers r) r here.items) n (subst (λ (l : List ℕ). IsRoundParted f old above l (c.loop-done.done + 1) here.items) at c.in_ok-here.ensures)));
+          (subst (λ r. IsRoundParted f old above (list_of numbers r) r here.items) n
+          (subst (λ (l : List ℕ). IsRoundParted f old above l (c.loop-done.done + 1) here.items) at c.in_ok-here.ensures)));
     }
 
 pub returns : goal.returns
 returns c =
     let g = rules_of c.args.grouped.now.signals.now in
     all_turned (frame_of g) c.args.grouped.now.classes.now.lists (rows c.args.numbers.now) (rows c.loop-done.lists.items)
-    (omega (arith, c.loop-done.invariant.long, c.loop-done-test.false, c.loop-done.auto.done-end, c.rounds-done-end.ensures.value, last_round_of g)) c.loop-done.invariant.each
+    (omega (arith, c.loop-done.invariant.long, c.loop-done-test.false, c.loop-done.auto.done-end, c.rounds-done-end.ensures.value, last_round_of g))
+    c.loop-done.invariant.each

@@ -25,7 +25,8 @@ round_classes-requires c =
 before : (c : After-deref) → c.deref.result.now ≡ list_of c.args.grouped.now.classes.now.lists c.args.round
 before c =
     let all = c.args.grouped.now.classes.now.classes.rounds ∙ ap (λ (ps : List (List ℕ)). length ps) c.args.grouped.now.parents in
-    list_read c.lists.result.now c.args.grouped.now.classes.now.lists c.from.result c.args.round c.index-lists-from.result c.deref.result.now c.lists.ensures.value c.from.ensures c.requires.some (omega (arith, all, c.requires.top)) c.index-lists-from.is c.deref.ensures.value
+    list_read c.lists.result.now c.args.grouped.now.classes.now.lists c.from.result c.args.round c.index-lists-from.result c.deref.result.now
+    c.lists.ensures.value c.from.ensures c.requires.some (omega (arith, all, c.requires.top)) c.index-lists-from.is c.deref.ensures.value
 
 pub invariant_of-keys : goal.invariant_of-keys
 invariant_of-keys c =
@@ -34,7 +35,8 @@ invariant_of-keys c =
     let top : round ≤ round_count g = omega (arith, c.requires.top, last_round_of g) in
     let many = sym (signal_count_is g round c.requires.some top) ∙ sym c.requires.numbers in
     record {
-      old = ap (λ (l : List ℕ). length l) (before (goal.at.invariant_of-keys c).After-deref) ∙ list_long g c.args.grouped.now.classes.now c.args.grouped.now.parents round c.requires.some top ∙ many;
+      old = ap (λ (l : List ℕ). length l) (before (goal.at.invariant_of-keys c).After-deref)
+          ∙ list_long g c.args.grouped.now.classes.now c.args.grouped.now.parents round c.requires.some top ∙ many;
       all = ap (λ (l : List ℕ). length l) c.parents_in.ensures ∙ length-parents g round ∙ many;
       in_range = subst (λ (ps : List ℕ). All (λ p. p < length c.args.above.now) ps) (sym c.parents_in.ensures)
           (parents_under c.args.grouped.now.signals.now round (length c.args.above.now) c.requires.some top c.requires.any c.requires.above);
@@ -54,6 +56,7 @@ returns c =
     (λ (v : Vec ℕ Global). length v.items ≡ length numbers)
     (λ (v : Vec ℕ Global). IsKeyClasses (turn_key c.deref.result.now above c.parents_in.result.now numbers) v.items)
     (λ (v : Vec ℕ Global). IsRoundParted f lists above numbers round v.items)
-    (λ v long h. round_made f lists round above numbers v.items c.deref.result.now c.parents_in.result.now (before (goal.at.returns c).After-deref) ps c.requires.numbers
+    (λ v long h. round_made f lists round above numbers v.items c.deref.result.now c.parents_in.result.now (before (goal.at.returns c).After-deref) ps
+    c.requires.numbers
     (λ i one l. first_parents c.args.grouped.now.signals.now round i one l) c.requires.some long h)
     c.round_classes.ensures.long c.round_classes.ensures.classes

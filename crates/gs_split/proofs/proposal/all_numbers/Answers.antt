@@ -14,7 +14,8 @@ loop-round-init c =
     let lists = c.args.grouped.now.classes.now.lists in
     let r = c.rounds-round.result in
     let is : r ≡ last_round f = omega (arith, c.rounds-round.ensures.value, last_round_of g) in
-    let e : c.push.new.self.items ≡ c.args.last ∷ [] = c.in_ok-push.ensures.items ∙ ap (λ (xs : List (Vec ℕ Global)). xs ++ c.args.last ∷ []) c.in_ok-numbers.ensures.items in
+    let e : c.push.new.self.items ≡ c.args.last ∷ [] = c.in_ok-push.ensures.items
+    ∙ ap (λ (xs : List (Vec ℕ Global)). xs ++ c.args.last ∷ []) c.in_ok-numbers.ensures.items in
     record {
       some = omega (arith, c.rounds-round.ensures.some);
       within = omega (arith, is);
@@ -35,7 +36,8 @@ fair_numbers-requires-clause-fair c =
     let lists = c.args.grouped.now.classes.now.lists in
     let i = c.loop-round.invariant in
     let now = rows c.loop-round.numbers.items in
-    let at : c.first_list-below.result.now ≡ get_or now 0 [] = c.first_list-below.ensures ∙ ap (λ (vs : List (Vec ℕ Global)). get_or (rows vs) 0 []) c.deref.ensures.value in
+    let at : c.first_list-below.result.now ≡ get_or now 0 [] = c.first_list-below.ensures
+    ∙ ap (λ (vs : List (Vec ℕ Global)). get_or (rows vs) 0 []) c.deref.ensures.value in
     let e : c.loop-round.round + 0 ≡ c.loop-round.round - 1 + 1 = omega (arith, i.some) in
     subst (λ (l : List ℕ). AreFair f lists (c.loop-round.round - 1 + 1) l) (sym at)
     (subst (λ r. AreFair f lists r (get_or now 0 [])) e (i.fair.each 0 (omega (arith, i.fair.rounds, i.within))))

@@ -16,7 +16,8 @@ parents_in-parents-requires-clause-last c = omega (arith, c.requires.before_last
 next : (c : After-deref) → c.deref.result.now ≡ list_of c.args.grouped.now.classes.now.lists (c.args.round + 1)
 next c =
     let all = c.args.grouped.now.classes.now.classes.rounds ∙ ap (λ (ps : List (List ℕ)). length ps) c.args.grouped.now.parents in
-    list_next c.lists.result.now c.args.grouped.now.classes.now.lists c.from.result c.args.round c.index-lists-from.result c.deref.result.now c.lists.ensures.value c.from.ensures (omega (arith, all, c.requires.before_last)) c.index-lists-from.is c.deref.ensures.value
+    list_next c.lists.result.now c.args.grouped.now.classes.now.lists c.from.result c.args.round c.index-lists-from.result c.deref.result.now
+    c.lists.ensures.value c.from.ensures (omega (arith, all, c.requires.before_last)) c.index-lists-from.is c.deref.ensures.value
 
 -- its signals, each with a parent
 many : (c : After-parents_in-parents) → length (signals (rules_of c.args.grouped.now.signals.now) (c.args.round + 1)) ≡ length c.parents_in-parents.result.now
@@ -32,19 +33,22 @@ pub child_numbers-requires-clause-classes : goal.child_numbers-requires-clause-c
 child_numbers-requires-clause-classes c =
     let g = rules_of c.args.grouped.now.signals.now in
     ap (λ (l : List ℕ). length l) (next (goal.at.child_numbers-requires-clause-classes c).After-deref)
-    ∙ list_long g c.args.grouped.now.classes.now c.args.grouped.now.parents (c.args.round + 1) (omega arith) (omega (arith, c.requires.before_last, last_round_of g)) ∙ many (goal.at.child_numbers-requires-clause-classes c).After-parents_in-parents
+    ∙ list_long g c.args.grouped.now.classes.now c.args.grouped.now.parents (c.args.round + 1) (omega arith)
+    (omega (arith, c.requires.before_last, last_round_of g)) ∙ many (goal.at.child_numbers-requires-clause-classes c).After-parents_in-parents
 
 pub child_numbers-requires-clause-numbers : goal.child_numbers-requires-clause-numbers
 child_numbers-requires-clause-numbers c =
     let g = rules_of c.args.grouped.now.signals.now in
-    c.requires.fair.long ∙ signal_count_is g (c.args.round + 1) (omega arith) (omega (arith, c.requires.before_last, last_round_of g)) ∙ many (goal.at.child_numbers-requires-clause-numbers c).After-parents_in-parents
+    c.requires.fair.long ∙ signal_count_is g (c.args.round + 1) (omega arith) (omega (arith, c.requires.before_last, last_round_of g))
+    ∙ many (goal.at.child_numbers-requires-clause-numbers c).After-parents_in-parents
 
 pub child_numbers-requires-clause-in_range : goal.child_numbers-requires-clause-in_range
 child_numbers-requires-clause-in_range c =
     let f = frame_of (rules_of c.args.grouped.now.signals.now) in
     let down : c.args.round ≡ c.args.round + 1 - 1 = omega arith in
     subst (λ (ps : List ℕ). All (λ p. p < c.count.result) ps) (sym c.parents_in-parents.ensures)
-    (parents_under c.args.grouped.now.signals.now (c.args.round + 1) c.count.result (omega arith) (omega (arith, c.requires.before_last, last_round_of (rules_of c.args.grouped.now.signals.now))) (λ one. absurd (omega (arith, one, c.requires.some)))
+    (parents_under c.args.grouped.now.signals.now (c.args.round + 1) c.count.result (omega arith)
+    (omega (arith, c.requires.before_last, last_round_of (rules_of c.args.grouped.now.signals.now))) (λ one. absurd (omega (arith, one, c.requires.some)))
     (λ _. count (goal.at.child_numbers-requires-clause-in_range c).After-count ∙ ap (signal_count f) down))
 
 pub returns : goal.returns
@@ -58,7 +62,8 @@ returns c =
     (λ (v : Vec ℕ Global). length v.items ≡ c.count.result)
     (λ (v : Vec ℕ Global). (x : ℕ) → x < c.count.result → get_or v.items x 0 ≡ child_number c.parents_in-parents.result.now c.deref.result.now below x)
     (λ (v : Vec ℕ Global). AreFair (frame_of g) lists round v.items)
-    (λ v long h. children_fair g (playable c.args.grouped.now.signals.now) lists round below v.items c.requires.some c.requires.before_last c.requires.fair (long ∙ many)
+    (λ v long h. children_fair g (playable c.args.grouped.now.signals.now) lists round below v.items c.requires.some c.requires.before_last c.requires.fair
+    (long ∙ many)
     (λ x l. subst (λ (k : List ℕ). get_or v.items x 0 ≡ child_number (parents g (round + 1)) k below x) (next (goal.at.returns c).After-deref)
     (subst (λ (k : List ℕ). get_or v.items x 0 ≡ child_number k c.deref.result.now below x) c.parents_in-parents.ensures (h x (omega (arith, l, long))))))
     c.child_numbers.ensures.long c.child_numbers.ensures.each

@@ -18,4 +18,5 @@ pub loop-at-preserved : goal.loop-at-preserved
 loop-at-preserved c =
     let key = turn_key c.args.keys.now.before.now c.args.keys.now.above.now c.args.keys.now.parents.now c.args.keys.now.numbers.now in
     let n = c.in_ok-class.ensures in
-    seen_more key_eq key_exact key _ _ _ _ _ _ _ c.loop-at.invariant (sym c.key_at-key.ensures) n.stored n.grown n.few n.unique n.some c.in_ok-push-2.ensures.items
+    seen_more key_eq key_exact key _ _ _ _ _ _ _ c.loop-at.invariant (sym c.key_at-key.ensures) n.stored n.grown n.few n.unique n.some
+    c.in_ok-push-2.ensures.items

@@ -6,7 +6,10 @@ use Rattle.gs_split.proofs.Agreed.{numbers_of_children, numbers_of_deals}
 use Rattle.gs_split.proofs.sides.side_at.Goals as goal
 
 pub returns-then-round-rounds-clause-side : goal.returns-then-round-rounds-clause-side
-returns-then-round-rounds-clause-side c = (c.requires.some, omega (arith, c.if-round-rounds.true, c.rounds.ensures.value, last_round_of (rules_of c.args.signals.now)))
+returns-then-round-rounds-clause-side c = (
+  c.requires.some,
+  omega (arith, c.if-round-rounds.true, c.rounds.ensures.value, last_round_of (rules_of c.args.signals.now)),
+)
 
 pub returns-then-round-rounds-clause-turn : goal.returns-then-round-rounds-clause-turn
 returns-then-round-rounds-clause-turn c =
@@ -20,5 +23,11 @@ returns-else-round-rounds-clause-side c = (c.requires.some, c.requires.top)
 pub returns-else-round-rounds-clause-turn : goal.returns-else-round-rounds-clause-turn
 returns-else-round-rounds-clause-turn c =
     let f = frame_of (rules_of c.args.signals.now) in
-    let last : c.args.round ≡ last_round f = omega (arith, c.if-round-rounds.false, c.rounds.ensures.value, last_round_of (rules_of c.args.signals.now), c.requires.top) in
+    let last : c.args.round ≡ last_round f = omega (
+      arith,
+      c.if-round-rounds.false,
+      c.rounds.ensures.value,
+      last_round_of (rules_of c.args.signals.now),
+      c.requires.top,
+    ) in
     λ lists numbers h. numbers_of_deals f lists c.args.round numbers last h

@@ -13,31 +13,43 @@ pub count-count-requires-clause-in_range : goal.count-count-requires-clause-in_r
 count-count-requires-clause-in_range c = side_top (rules_of c.args.grouped.now.signals.now) c.side_at-side.result c.args.round c.side_at-side.ensures.side
 
 -- there are as many keys as the side has
-many : (c : In_ok-keys) (keys : List ℕ) → keys ≡ c.in_ok-keys.keys.items → length keys ≡ key_count (rules_of c.args.grouped.now.signals.now) c.side_at-side.result c.args.round
+many : (c : In_ok-keys) (keys : List ℕ) → keys ≡ c.in_ok-keys.keys.items
+    → length keys ≡ key_count (rules_of c.args.grouped.now.signals.now) c.side_at-side.result c.args.round
 many c keys is =
     ap (λ (l : List ℕ). length l) (is ∙ c.in_ok-keys.ensures)
-    ∙ keys_long (rules_of c.args.grouped.now.signals.now) c.args.grouped.now.classes.now c.args.grouped.now.parents (playable c.args.grouped.now.signals.now) c.side_at-side.result c.args.round c.side_at-side.ensures.side
+    ∙ keys_long (rules_of c.args.grouped.now.signals.now) c.args.grouped.now.classes.now c.args.grouped.now.parents (playable c.args.grouped.now.signals.now)
+    c.side_at-side.result c.args.round c.side_at-side.ensures.side
 
 pub side_firsts-requires-clause-all : goal.side_firsts-requires-clause-all
 side_firsts-requires-clause-all c = many (goal.at.side_firsts-requires-clause-all c).In_ok-keys c.deref.result.now c.deref.ensures.value
 
 -- what is known of the stand-ins
-stands : (c : In_ok-firsts) → AreSideFirsts (frame_of (rules_of c.args.grouped.now.signals.now)) c.args.grouped.now.classes.now.lists c.side_at-side.result c.args.round c.in_ok-firsts.firsts.items
+stands : (c : In_ok-firsts) → AreSideFirsts (frame_of (rules_of c.args.grouped.now.signals.now)) c.args.grouped.now.classes.now.lists c.side_at-side.result
+    c.args.round c.in_ok-firsts.firsts.items
 stands c = c.in_ok-firsts.ensures c.args.grouped.now.classes.now.lists (c.deref.ensures.value ∙ c.in_ok-keys.ensures)
 
 pub settled_classes-requires-clause-all : goal.settled_classes-requires-clause-all
 settled_classes-requires-clause-all c =
     let g = rules_of c.args.grouped.now.signals.now in
-    ap (λ (l : List ℕ). length l) c.deref-2.ensures.value ∙ (stands (goal.at.settled_classes-requires-clause-all c).In_ok-firsts).long ∙ side_signals g c.side_at-side.result c.args.round c.side_at-side.ensures.side
+    ap (λ (l : List ℕ). length l) c.deref-2.ensures.value ∙ (stands (goal.at.settled_classes-requires-clause-all c).In_ok-firsts).long
+    ∙ side_signals g c.side_at-side.result c.args.round c.side_at-side.ensures.side
     ∙ sym (side_classes g c.args.grouped.now.classes.now c.args.grouped.now.parents c.side_at-side.result c.args.round c.side_at-side.ensures.side)
 
 pub index-first-requires : goal.index-first-requires
 index-first-requires c =
-    omega (arith, (stands (goal.at.index-first-requires c).In_ok-firsts).long, side_signals (rules_of c.args.grouped.now.signals.now) c.side_at-side.result c.args.round c.side_at-side.ensures.side, c.count-count.ensures.value, c.loop-signal-test.true)
+    omega (
+      arith,
+      (stands (goal.at.index-first-requires c).In_ok-firsts).long,
+      side_signals (rules_of c.args.grouped.now.signals.now) c.side_at-side.result
+          c.args.round c.side_at-side.ensures.side,
+      c.count-count.ensures.value,
+      c.loop-signal-test.true,
+    )
 
 pub class_of-class-requires-clause-within : goal.class_of-class-requires-clause-within
 class_of-class-requires-clause-within c =
-    let n = side_classes (rules_of c.args.grouped.now.signals.now) c.args.grouped.now.classes.now c.args.grouped.now.parents c.side_at-side.result c.args.round c.side_at-side.ensures.side in
+    let n = side_classes (rules_of c.args.grouped.now.signals.now) c.args.grouped.now.classes.now c.args.grouped.now.parents c.side_at-side.result c.args.round
+    c.side_at-side.ensures.side in
     omega (arith, n, c.count-count.ensures.value, c.loop-signal-test.true)
 
 pub side_sums-requires-clause-all : goal.side_sums-requires-clause-all
@@ -45,17 +57,26 @@ side_sums-requires-clause-all c = many (goal.at.side_sums-requires-clause-all c)
 
 -- what a signal's sums are
 abbrev sign : In_ok-settled → ℕ → List Part → Type 0
-sign c = AreClassSums (frame_of (rules_of c.args.grouped.now.signals.now)) c.args.grouped.now.classes.now.lists c.side_at-side.result c.args.round c.in_ok-settled.settled.items
+sign c = AreClassSums (frame_of (rules_of c.args.grouped.now.signals.now)) c.args.grouped.now.classes.now.lists c.side_at-side.result c.args.round
+    c.in_ok-settled.settled.items
 
 pub loop-signal-preserved-then-first-signal : goal.loop-signal-preserved-then-first-signal
 loop-signal-preserved-then-first-signal c =
     let s = sign (goal.at.loop-signal-preserved-then-first-signal c).In_ok-settled in
     let firsts = stands (goal.at.loop-signal-preserved-then-first-signal c).In_ok-firsts in
     let signal = c.loop-signal.signal in
-    let here : signal < length c.in_ok-firsts.firsts.items = omega (arith, firsts.long, side_signals (rules_of c.args.grouped.now.signals.now) c.side_at-side.result c.args.round c.side_at-side.ensures.side, c.count-count.ensures.value, c.loop-signal-test.true) in
+    let here : signal < length c.in_ok-firsts.firsts.items =
+    omega (
+      arith,
+      firsts.long,
+      side_signals (rules_of c.args.grouped.now.signals.now) c.side_at-side.result c.args.round c.side_at-side.ensures.side,
+      c.count-count.ensures.value,
+      c.loop-signal-test.true,
+    ) in
     let first = get_or_read c.in_ok-firsts.firsts.items signal c.index-first.result.now here c.index-first.ensures 0 in
     numbered_again part_eq part_decides s _ _ _ _ c.index-first.result.now _ c.loop-signal.invariant c.if-first-signal.true c.index-number.ensures
-    (λ a h. sums_again (frame_of (rules_of c.args.grouped.now.signals.now)) c.args.grouped.now.classes.now.lists c.args.round c.side_at-side.result _ c.in_ok-settled.settled.items signal a firsts here (subst (λ i. s i a) first h)) c.in_ok-push.ensures.items
+    (λ a h. sums_again (frame_of (rules_of c.args.grouped.now.signals.now)) c.args.grouped.now.classes.now.lists c.args.round c.side_at-side.result _
+    c.in_ok-settled.settled.items signal a firsts here (subst (λ i. s i a) first h)) c.in_ok-push.ensures.items
 
 made : (c : Joined-index) → sign (goal.at.Joined-index c).In_ok-settled c.loop-signal.signal c.if-index.sums.items
 made c =
@@ -64,12 +85,15 @@ made c =
     let settled = c.in_ok-settled.settled.items in
     let signal = c.loop-signal.signal in
     let class : c.class_of-class.result ≡ class_of lists c.args.round signal = c.class_of-class.ensures.value in
-    let lc : c.class_of-class.result - 1 < length settled = omega (arith, c.in_ok-settled.ensures.long, c.class_of-class.ensures.class.0, c.class_of-class.ensures.class.1) in
+    let lc : c.class_of-class.result - 1 < length settled =
+    omega (arith, c.in_ok-settled.ensures.long, c.class_of-class.ensures.class.0, c.class_of-class.ensures.class.1) in
     let is = get_or_read settled (c.class_of-class.result - 1) c.index.result.now lc c.index.ensures false ∙ ap (λ k. get_or settled (k - 1) false) class in
     elim c.if-index.branch [
-      | then-index w ↦ sums_none f lists c.args.round c.side_at-side.result settled signal _ (sym is ∙ w.if-index.true) (ap (λ (v : Vec Part Global). v.items) w.sums-is ∙ w.new-sums.ensures.items)
+      | then-index w ↦ sums_none f lists c.args.round c.side_at-side.result settled signal _ (sym is ∙ w.if-index.true)
+          (ap (λ (v : Vec Part Global). v.items) w.sums-is ∙ w.new-sums.ensures.items)
       | else-index+in_ok-sums w ↦ sums_made f lists c.args.round c.side_at-side.result settled signal _ (sym is ∙ w.if-index.false)
-          (subst (λ (v : Vec Part Global). AreAmounts f lists c.side_at-side.result c.args.round signal v.items) (sym w.sums-is) (w.in_ok-sums.ensures lists (w.deref-else-index.ensures.value ∙ c.in_ok-keys.ensures)))
+          (subst (λ (v : Vec Part Global). AreAmounts f lists c.side_at-side.result c.args.round signal v.items) (sym w.sums-is)
+          (w.in_ok-sums.ensures lists (w.deref-else-index.ensures.value ∙ c.in_ok-keys.ensures)))
     ]
 
 pub loop-signal-preserved : goal.loop-signal-preserved
@@ -89,12 +113,22 @@ returns c =
     let firsts = c.in_ok-firsts.firsts.items in
     let stand = stands (goal.at.returns c).In_ok-firsts in
     let numbers = c.loop-signal.invariant in
-    let long : length c.loop-signal.numbers.items ≡ signal_count f round = omega (arith, side_signals g c.side_at-side.result round c.side_at-side.ensures.side, c.count-count.ensures.value, numbers.long, c.loop-signal-test.false) in
-    let known : AreSettled lists round firsts settled = subst (λ (l : List ℕ). AreSettled lists round l settled) c.deref-2.ensures.value c.in_ok-settled.ensures in
+    let long : length c.loop-signal.numbers.items ≡ signal_count f round =
+    omega (
+      arith,
+      side_signals g c.side_at-side.result round c.side_at-side.ensures.side,
+      c.count-count.ensures.value,
+      numbers.long,
+      c.loop-signal-test.false,
+    ) in
+    let known : AreSettled lists round firsts settled = subst (λ (l : List ℕ). AreSettled lists round l settled) c.deref-2.ensures.value
+    c.in_ok-settled.ensures in
     let in_firsts : (i : ℕ) → i < length c.loop-signal.numbers.items → i < length firsts = λ i l. omega (arith, l, long, stand.long) in
     c.side_at-side.ensures.turn lists c.loop-signal.numbers.items (record {
       long = long;
-      same = numbers_are part_eq part_decides (sign (goal.at.returns c).In_ok-settled) c.loop-signal.seen.keys c.loop-signal.numbers.items numbers.distinct numbers.leads
+      same = numbers_are part_eq part_decides (sign (goal.at.returns c).In_ok-settled) c.loop-signal.seen.keys c.loop-signal.numbers.items numbers.distinct
+          numbers.leads
           (λ i j. class_of lists round i ≡ class_of lists round j) (λ i j. HaveEqualAmounts f lists c.side_at-side.result round i j)
-          (λ i j a b li lj same ha hb. sums_law f lists round c.side_at-side.result firsts settled i j a b stand known (in_firsts i li) (in_firsts j lj) same ha hb);
+          (λ i j a b li lj same ha hb. sums_law f lists round c.side_at-side.result firsts settled i j a b stand known (in_firsts i li)
+          (in_firsts j lj) same ha hb);
     })

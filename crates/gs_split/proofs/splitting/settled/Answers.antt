@@ -10,20 +10,24 @@ use Rattle.gs_split.proofs.splitting.settled.Goals as goal
 pub turn-requires-clause-known : goal.turn-requires-clause-known
 turn-requires-clause-known c =
     let g = rules_of c.args.signals.now in
-    none_known (frame_of g) c.args.from.now.lists c.deref.result.now c.from.result (c.deref.ensures.value ∙ c.in_ok-known.ensures.items_if_clones_equal (λ y k. search rules)) (omega (arith, c.from.ensures, c.rounds.ensures.value, last_round_of g))
+    none_known (frame_of g) c.args.from.now.lists c.deref.result.now c.from.result
+    (c.deref.ensures.value ∙ c.in_ok-known.ensures.items_if_clones_equal (λ y k. search rules))
+    (omega (arith, c.from.ensures, c.rounds.ensures.value, last_round_of g))
 
 pub loop-total-init : goal.loop-total-init
 loop-total-init c =
     let g = rules_of c.args.signals.now in
     record {
       parents = search rules;
-      known = none_known (frame_of g) c.in_ok-classes.classes.lists c.in_ok-known.known.items c.from.result (c.in_ok-known.ensures.items_if_clones_equal (λ y k. search rules)) (omega (arith, c.from.ensures, c.rounds.ensures.value, last_round_of g));
+      known = none_known (frame_of g) c.in_ok-classes.classes.lists c.in_ok-known.known.items c.from.result
+          (c.in_ok-known.ensures.items_if_clones_equal (λ y k. search rules)) (omega (arith, c.from.ensures, c.rounds.ensures.value, last_round_of g));
       underway = search rules;
     }
 
 pub turn-requires-in-loop-total-clause-known : goal.turn-requires-in-loop-total-clause-known
 turn-requires-in-loop-total-clause-known c =
-    subst (λ (k : List Bool). AreKnown (frame_of (rules_of c.args.signals.now)) c.loop-total.classes.lists k) (sym c.deref-in-loop-total.ensures.value) c.loop-total.invariant.known
+    subst (λ (k : List Bool). AreKnown (frame_of (rules_of c.args.signals.now)) c.loop-total.classes.lists k) (sym c.deref-in-loop-total.ensures.value)
+    c.loop-total.invariant.known
 
 pub loop-total-preserved : goal.loop-total-preserved
 loop-total-preserved c =
@@ -34,7 +38,8 @@ loop-total-preserved c =
     record {
       parents = c.in_ok-finer.ensures.parents;
       known = c.in_ok-known-2.ensures;
-      underway = one_more f (in_range g (playable c.args.signals.now)) c.args.from.now.lists now.lists c.loop-total.total k c.loop-total.invariant.underway c.in_ok-finer.finer.lists
+      underway = one_more f (in_range g (playable c.args.signals.now)) c.args.from.now.lists now.lists c.loop-total.total k c.loop-total.invariant.underway
+          c.in_ok-finer.finer.lists
           c.class_total-total-in-loop-total.result c.in_ok-finer.ensures.turn c.class_total-total-in-loop-total.ensures.value;
     }
 
@@ -45,4 +50,5 @@ returns-clause-coarsest c =
     let p = playable c.args.signals.now in
     let now = c.loop-total.classes in
     let k = over f now c.loop-total.invariant.parents c.class_total.ensures.classes in
-    ended f (in_range g p) c.args.from.now.lists now.lists c.loop-total.total k c.loop-total.invariant.underway (omega (arith, last_round_of g, p.some)) (omega (arith, c.loop-total-test.false, c.class_total.ensures.value))
+    ended f (in_range g p) c.args.from.now.lists now.lists c.loop-total.total k c.loop-total.invariant.underway (omega (arith, last_round_of g, p.some))
+    (omega (arith, c.loop-total-test.false, c.class_total.ensures.value))

@@ -31,4 +31,5 @@ pub returns : goal.returns
 returns c =
     let f = frame_of (rules_of c.args.signals.now) in
     all_known f c.args.before.now.lists c.args.classes.now.lists c.loop-above.above c.loop-above.known.items
-    (omega (arith, c.loop-above-test.false, c.loop-above.auto.above-end, c.rounds-last.ensures.value, last_round_of (rules_of c.args.signals.now))) c.loop-above.invariant
+    (omega (arith, c.loop-above-test.false, c.loop-above.auto.above-end, c.rounds-last.ensures.value, last_round_of (rules_of c.args.signals.now)))
+    c.loop-above.invariant

@@ -13,5 +13,6 @@ returns-then-known c =
     let g = rules_of c.args.grouped.now.signals.now in
     let n = signal_count_is g c.args.round c.requires.some (omega (arith, c.requires.top, last_round_of g)) in
     IfOk-weaker c.vec.result _ _
-    (λ v h. known_numbers (frame_of g) c.args.grouped.now.classes.now.lists c.args.round v.items c.count.result (h (λ y k. search rules)) (c.count.ensures.value ∙ sym n) (c.requires.known c.if-known.true))
+    (λ v h. known_numbers (frame_of g) c.args.grouped.now.classes.now.lists c.args.round v.items c.count.result (h (λ y k. search rules))
+    (c.count.ensures.value ∙ sym n) (c.requires.known c.if-known.true))
     c.vec.ensures.items_if_clones_equal

@@ -8,7 +8,8 @@ use Rattle.gs_split.proofs.{Turned.{exact_have, turn_of}, turns.turn.Goals.{Afte
 use Rattle.gs_split.proofs.turns.turn.Goals as goal
 
 exact : (c : After-deref) → AreExact (frame_of (rules_of c.args.signals.now)) c.args.classes.now.lists (rows c.deref.result.now)
-exact c = subst (λ (vs : List (Vec ℕ Global)). AreExact (frame_of (rules_of c.args.signals.now)) c.args.classes.now.lists (rows vs)) (sym c.deref.ensures.value) c.in_ok-numbers.ensures
+exact c = subst (λ (vs : List (Vec ℕ Global)). AreExact (frame_of (rules_of c.args.signals.now)) c.args.classes.now.lists (rows vs))
+    (sym c.deref.ensures.value) c.in_ok-numbers.ensures
 
 pub parted-requires : goal.parted-requires
 parted-requires c =

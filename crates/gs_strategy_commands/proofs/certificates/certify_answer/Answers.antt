@@ -10,4 +10,5 @@ returns-in_err-stored c =
     exits (Certifies bytes) _ _ c.from_residual.ensures.1 (not_held Only (OfConfirmed SaysCertified) bytes _ c.in_err-stored.ensures.refused)
 
 pub returns : goal.returns
-returns c = held Only (OfConfirmed SaysCertified) c.args.bytes.now (stored_view c.in_ok-stored.stored) c.certified.result c.in_ok-stored.ensures.stored c.certified.ensures
+returns c = held Only (OfConfirmed SaysCertified) c.args.bytes.now (stored_view c.in_ok-stored.stored) c.certified.result c.in_ok-stored.ensures.stored
+    c.certified.ensures

@@ -8,7 +8,8 @@ use Rattle.gs_strategy_commands.proofs.certificates.verify_answer.Goals as goal
 pub returns-in_err-stored : goal.returns-in_err-stored
 returns-in_err-stored c =
     let r = c.first_line.result in
-    exits (Verifies c.args.bytes.now) _ _ c.from_residual.ensures.1 (subst (λ p. StopsFor (OfStrategy (SaysVerified p.1) p.0) c.in_err-stored.field-0.0) c.first_line.ensures
+    exits (Verifies c.args.bytes.now) _ _ c.from_residual.ensures.1
+    (subst (λ p. StopsFor (OfStrategy (SaysVerified p.1) p.0) c.in_err-stored.field-0.0) c.first_line.ensures
     (not_held Only (SaysVerified r.1.now) r.0.now _ c.in_err-stored.ensures.refused))
 
 pub returns : goal.returns

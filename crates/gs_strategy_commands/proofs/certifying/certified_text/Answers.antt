@@ -27,5 +27,6 @@ returns c =
       first = moved (λ f n. AreBestValues f n 1 (lifted f n s.two) k.values1.items) l s c.requires made.first;
       second = moved (λ f n. AreBestValues f n 2 (lifted f n s.one) k.values2.items) l s c.requires made.second;
       reached = moved (λ f n. AreReached f (lifted f n s.one) (lifted f n s.two) k) l s c.requires made.reached;
-      printed = c.in_ok-extend_from_slice.ensures.items ∙ ap (λ v. v ++ c.deref.result.now) c.in_ok-text.ensures ∙ ap (λ v. strategy_text Two (stored_view s) ++ v) (c.deref.ensures.value ∙ c.in_ok-line.ensures);
+      printed = c.in_ok-extend_from_slice.ensures.items ∙ ap (λ v. v ++ c.deref.result.now) c.in_ok-text.ensures
+          ∙ ap (λ v. strategy_text Two (stored_view s) ++ v) (c.deref.ensures.value ∙ c.in_ok-line.ensures);
     }

@@ -6,11 +6,14 @@ use Rattle.gs_strategy_commands.proofs.checks.check_numbers.Goals as goal
 found : (c : After-verdict-found) → AreNumbersOf (stored_view c.args.stored.now) (numbers_of c.verdict-found.result)
 found c =
     let l = c.args.form.now.lossless.now in
-    numbers_are c.args.stored.now l.signals.now.game.now l.classes.now c.verdict-found.result c.requires.held.game c.requires.held.classes c.verdict-found.ensures.verdict
+    numbers_are c.args.stored.now l.signals.now.game.now l.classes.now c.verdict-found.result c.requires.held.game c.requires.held.classes
+    c.verdict-found.ensures.verdict
 
 pub returns-in-Some-clause-wrong : goal.returns-in-Some-clause-wrong
 returns-in-Some-clause-wrong c =
-    wrong_told c.args.stored.now c.verdict-found.result c.in-Some.wrong c.requires.lossless c.requires.small (found (goal.at.returns-in-Some-clause-wrong c).After-verdict-found) c.in-Some.ensures
+    wrong_told c.args.stored.now c.verdict-found.result c.in-Some.wrong c.requires.lossless c.requires.small
+    (found (goal.at.returns-in-Some-clause-wrong c).After-verdict-found) c.in-Some.ensures
 
 pub returns-clause-confirmed : goal.returns-clause-confirmed
-returns-clause-confirmed c = confirmed c.args.stored.now c.verdict-found.result c.requires.lossless c.requires.small (found (goal.at.returns-clause-confirmed c).After-verdict-found) c.in-None.ensures
+returns-clause-confirmed c = confirmed c.args.stored.now c.verdict-found.result c.requires.lossless c.requires.small
+    (found (goal.at.returns-clause-confirmed c).After-verdict-found) c.in-None.ensures

@@ -11,4 +11,5 @@ lossless_classes-requires c = c.args.stored.now.parents ∙ ap (λ (v : ValidGam
 pub returns-clause-unlike : goal.returns-clause-unlike
 returns-clause-unlike c =
     let lists = c.args.stored.now.classes.lists in
-    IfErr-weaker c.lossless_classes.result _ _ (λ e h. subst (λ (w : ValidGame). StopsFor (SaysUnlike (valid_view w) lists) e) c.requires h) c.lossless_classes.ensures.unlike
+    IfErr-weaker c.lossless_classes.result _ _ (λ e h. subst (λ (w : ValidGame). StopsFor (SaysUnlike (valid_view w) lists) e) c.requires h)
+    c.lossless_classes.ensures.unlike

@@ -14,8 +14,10 @@ returns-in_err-stored c =
 pub returns-in_err-confirm : goal.returns-in_err-confirm
 returns-in_err-confirm c =
     let bytes = c.args.bytes.now in
-    exits (Evaluates bytes) _ _ c.from_residual-in_err-confirm.ensures.1 (file_refused SaysNumbers bytes (stored_view c.in_ok-stored.stored) _ c.in_ok-stored.ensures.stored c.in_err-confirm.ensures.refused)
+    exits (Evaluates bytes) _ _ c.from_residual-in_err-confirm.ensures.1
+    (file_refused SaysNumbers bytes (stored_view c.in_ok-stored.stored) _ c.in_ok-stored.ensures.stored c.in_err-confirm.ensures.refused)
 
 pub returns : goal.returns
 returns c =
-    file_answered SaysNumbers c.args.bytes.now (stored_view c.in_ok-stored.stored) _ c.in_ok-stored.ensures.stored c.in_ok-confirm.ensures.confirmed (ap Prints c.in_ok-verdict_text.ensures)
+    file_answered SaysNumbers c.args.bytes.now (stored_view c.in_ok-stored.stored) _ c.in_ok-stored.ensures.stored c.in_ok-confirm.ensures.confirmed
+    (ap Prints c.in_ok-verdict_text.ensures)

@@ -13,4 +13,5 @@ returns-in_err-stored c =
 pub returns : goal.returns
 returns c =
     let a = c.args in
-    held Only (OfConfirmed (SaysQueried a.player a.line.now a.signal.now)) a.bytes.now (stored_view c.in_ok-stored.stored) c.queried.result c.in_ok-stored.ensures.stored c.queried.ensures
+    held Only (OfConfirmed (SaysQueried a.player a.line.now a.signal.now)) a.bytes.now (stored_view c.in_ok-stored.stored) c.queried.result
+    c.in_ok-stored.ensures.stored c.queried.ensures

@@ -14,8 +14,10 @@ returns-in_err-stored c =
 pub returns-in_err-confirm : goal.returns-in_err-confirm
 returns-in_err-confirm c =
     let bytes = c.args.bytes.now in
-    exits (Upgrades bytes) _ _ c.from_residual-in_err-confirm.ensures.1 (file_refused SaysUpgraded bytes (stored_view c.in_ok-stored.stored) _ c.in_ok-stored.ensures.stored c.in_err-confirm.ensures.refused)
+    exits (Upgrades bytes) _ _ c.from_residual-in_err-confirm.ensures.1
+    (file_refused SaysUpgraded bytes (stored_view c.in_ok-stored.stored) _ c.in_ok-stored.ensures.stored c.in_err-confirm.ensures.refused)
 
 pub returns : goal.returns
 returns c =
-    file_answered SaysUpgraded c.args.bytes.now (stored_view c.in_ok-stored.stored) _ c.in_ok-stored.ensures.stored c.in_ok-confirm.ensures.confirmed (ap Prints c.in_ok-text.ensures)
+    file_answered SaysUpgraded c.args.bytes.now (stored_view c.in_ok-stored.stored) _ c.in_ok-stored.ensures.stored c.in_ok-confirm.ensures.confirmed
+    (ap Prints c.in_ok-text.ensures)

@@ -16,7 +16,8 @@ fraction-requires-clause-fits c =
     let y = class_plan f ls c.args.two.now in
     let g = given (game_in a) f ls refl (form_classes a) in
     let w1 = g.walked 1 (omega arith) (omega arith) in
-    let size = ends_few f g.in_range ls g.classes g.modest w1 (g.walked 2 (omega arith) (omega arith)) x y c.requires.one.plan.plan c.requires.two.plan.plan (end_count f) (omega arith) in
+    let size = ends_few f g.in_range ls g.classes g.modest w1 (g.walked 2 (omega arith) (omega arith)) x y c.requires.one.plan.plan c.requires.two.plan.plan
+    (end_count f) (omega arith) in
     let all = payoff_is f ls x y g.in_range w1 g.classes in
     let paid = to_z-of_z w128 c.args.paid c.ranges.paid ∙ c.requires.paid in
     omega (arith, size, ap unsigned_abs (paid ∙ sym all))
@@ -34,5 +35,6 @@ returns c =
     let wide : c.scale_of-scale.result < 2 ^ 127 = omega (arith, scale.few) in
     record {
       positive = c.fraction.ensures.positive;
-      value_is = ap (λ n. v.0 *ℤ pos n) (sym all) ∙ ap (λ z. v.0 *ℤ z) (sym (to_z_pos w128 c.scale_of-scale.result wide)) ∙ c.fraction.ensures.value ∙ ap (λ z. pos v.1 *ℤ z) paid;
+      value_is = ap (λ n. v.0 *ℤ pos n) (sym all) ∙ ap (λ z. v.0 *ℤ z) (sym (to_z_pos w128 c.scale_of-scale.result wide)) ∙ c.fraction.ensures.value
+          ∙ ap (λ z. pos v.1 *ℤ z) paid;
     }

@@ -11,7 +11,8 @@ pub returns-in-Ok : goal.returns-in-Ok
 returns-in-Ok c =
     let s = stored_view c.args.stored.now in
     let k = c.in-Ok.c in
-    answers_more (SaysChecked s k) (SaysVerified c.args.bytes.now s) (λ r said. inr (k, record { text = c.in-Ok.ensures.found; small = c.in-Ok.ensures.small }, said)) c.checked.result c.checked.ensures
+    answers_more (SaysChecked s k) (SaysVerified c.args.bytes.now s)
+    (λ r said. inr (k, record { text = c.in-Ok.ensures.found; small = c.in-Ok.ensures.small }, said)) c.checked.result c.checked.ensures
 
 pub returns-in_ok-cert_text_fault_text-in-Err : goal.returns-in_ok-cert_text_fault_text-in-Err
 returns-in_ok-cert_text_fault_text-in-Err c =

@@ -9,5 +9,6 @@ use Rattle.gs_text.proofs.classes.class_text.Goals as goal
 pub loop-index-preserved : goal.loop-index-preserved
 loop-index-preserved c =
     let s = c.args.signals.now in
-    rounds-more (λ round. round_text round (signal_texts (deck_of s) (rules_of s) round) (list_of c.args.classes.now.lists round)) [] (string_bytes c.loop-index.text) (string_bytes c.push_classes.new.text) c.loop-index.index
+    rounds-more (λ round. round_text round (signal_texts (deck_of s) (rules_of s) round) (list_of c.args.classes.now.lists round)) []
+    (string_bytes c.loop-index.text) (string_bytes c.push_classes.new.text) c.loop-index.index
     c.loop-index.invariant c.in_ok-push_classes.ensures

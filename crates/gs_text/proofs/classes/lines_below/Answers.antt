@@ -22,7 +22,8 @@ bounds-above-owner c =
     let i : ℕ = c.loop-index.index in
     let here : i < length (signals g c.args.round) = omega (arith, c.requires.lengths, c.loop-index-test.true) in
     let child = is_child g c.args.round i (omega (arith, c.requires.later)) here in
-    let owner : get_or c.parents_in-parents.result.now i 0 ≡ get_or (parents g c.args.round) i 0 = ap (λ (x : List ℕ). get_or x i 0) c.parents_in-parents.ensures in
+    let owner : get_or c.parents_in-parents.result.now i 0 ≡ get_or (parents g c.args.round) i 0 = ap (λ (x : List ℕ). get_or x i 0)
+    c.parents_in-parents.ensures in
     omega (
       arith,
       owner,
@@ -45,7 +46,14 @@ push_text_below-requires-clause-parent c =
     let child = is_child g c.args.round i (omega (arith, c.requires.later)) here in
     let owner : k ≡ get_or (parents g c.args.round) i 0 = ap (λ (x : List ℕ). get_or x i 0) c.parents_in-parents.ensures in
     let within : k < length (signals g round) = omega (arith, owner, child.parent_in) in
-    let kept : k < length above = omega (arith, within, length-map above string_bytes, ap (λ (x : List (List ℕ)). length x) c.requires.above, length-map (signals g round) (signal_text d)) in
+    let kept : k < length above = omega (
+      arith,
+      within,
+      length-map above string_bytes,
+      ap (λ (x : List (List ℕ)). length x) c.requires.above,
+      length-map
+          (signals g round) (signal_text d),
+    ) in
     c.as_str-parent.ensures.value ∙ ap string_bytes c.index-above-owner.is ∙ sym (get_or-map string_bytes above k c.index-above-owner.result [] kept)
     ∙ ap (λ (x : List (List ℕ)). get_or x k []) c.requires.above ∙ get_or-map (signal_text d) (signals g round) k [] [] within
     ∙ ap (λ n. signal_text d (signal_at g round n)) owner
@@ -55,7 +63,8 @@ index_mut-line-requires c =
     let i = c.loop-index.index in
     let s = c.args.signals.now in
     let n = c.requires.numbers i 0 c.loop-index-test.true in
-    let many = lines-count c.loop-index.lines.items (open_line (zip (take i (signal_texts (deck_of s) (rules_of s) c.args.round)) (take i c.args.classes.now))) c.args.count c.loop-index.invariant in
+    let many = lines-count c.loop-index.lines.items (open_line (zip (take i (signal_texts (deck_of s) (rules_of s) c.args.round)) (take i c.args.classes.now)))
+    c.args.count c.loop-index.invariant in
     omega (arith, c.loop-index.lines.ok.0, many, n.0, n.1)
 
 pub loop-index-preserved : goal.loop-index-preserved
@@ -66,7 +75,10 @@ loop-index-preserved c =
     let d : DeckValue = deck_of s in
     let shown : List ℕ = signal_text d (signal_at g c.args.round i) in
     let here : i < length (signals g c.args.round) = omega (arith, c.requires.lengths, c.loop-index-test.true) in
-    let grown = c.in_ok-push_text_below.ensures ∙ ap (λ line. line ++ shown) c.in_ok-push_str.ensures.bytes ∙ append_assoc (string_bytes c.index_mut-line.result.now) (codes " ") shown in
-    lines-told c.args.count (signal_texts d g c.args.round) c.args.classes.now i c.loop-index.lines.items c.index_mut-line.result.now c.push_text_below.new.text shown c.loop-index-test.true
+    let grown = c.in_ok-push_text_below.ensures ∙ ap (λ line. line ++ shown) c.in_ok-push_str.ensures.bytes
+    ∙ append_assoc (string_bytes c.index_mut-line.result.now) (codes " ") shown in
+    lines-told c.args.count (signal_texts d g c.args.round) c.args.classes.now i c.loop-index.lines.items c.index_mut-line.result.now c.push_text_below.new.text
+    shown c.loop-index-test.true
     (length-map (signals g c.args.round) (signal_text d) ∙ sym c.requires.lengths)
-    (c.requires.numbers i 0 c.loop-index-test.true) c.loop-index.invariant (get_or-map (signal_text d) (signals g c.args.round) i [] shown here) c.index_mut-line.ensures.value grown
+    (c.requires.numbers i 0 c.loop-index-test.true) c.loop-index.invariant (get_or-map (signal_text d) (signals g c.args.round) i [] shown here)
+    c.index_mut-line.ensures.value grown

@@ -12,6 +12,9 @@ pub returns : goal.returns
 returns c =
     let s = c.args.signals.now in
     let texts : List (List ℕ) = signal_texts (deck_of s) (rules_of s) c.args.round in
-    let total : c.count-total.result ≡ length texts = c.count-total.ensures.value ∙ sym (length-map (signals (rules_of s) c.args.round) (signal_text (deck_of s))) in
-    round_told (string_bytes c.args.text.now) (string_bytes c.push_round_line.new.text) (string_bytes c.push_lines.new.text) c.args.round c.args.count c.count-total.result texts c.args.classes.now
-    (map string_bytes c.in_ok-lines.lines.items) c.requires.count total c.in_ok-push_round_line.ensures c.in_ok-lines.ensures (rw c.deref.ensures.value at c.in_ok-push_lines.ensures)
+    let total : c.count-total.result ≡ length texts = c.count-total.ensures.value
+    ∙ sym (length-map (signals (rules_of s) c.args.round) (signal_text (deck_of s))) in
+    round_told (string_bytes c.args.text.now) (string_bytes c.push_round_line.new.text) (string_bytes c.push_lines.new.text) c.args.round c.args.count
+    c.count-total.result texts c.args.classes.now
+    (map string_bytes c.in_ok-lines.lines.items) c.requires.count total c.in_ok-push_round_line.ensures c.in_ok-lines.ensures
+    (rw c.deref.ensures.value at c.in_ok-push_lines.ensures)

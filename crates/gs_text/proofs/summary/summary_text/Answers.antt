@@ -11,4 +11,5 @@ loop-index-preserved c =
     let i = c.loop-index.index in
     let line : ℕ → List ℕ = λ round. round_line round (class_count c.args.classes.now.lists round) (length (signals g round)) in
     let told : string_bytes c.push_round_line.new.text ≡ string_bytes c.loop-index.text ++ line (i + 1) = search rules in
-    rounds-more line (deals_line (length (deals g)) (total_weight (frame_of g))) (string_bytes c.loop-index.text) (string_bytes c.push_round_line.new.text) i c.loop-index.invariant told
+    rounds-more line (deals_line (length (deals g)) (total_weight (frame_of g))) (string_bytes c.loop-index.text) (string_bytes c.push_round_line.new.text) i
+    c.loop-index.invariant told

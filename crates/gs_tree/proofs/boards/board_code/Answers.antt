@@ -10,7 +10,8 @@ pub part-requires : goal.part-requires
 part-requires c =
     let h = c.args.hands.now in
     let P : List ℕ → Type 0 = λ x. c.args.signal * h.public + h.public ≤ length x in
-    subst P (sym c.deref.ensures.value) (public_room (game_of c.args.game.now) (round_count (game_of c.args.game.now)) h.paths h.owns.items h.publics.items h.own h.public c.requires.hands c.args.signal c.requires.signal_in)
+    subst P (sym c.deref.ensures.value) (public_room (game_of c.args.game.now) (round_count (game_of c.args.game.now)) h.paths h.owns.items h.publics.items
+    h.own h.public c.requires.hands c.args.signal c.requires.signal_in)
 
 -- the part is the signal's public cards
 shown : (c : After-part) → let g = game_of c.args.game.now in c.part.result.now ≡ public_cards (signal_at g (round_count g) c.args.signal)
@@ -22,14 +23,21 @@ shown c =
 
 pub code-requires-clause-few_cards : goal.code-requires-clause-few_cards
 code-requires-clause-few_cards c =
-    omega (arith, ap (λ (x : List ℕ). length x) (shown (goal.at.code-requires-clause-few_cards c).After-part), c.requires.hands.public_each c.args.signal c.requires.signal_in, c.requires.few)
+    omega (
+      arith,
+      ap (λ (x : List ℕ). length x) (shown (goal.at.code-requires-clause-few_cards c).After-part),
+      c.requires.hands.public_each c.args.signal
+          c.requires.signal_in,
+      c.requires.few,
+    )
 
 pub code-requires-clause-of_deck : goal.code-requires-clause-of_deck
 code-requires-clause-of_deck c =
     let g : Game = game_of c.args.game.now in
     let d : DeckValue = c.args.game.now.deck in
     let h = c.args.hands.now in
-    let board = shown_board g d h.paths h.owns.items h.publics.items h.own h.public c.args.signal c.kinds.ensures.deck refl c.requires.hands c.requires.signal_in in
+    let board = shown_board g d h.paths h.owns.items h.publics.items h.own h.public c.args.signal c.kinds.ensures.deck refl c.requires.hands
+    c.requires.signal_in in
     let P : ℕ → Type 0 = λ n. All (λ card. card < n) (public_cards (signal_at g (round_count g) c.args.signal)) in
     let Q : List ℕ → Type 0 = λ x. All (λ card. card < c.from-kinds.result) x in
     subst Q (sym (shown (goal.at.code-requires-clause-of_deck c).After-part)) (subst P (sym (c.from-kinds.ensures ∙ c.kinds.ensures.number)) board.of_deck)

@@ -6,7 +6,8 @@ use Rattle.gs_model.proofs.Basics.{product_le}
 pub overflow_mul-count : goal.overflow_mul-count
 overflow_mul-count c =
     let few = power_small c.args.kinds c.loop.counter c.requires.few_kinds (omega arith) in
-    let small : c.loop.count * c.args.kinds ≤ 140608 * 52 = product_le c.loop.count c.args.kinds 140608 52 (omega (arith, few, c.loop.invariant)) c.requires.few_kinds in
+    let small : c.loop.count * c.args.kinds ≤ 140608 * 52 = product_le c.loop.count c.args.kinds 140608 52
+    (omega (arith, few, c.loop.invariant)) c.requires.few_kinds in
     omega (arith, small)
 
 pub loop-preserved : goal.loop-preserved

@@ -9,7 +9,12 @@ use Rattle.gs_tree.proofs.boards.link_by_map.Goals as goal
 
 -- a place for each signal
 counted : (c : After-len-count) → c.len-count.result ≡ last_count (game_of c.args.game.now)
-counted c = omega (arith, paths_long (game_of c.args.game.now) (round_count (game_of c.args.game.now)) c.args.hands.now.paths c.args.hands.now.owns.items c.args.hands.now.publics.items c.args.hands.now.own c.args.hands.now.public c.requires.hands, c.len-count.ensures)
+counted c = omega (
+  arith,
+  paths_long (game_of c.args.game.now) (round_count (game_of c.args.game.now)) c.args.hands.now.paths c.args.hands.now.owns.items
+      c.args.hands.now.publics.items c.args.hands.now.own c.args.hands.now.public c.requires.hands,
+  c.len-count.ensures,
+)
 
 pub link-requires-clause-before_in : goal.link-requires-clause-before_in
 link-requires-clause-before_in c =
@@ -30,7 +35,8 @@ loop-signal-preserved c =
     let last : c.in_ok-before.before ≡ last_place key n (key n) = c.in_ok-before.ensures.old ∙ c.loop-signal.invariant.found board ∙ ap (last_place key n) is in
     let next : suc n ≡ n + 1 = omega arith in
     record {
-      linked = linked_more key n c.len-count.result old.firsts.items old.nexts.items c.loop-signal.invariant.linked c.in_ok-before.before c.link.new.boards.firsts.items c.link.new.boards.nexts.items c.loop-signal-test.true last c.link.ensures.firsts c.link.ensures.nexts;
+      linked = linked_more key n c.len-count.result old.firsts.items old.nexts.items c.loop-signal.invariant.linked c.in_ok-before.before
+          c.link.new.boards.firsts.items c.link.new.boards.nexts.items c.loop-signal-test.true last c.link.ensures.firsts c.link.ensures.nexts;
       found = λ q.
           c.in_ok-before.ensures.updates.0 q
           ∙ ap (λ (o : Option ℕ). cond (pointwise nat_eq board.items q.items) (Some n) o) (c.loop-signal.invariant.found q)
@@ -44,4 +50,5 @@ board_of-requires-clause-signal_in c = omega (arith, counted (goal.at.board_of-r
 pub returns : goal.returns
 returns c =
     let count = counted (goal.at.returns c).After-len-count in
-    are_boards (game_of c.args.game.now) c.loop-signal.signal c.len-count.result c.loop-signal.boards.firsts.items c.loop-signal.boards.nexts.items c.loop-signal.invariant.linked (omega (arith, count, c.loop-signal.auto.signal-end, c.loop-signal-test.false)) count
+    are_boards (game_of c.args.game.now) c.loop-signal.signal c.len-count.result c.loop-signal.boards.firsts.items c.loop-signal.boards.nexts.items
+    c.loop-signal.invariant.linked (omega (arith, count, c.loop-signal.auto.signal-end, c.loop-signal-test.false)) count

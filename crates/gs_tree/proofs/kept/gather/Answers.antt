@@ -6,7 +6,8 @@ use Rattle.gs_tree.proofs.Rounds.{no_hands}
 use Rattle.gs_tree.proofs.kept.gather.Goals as goal
 
 pub loop-round-init : goal.loop-round-init
-loop-round-init c = no_hands (game_of c.args.game.now) c.in_ok-paths.paths c.new-owns.result.items c.new-publics.result.items c.in_ok-paths.ensures c.new-owns.ensures.items c.new-publics.ensures.items
+loop-round-init c = no_hands (game_of c.args.game.now) c.in_ok-paths.paths c.new-owns.result.items c.new-publics.result.items c.in_ok-paths.ensures
+    c.new-owns.ensures.items c.new-publics.ensures.items
 
 pub loop-round-preserved : goal.loop-round-preserved
 loop-round-preserved c =
@@ -19,6 +20,7 @@ pub returns : goal.returns
 returns c =
     let h = c.loop-round.hands in
     let g : Game = game_of c.args.game.now in
-    let done : c.loop-round.round ≡ round_count g = omega (arith, c.len-round-end.ensures, c.args.tables.now.layers.ok.0, c.requires.all, c.loop-round.auto.round-end, c.loop-round-test.false) in
+    let done : c.loop-round.round ≡ round_count g = omega
+    (arith, c.len-round-end.ensures, c.args.tables.now.layers.ok.0, c.requires.all, c.loop-round.auto.round-end, c.loop-round-test.false) in
     let P : ℕ → Type 0 = λ n. AreKeptCards g n h.paths h.owns.items h.publics.items h.own h.public in
     subst P done c.loop-round.invariant

@@ -24,6 +24,8 @@ returns c =
       weighed = c.in_ok-paths.ensures;
       owned = c.in_ok-owns.ensures;
       shown = c.in_ok-publics.ensures;
-      own_each = part_long own_cards (own_count (take n g.rounds)) ss [] c.len-2.result c.max-each.result (λ i l. (dealt g n i within l).own_n) (omega (arith, c.len-2.ensures, c.in_ok-owns.owns.ok.0, ap (λ (x : List ℕ). length x) c.in_ok-owns.ensures)) each;
-      public_each = part_long public_cards (public_count (take n g.rounds)) ss [] c.len-3.result c.max-each.result (λ i l. (dealt g n i within l).public_n) (omega (arith, c.len-3.ensures, c.in_ok-publics.publics.ok.0, ap (λ (x : List ℕ). length x) c.in_ok-publics.ensures)) each;
+      own_each = part_long own_cards (own_count (take n g.rounds)) ss [] c.len-2.result c.max-each.result (λ i l. (dealt g n i within l).own_n)
+          (omega (arith, c.len-2.ensures, c.in_ok-owns.owns.ok.0, ap (λ (x : List ℕ). length x) c.in_ok-owns.ensures)) each;
+      public_each = part_long public_cards (public_count (take n g.rounds)) ss [] c.len-3.result c.max-each.result (λ i l. (dealt g n i within l).public_n)
+          (omega (arith, c.len-3.ensures, c.in_ok-publics.publics.ok.0, ap (λ (x : List ℕ). length x) c.in_ok-publics.ensures)) each;
     }

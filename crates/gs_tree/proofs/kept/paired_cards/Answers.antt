@@ -9,22 +9,39 @@ use Rattle.gs_tree.proofs.kept.paired_cards.Goals.{After-index-in-loop-signal, A
 use Rattle.gs_tree.proofs.kept.paired_cards.Goals as goal
 
 -- what the tables tell of the signal
-known : (c : After-index-in-loop-signal) → IsTold (game_of c.args.game.now) c.args.round c.loop-signal.signal c.index-in-loop-signal.result.now c.index-parents.result.now.items c.index.result.now
-known c = told_at (game_of c.args.game.now) c.args.tables.now.parents.items c.args.tables.now.layers.items c.args.round c.requires.tables c.requires.round_in c.index-parents.result.now c.index.result.now c.loop-signal.signal c.index-in-loop-signal.result.now c.index-parents.ensures c.index.ensures (omega (arith, ap (λ (x : List Shown). length x) c.deref-last-items.ensures.value, c.loop-signal-test.true)) c.index-in-loop-signal.ensures
+known : (c : After-index-in-loop-signal) → IsTold (game_of c.args.game.now) c.args.round c.loop-signal.signal c.index-in-loop-signal.result.now
+    c.index-parents.result.now.items c.index.result.now
+known c = told_at (game_of c.args.game.now) c.args.tables.now.parents.items c.args.tables.now.layers.items c.args.round c.requires.tables c.requires.round_in
+    c.index-parents.result.now c.index.result.now c.loop-signal.signal c.index-in-loop-signal.result.now c.index-parents.ensures c.index.ensures
+    (omega (arith, ap (λ (x : List Shown). length x) c.deref-last-items.ensures.value, c.loop-signal-test.true)) c.index-in-loop-signal.ensures
 
 -- its parent has one card
 parent_in : (c : After-index-in-loop-signal) → c.index-in-loop-signal.result.now < length c.args.before.now
-parent_in c = omega (arith, (known c).parent_in, kept_long (cards_on c.args.side) 1 (signals (game_of c.args.game.now) c.args.round) c.args.before.now c.requires.before c.requires.each)
+parent_in c = omega (
+  arith,
+  (known c).parent_in,
+  kept_long (cards_on c.args.side) 1 (signals (game_of c.args.game.now) c.args.round) c.args.before.now
+      c.requires.before c.requires.each,
+)
 
 -- the cards that it shows last
 shown_last : (c : After-on) → c.on.result.now ≡ seen_on c.args.side (last_seen (signal_at (game_of c.args.game.now) (suc c.args.round) c.loop-signal.signal))
 shown_last c =
     let shown : Shown = c.last-item.result in
-    let shows = shown_at (game_of c.args.game.now) c.args.tables.now.parents.items c.args.tables.now.layers.items c.args.round c.requires.tables c.requires.round_in c.index.result.now c.loop-signal.signal c.index.ensures (omega (arith, ap (λ (x : List Shown). length x) c.deref-last-items.ensures.value, c.loop-signal-test.true)) shown in
-    c.on.ensures ∙ ap (seen_on c.args.side) (ap seen_of (c.last-item.is ∙ ap (λ (x : List Shown). get_or x c.loop-signal.signal shown) c.deref-last-items.ensures.value) ∙ shows)
+    let shows = shown_at (game_of c.args.game.now) c.args.tables.now.parents.items c.args.tables.now.layers.items c.args.round c.requires.tables
+    c.requires.round_in c.index.result.now c.loop-signal.signal c.index.ensures
+    (omega (arith, ap (λ (x : List Shown). length x) c.deref-last-items.ensures.value, c.loop-signal-test.true)) shown in
+    c.on.ensures ∙ ap (seen_on c.args.side) (ap seen_of
+    (c.last-item.is ∙ ap (λ (x : List Shown). get_or x c.loop-signal.signal shown) c.deref-last-items.ensures.value) ∙ shows)
 
 pub index-requires-in-loop-signal : goal.index-requires-in-loop-signal
-index-requires-in-loop-signal c = omega (arith, c.index-parents.result.now.ok.0, row_covers (game_of c.args.game.now) c.args.tables.now.parents.items c.args.tables.now.layers.items c.args.round c.requires.tables c.requires.round_in c.index-parents.result.now c.index.result.now c.loop-signal.signal c.index-parents.ensures c.index.ensures (omega (arith, ap (λ (x : List Shown). length x) c.deref-last-items.ensures.value, c.loop-signal-test.true)))
+index-requires-in-loop-signal c = omega (
+  arith,
+  c.index-parents.result.now.ok.0,
+  row_covers (game_of c.args.game.now) c.args.tables.now.parents.items
+      c.args.tables.now.layers.items c.args.round c.requires.tables c.requires.round_in c.index-parents.result.now c.index.result.now c.loop-signal.signal
+      c.index-parents.ensures c.index.ensures (omega (arith, ap (λ (x : List Shown). length x) c.deref-last-items.ensures.value, c.loop-signal-test.true)),
+)
 
 pub bounds-before-index : goal.bounds-before-index
 bounds-before-index c = parent_in (goal.at.bounds-before-index c).After-index-in-loop-signal
@@ -56,10 +73,17 @@ loop-signal-preserved c =
     ∙ ap (λ (x : List ℕ). x ++ b ∷ []) c.in_ok-push.ensures.items
     ∙ append_assoc c.loop-signal.cards.items (a ∷ []) (b ∷ [])
     ∙ joined_more f [] c.loop-signal.cards.items (a ∷ b ∷ []) (signals g (suc n)) i [] h.here c.loop-signal.invariant
-    (paired c.args.side (signal_at g (suc n) i) (signal_at g n p) last before p a b h.signal_is here_in (kept_part f 1 (signals g n) before c.requires.before c.requires.each p h.parent_in) one first second)
+    (paired c.args.side (signal_at g (suc n) i) (signal_at g n p) last before p a b h.signal_is here_in
+    (kept_part f 1 (signals g n) before c.requires.before c.requires.each p h.parent_in) one first second)
 
 pub returns : goal.returns
 returns c =
     c.loop-signal.invariant
     ∙ ap (flat_map (cards_on c.args.side)) (take_all c.loop-signal.signal (signals (game_of c.args.game.now) (suc c.args.round))
-    (omega (arith, (layer_long (game_of c.args.game.now) c.args.tables.now.parents.items c.args.tables.now.layers.items c.args.round c.requires.tables c.requires.round_in c.index.result.now c.index.ensures).0, ap (λ (x : List Shown). length x) c.deref-last-items.ensures.value, c.loop-signal-test.false)))
+    (omega (
+      arith,
+      (layer_long (game_of c.args.game.now) c.args.tables.now.parents.items c.args.tables.now.layers.items c.args.round c.requires.tables
+          c.requires.round_in c.index.result.now c.index.ensures).0,
+      ap (λ (x : List Shown). length x) c.deref-last-items.ensures.value,
+      c.loop-signal-test.false,
+    )))

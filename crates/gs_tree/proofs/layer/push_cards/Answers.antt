@@ -16,9 +16,11 @@ loop-kind-preserved c =
     let rest : List ℕ = c.args.rest.now in
     let n : ℕ = c.loop-kind.kind in
     record {
-      shown = added_more (showing (cards_of c.args.own.now)) rest n (map seen_of c.args.layer.now.shown.items) (map seen_of c.loop-kind.layer.shown.items) (map seen_of c.push_card.new.layer.shown.items)
+      shown = added_more (showing (cards_of c.args.own.now)) rest n (map seen_of c.args.layer.now.shown.items) (map seen_of c.loop-kind.layer.shown.items)
+          (map seen_of c.push_card.new.layer.shown.items)
           c.loop-kind.invariant.shown c.in_ok-push_card.ensures.shown;
-      edges = added_more (λ g. c.args.own_ways * ways rest g) rest n c.args.layer.now.edges c.loop-kind.layer.edges c.push_card.new.layer.edges c.loop-kind.invariant.edges c.in_ok-push_card.ensures.edges;
+      edges = added_more (λ g. c.args.own_ways * ways rest g) rest n c.args.layer.now.edges c.loop-kind.layer.edges c.push_card.new.layer.edges
+          c.loop-kind.invariant.edges c.in_ok-push_card.ensures.edges;
       firsts = c.in_ok-push_card.ensures.firsts ∙ c.loop-kind.invariant.firsts;
     }
 

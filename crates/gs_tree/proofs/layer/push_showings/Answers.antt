@@ -18,10 +18,13 @@ loop-own-preserved c =
     let rest : c.deref.result.now ≡ left_after left own = c.deref.ensures.value ∙ c.in_ok-rest.ensures.value ∙ ap (left_after left) c.cards.ensures.cards in
     let here : i < length owns = omega (arith, ap (λ (l : List (List ℕ)). length l) (c.deref-own-items.ensures.value ∙ c.in_ok-groups.ensures.all)) in
     record {
-      shown = c.in_ok-push_publics.ensures.shown ∙ joined_more shows (map seen_of c.args.layer.now.shown.items) (map seen_of c.loop-own.layer.shown.items) (map (showing (cards_of c.of.result)) (groups c.deref.result.now size)) owns i own here c.loop-own.invariant.shown
+      shown = c.in_ok-push_publics.ensures.shown ∙ joined_more shows (map seen_of c.args.layer.now.shown.items) (map seen_of c.loop-own.layer.shown.items)
+          (map (showing (cards_of c.of.result)) (groups c.deref.result.now size)) owns i own here c.loop-own.invariant.shown
           (ap (λ x. map (showing x) (groups c.deref.result.now size)) c.of.ensures ∙ ap (λ r. map (showing own) (groups r size)) rest ∙ ap shows at);
-      edges = c.in_ok-push_publics.ensures.edges ∙ joined_more edges c.args.layer.now.edges c.loop-own.layer.edges (map (λ g. c.few_ways-own_ways.result * ways c.deref.result.now g) (groups c.deref.result.now size)) owns i own here c.loop-own.invariant.edges
-          (ap (λ w. map (λ g. w * ways c.deref.result.now g) (groups c.deref.result.now size)) c.few_ways-own_ways.ensures.value ∙ ap (λ r. map (λ g. ways left own * ways r g) (groups r size)) rest ∙ ap edges at);
+      edges = c.in_ok-push_publics.ensures.edges ∙ joined_more edges c.args.layer.now.edges c.loop-own.layer.edges
+          (map (λ g. c.few_ways-own_ways.result * ways c.deref.result.now g) (groups c.deref.result.now size)) owns i own here c.loop-own.invariant.edges
+          (ap (λ w. map (λ g. w * ways c.deref.result.now g) (groups c.deref.result.now size)) c.few_ways-own_ways.ensures.value
+          ∙ ap (λ r. map (λ g. ways left own * ways r g) (groups r size)) rest ∙ ap edges at);
       firsts = c.in_ok-push_publics.ensures.firsts ∙ c.loop-own.invariant.firsts;
     }
 
@@ -31,5 +34,7 @@ returns-clause-edges c =
     let owns : List (List ℕ) = groups left c.args.round.now.private in
     let size : ℕ = c.args.round.now.public in
     let edges : List ℕ → List ℕ = λ o. map (λ g. ways left o * ways (left_after left o) g) (groups (left_after left o) size) in
-    let over : length owns ≤ c.loop-own.own-index = omega (arith, ap (λ (l : List (List ℕ)). length l) (c.deref-own-items.ensures.value ∙ c.in_ok-groups.ensures.all)) in
-    c.loop-own.invariant.edges ∙ ap (λ l. c.args.layer.now.edges ++ flat_map edges l) (take_all c.loop-own.own-index owns over) ∙ ap (λ l. c.args.layer.now.edges ++ l) (sym (edges_of left size owns))
+    let over : length owns ≤ c.loop-own.own-index = omega
+    (arith, ap (λ (l : List (List ℕ)). length l) (c.deref-own-items.ensures.value ∙ c.in_ok-groups.ensures.all)) in
+    c.loop-own.invariant.edges ∙ ap (λ l. c.args.layer.now.edges ++ flat_map edges l) (take_all c.loop-own.own-index owns over)
+    ∙ ap (λ l. c.args.layer.now.edges ++ l) (sym (edges_of left size owns))

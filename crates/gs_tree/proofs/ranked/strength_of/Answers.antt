@@ -10,21 +10,28 @@ pub part-own-requires : goal.part-own-requires
 part-own-requires c =
     let h = c.args.hands.now in
     let P : List ℕ → Type 0 = λ x. c.args.signal * h.own + h.own ≤ length x in
-    subst P (sym c.deref.ensures.value) (own_room (game_of c.args.game.now) (round_count (game_of c.args.game.now)) h.paths h.owns.items h.publics.items h.own h.public c.requires.hands c.args.signal c.requires.signal_in)
+    subst P (sym c.deref.ensures.value) (own_room (game_of c.args.game.now) (round_count (game_of c.args.game.now)) h.paths h.owns.items h.publics.items h.own
+    h.public c.requires.hands c.args.signal c.requires.signal_in)
 
 pub part-public-requires : goal.part-public-requires
 part-public-requires c =
     let h = c.args.hands.now in
     let P : List ℕ → Type 0 = λ x. c.args.signal * h.public + h.public ≤ length x in
-    subst P (sym c.deref-2.ensures.value) (public_room (game_of c.args.game.now) (round_count (game_of c.args.game.now)) h.paths h.owns.items h.publics.items h.own h.public c.requires.hands c.args.signal c.requires.signal_in)
+    subst P (sym c.deref-2.ensures.value) (public_room (game_of c.args.game.now) (round_count (game_of c.args.game.now)) h.paths h.owns.items h.publics.items
+    h.own h.public c.requires.hands c.args.signal c.requires.signal_in)
 
 -- the parts are the signal's cards
 own : (c : After-part-own) → c.part-own.result.now ≡ own_cards (signal_at (game_of c.args.game.now) (round_count (game_of c.args.game.now)) c.args.signal)
-own c = c.part-own.ensures ∙ ap (λ (x : List ℕ). take c.args.hands.now.own (drop (c.args.signal * c.args.hands.now.own) x)) c.deref.ensures.value ∙ own_part (game_of c.args.game.now) (round_count (game_of c.args.game.now)) c.args.hands.now.paths c.args.hands.now.owns.items c.args.hands.now.publics.items c.args.hands.now.own c.args.hands.now.public c.requires.hands c.args.signal c.requires.signal_in
+own c = c.part-own.ensures ∙ ap (λ (x : List ℕ). take c.args.hands.now.own (drop (c.args.signal * c.args.hands.now.own) x)) c.deref.ensures.value
+    ∙ own_part (game_of c.args.game.now) (round_count (game_of c.args.game.now)) c.args.hands.now.paths c.args.hands.now.owns.items
+    c.args.hands.now.publics.items c.args.hands.now.own c.args.hands.now.public c.requires.hands c.args.signal c.requires.signal_in
 
-public : (c : After-part-public) → c.part-public.result.now ≡ public_cards (signal_at (game_of c.args.game.now) (round_count (game_of c.args.game.now)) c.args.signal)
+public : (c : After-part-public) → c.part-public.result.now ≡ public_cards
+    (signal_at (game_of c.args.game.now) (round_count (game_of c.args.game.now)) c.args.signal)
 public c =
-    c.part-public.ensures ∙ ap (λ (x : List ℕ). take c.args.hands.now.public (drop (c.args.signal * c.args.hands.now.public) x)) c.deref-2.ensures.value ∙ public_part (game_of c.args.game.now) (round_count (game_of c.args.game.now)) c.args.hands.now.paths c.args.hands.now.owns.items c.args.hands.now.publics.items c.args.hands.now.own c.args.hands.now.public c.requires.hands c.args.signal c.requires.signal_in
+    c.part-public.ensures ∙ ap (λ (x : List ℕ). take c.args.hands.now.public (drop (c.args.signal * c.args.hands.now.public) x)) c.deref-2.ensures.value
+    ∙ public_part (game_of c.args.game.now) (round_count (game_of c.args.game.now)) c.args.hands.now.paths c.args.hands.now.owns.items
+    c.args.hands.now.publics.items c.args.hands.now.own c.args.hands.now.public c.requires.hands c.args.signal c.requires.signal_in
 
 pub strength-requires : goal.strength-requires
 strength-requires c =

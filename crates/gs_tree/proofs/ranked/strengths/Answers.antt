@@ -11,7 +11,8 @@ use Rattle.gs_tree.proofs.ranked.strengths.Goals as goal
 pub strength_of-requires-clause-signal_in : goal.strength_of-requires-clause-signal_in
 strength_of-requires-clause-signal_in c =
     let k = c.args.hands.now in
-    let long : length k.paths ≡ last_count (game_of c.args.game.now) = paths_long (game_of c.args.game.now) (round_count (game_of c.args.game.now)) k.paths k.owns.items k.publics.items k.own k.public c.requires.hands in
+    let long : length k.paths ≡ last_count (game_of c.args.game.now) = paths_long (game_of c.args.game.now) (round_count (game_of c.args.game.now)) k.paths
+    k.owns.items k.publics.items k.own k.public c.requires.hands in
     omega (arith, long, c.len-count.ensures, c.loop-signal-test.true)
 
 pub loop-signal-preserved : goal.loop-signal-preserved
@@ -23,6 +24,8 @@ loop-signal-preserved c =
     let here : c.loop-signal.signal < length ss = omega (arith, long, c.len-count.ensures, c.loop-signal-test.true) in
     let P : List ℕ → Type 0 = λ x. All (IsStrength (ranking_of c.args.game.now.ranking)) x in
     record {
-      value = c.in_ok-push.ensures.items ∙ mapped_more (signal_strength g) [] c.loop-signal.found.items ss c.loop-signal.signal [] c.strength_of.result here c.loop-signal.invariant.value c.strength_of.ensures.value;
-      within = subst P (sym c.in_ok-push.ensures.items) (All-push (IsStrength (ranking_of c.args.game.now.ranking)) c.loop-signal.found.items c.strength_of.result c.loop-signal.invariant.within c.strength_of.ensures.within);
+      value = c.in_ok-push.ensures.items ∙ mapped_more (signal_strength g) [] c.loop-signal.found.items ss c.loop-signal.signal [] c.strength_of.result here
+          c.loop-signal.invariant.value c.strength_of.ensures.value;
+      within = subst P (sym c.in_ok-push.ensures.items) (All-push (IsStrength (ranking_of c.args.game.now.ranking)) c.loop-signal.found.items
+          c.strength_of.result c.loop-signal.invariant.within c.strength_of.ensures.within);
     }

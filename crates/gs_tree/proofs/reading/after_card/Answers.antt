@@ -16,5 +16,6 @@ pub returns : goal.returns
 returns c =
     let text : List ℕ = c.args.text.now in
     let P : List ℕ → Type 0 = λ l. IsRest text (get_or l 0 0 ∷ get_or l 1 0 ∷ []) c.after_byte-2.result in
-    let both = rest_both text (get_or c.card_text.result 0 0 ∷ []) (get_or c.card_text.result 1 0 ∷ []) c.in_ok-rest.rest.now c.after_byte-2.result c.in_ok-rest.ensures c.after_byte-2.ensures in
+    let both = rest_both text (get_or c.card_text.result 0 0 ∷ []) (get_or c.card_text.result 1 0 ∷ []) c.in_ok-rest.rest.now c.after_byte-2.result
+    c.in_ok-rest.ensures c.after_byte-2.ensures in
     subst P c.card_text.ensures both

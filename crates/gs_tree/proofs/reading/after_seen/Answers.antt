@@ -6,7 +6,8 @@ use Rattle.gs_tree.proofs.reading.after_seen.Goals as goal
 
 -- what is behind the groups is behind what the signal shows
 seen : (c : Else-is_empty) (o : Option (Bor (List ℕ))) → let d = c.args.deck.now in
-    IsRest c.args.text.now (group_text d c.cards.result.now ++ (43 ∷ group_text d c.cards-public.result.now)) o → IsRest c.args.text.now (seen_text d (seen_of c.args.shown.now)) o
+    IsRest c.args.text.now (group_text d c.cards.result.now ++ (43 ∷ group_text d c.cards-public.result.now)) o
+    → IsRest c.args.text.now (seen_text d (seen_of c.args.shown.now)) o
 seen c o rest =
     let d : DeckValue = c.args.deck.now in
     let text : List ℕ = c.args.text.now in
@@ -22,7 +23,8 @@ returns-in_err-rest-2 c =
     let text : List ℕ = c.args.text.now in
     let public : List ℕ = c.cards-public.result.now in
     let behind : List ℕ = c.in_ok-rest.rest.now in
-    let none = rest_both text (group_text d c.cards.result.now) (43 ∷ group_text d public) behind None c.in_ok-rest.ensures (rest_none behind (43 ∷ []) (group_text d public) c.in_err-rest-2.ensures) in
+    let none = rest_both text (group_text d c.cards.result.now) (43 ∷ group_text d public) behind None c.in_ok-rest.ensures
+    (rest_none behind (43 ∷ []) (group_text d public) c.in_err-rest-2.ensures) in
     let S : Option (Bor (List ℕ)) → Type 0 = λ o. IsRest text (seen_text d (seen_of c.args.shown.now)) o in
     subst S (sym c.from_residual-in_err-rest-2.ensures) (seen (goal.at.returns-in_err-rest-2 c).Else-is_empty None none)
 
@@ -32,4 +34,6 @@ returns c =
     let o : Option (Bor (List ℕ)) = c.after_group-2.result in
     let public : List ℕ = c.cards-public.result.now in
     let behind : List ℕ = c.in_ok-rest.rest.now in
-    seen (goal.at.returns c).Else-is_empty o (rest_both c.args.text.now (group_text d c.cards.result.now) (43 ∷ group_text d public) behind o c.in_ok-rest.ensures (rest_both behind (43 ∷ []) (group_text d public) c.in_ok-rest-2.rest.now o c.in_ok-rest-2.ensures c.after_group-2.ensures))
+    seen (goal.at.returns c).Else-is_empty o (rest_both c.args.text.now (group_text d c.cards.result.now)
+    (43 ∷ group_text d public) behind o c.in_ok-rest.ensures
+    (rest_both behind (43 ∷ []) (group_text d public) c.in_ok-rest-2.rest.now o c.in_ok-rest-2.ensures c.after_group-2.ensures))

@@ -6,7 +6,11 @@ use Rattle.gs_tree.proofs.{Beside.{beside_read}, Paths.{at_three, few_product}}
 use Rattle.gs_tree.proofs.tables.ways_beside.Goals as goal
 
 pub loop-i-init : goal.loop-i-init
-loop-i-init c = record { counted = sym (ways-none (left_after (left_after (left_after c.args.deck.now.counts c.args.held.now) c.args.board.now) c.args.before.now)); small = omega arith }
+loop-i-init c = record {
+  counted = sym (ways-none (left_after (left_after (left_after c.args.deck.now.counts c.args.held.now) c.args.board.now)
+      c.args.before.now));
+  small = omega arith;
+}
 
 pub overflow_mul-ways : goal.overflow_mul-ways
 overflow_mul-ways c =
@@ -14,7 +18,17 @@ overflow_mul-ways c =
     let card : ℕ = c.index-own-i.result in
     let here : card < length counts = omega (arith, c.requires.own_in c.loop-i.i card (omega arith), c.index-own-i.is, c.kinds-kinds.ensures.deck.counted) in
     let few : get_or counts card 0 ≤ 9 = c.kinds-kinds.ensures.deck.copies card 0 here in
-    let fits = few_product c.loop-i.ways c.saturating_sub-rest.result c.loop-i.i (omega (arith, c.requires.own_few)) c.loop-i.invariant.small (omega (arith, few, c.saturating_sub-rest.ensures, c.saturating_sub-in-loop-i-2.ensures, c.saturating_sub-in-loop-i.ensures, c.saturating_sub.ensures, c.from.ensures, c.count.ensures)) in
+    let fits = few_product c.loop-i.ways c.saturating_sub-rest.result c.loop-i.i (omega (arith, c.requires.own_few)) c.loop-i.invariant.small
+    (omega (
+      arith,
+      few,
+      c.saturating_sub-rest.ensures,
+      c.saturating_sub-in-loop-i-2.ensures,
+      c.saturating_sub-in-loop-i.ensures,
+      c.saturating_sub.ensures,
+      c.from.ensures,
+      c.count.ensures,
+    )) in
     omega (arith, fits)
 
 pub loop-i-preserved : goal.loop-i-preserved
@@ -25,15 +39,39 @@ loop-i-preserved c =
     let i : ℕ = c.loop-i.i in
     let card : ℕ = c.index-own-i.result in
     let here : card < length counts = omega (arith, c.requires.own_in i card (omega arith), c.index-own-i.is, c.kinds-kinds.ensures.deck.counted) in
-    let there : card < length left = omega (arith, here, length-after (left_after (left_after counts c.args.held.now) c.args.board.now) c.args.before.now, length-after (left_after counts c.args.held.now) c.args.board.now, length-after counts c.args.held.now) in
+    let there : card < length left = omega (
+      arith,
+      here,
+      length-after (left_after (left_after counts c.args.held.now) c.args.board.now) c.args.before.now,
+      length-after (left_after counts c.args.held.now) c.args.board.now,
+      length-after counts c.args.held.now,
+    ) in
     let few : get_or counts card 0 ≤ 9 = c.kinds-kinds.ensures.deck.copies card 0 here in
     let read = beside_read counts c.args.held.now c.args.board.now c.args.before.now card in
     let copies : c.from.result ≡ get_or counts card 0 = c.from.ensures ∙ c.count.ensures in
-    let rest : c.saturating_sub-rest.result ≡ get_or left card 0 - c.times-again.result = omega (arith, read, copies, c.saturating_sub-rest.ensures, c.saturating_sub-in-loop-i-2.ensures, c.saturating_sub-in-loop-i.ensures, c.saturating_sub.ensures, c.times.ensures.value, c.times-in-loop-i.ensures.value, c.times-in-loop-i-2.ensures.value) in
+    let rest : c.saturating_sub-rest.result ≡ get_or left card 0 - c.times-again.result =
+    omega (
+      arith,
+      read,
+      copies,
+      c.saturating_sub-rest.ensures,
+      c.saturating_sub-in-loop-i-2.ensures,
+      c.saturating_sub-in-loop-i.ensures,
+      c.saturating_sub.ensures,
+      c.times.ensures.value,
+      c.times-in-loop-i.ensures.value,
+      c.times-in-loop-i-2.ensures.value,
+    ) in
     let less : get_or left card 0 ≤ 9 = omega (arith, read, few) in
     record {
-      counted = c.shared-ways.ensures ∙ ways_more left own i card c.loop-i.ways c.saturating_sub-rest.result c.times-again.result (omega arith) c.index-own-i.is there c.loop-i.invariant.counted c.times-again.ensures.value rest;
-      small = omega (arith, c.shared-ways.ensures, few_ways c.loop-i.ways c.saturating_sub-rest.result (get_or left card 0) c.times-again.result i c.loop-i.invariant.small less rest);
+      counted = c.shared-ways.ensures ∙ ways_more left own i card c.loop-i.ways c.saturating_sub-rest.result c.times-again.result
+          (omega arith) c.index-own-i.is there c.loop-i.invariant.counted c.times-again.ensures.value rest;
+      small = omega (
+        arith,
+        c.shared-ways.ensures,
+        few_ways c.loop-i.ways c.saturating_sub-rest.result (get_or left card 0) c.times-again.result i
+            c.loop-i.invariant.small less rest,
+      );
     }
 
 pub returns-clause-small : goal.returns-clause-small

@@ -18,7 +18,8 @@ one_more head cap rounds i d old new lt before added =
 
 pub loop-round-preserved : goal.loop-round-preserved
 loop-round-preserved c =
-    one_more _ c.args.cap c.rounds-round-items.result.now c.loop-round.round-index _ _ _ c.loop-round-test.true c.loop-round.invariant c.in_ok-push_round.ensures
+    one_more _ c.args.cap c.rounds-round-items.result.now c.loop-round.round-index _ _ _ c.loop-round-test.true c.loop-round.invariant
+    c.in_ok-push_round.ensures
 
 pub loop-round-init : goal.loop-round-init
 loop-round-init c = search rules

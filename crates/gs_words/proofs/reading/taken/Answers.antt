@@ -11,4 +11,5 @@ returns-in-Ok-try_get_matches_from c =
 pub returns-in-Err-try_get_matches_from : goal.returns-in-Err-try_get_matches_from
 returns-in-Err-try_get_matches_from c =
     let t = c.in-Err-try_get_matches_from in
-    refused (map string_bytes c.args.words.now) (app_of c.in-Ok.command) c.kind.result c.stop_for.result c.in-Ok.ensures.0 c.stop_for.ensures (λ free. rw c.kind.ensures (t.ensures.kinds free))
+    refused (map string_bytes c.args.words.now) (app_of c.in-Ok.command) c.kind.result c.stop_for.result c.in-Ok.ensures.0 c.stop_for.ensures
+    (λ free. rw c.kind.ensures (t.ensures.kinds free))

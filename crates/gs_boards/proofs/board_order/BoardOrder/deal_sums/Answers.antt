@@ -6,10 +6,12 @@ use Rattle.gs_boards.proofs.Deals.{ArePaidBefore, ArePaidBehind, are_apart, both
 use Rattle.gs_boards.proofs.board_order.BoardOrder.deal_sums.Goals as goal
 
 pub climb-requires-clause-apart : goal.climb-requires-clause-apart
-climb-requires-clause-apart c = subst AreApart (sym c.deref.ensures.value) (are_apart (rules_of c.args.self.now.signals.now) c.args.self.now.places.items c.args.self.now.placed)
+climb-requires-clause-apart c = subst AreApart (sym c.deref.ensures.value)
+    (are_apart (rules_of c.args.self.now.signals.now) c.args.self.now.places.items c.args.self.now.placed)
 
 pub descend-requires-clause-apart : goal.descend-requires-clause-apart
-descend-requires-clause-apart c = subst AreApart (sym c.deref-2.ensures.value) (are_apart (rules_of c.args.self.now.signals.now) c.args.self.now.places.items c.args.self.now.placed)
+descend-requires-clause-apart c = subst AreApart (sym c.deref-2.ensures.value)
+    (are_apart (rules_of c.args.self.now.signals.now) c.args.self.now.places.items c.args.self.now.placed)
 
 pub returns : goal.returns
 returns c =

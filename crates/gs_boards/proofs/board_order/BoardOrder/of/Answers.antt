@@ -8,5 +8,6 @@ invariant_of-result c =
     let g : Game = rules_of c.args.signals.now in
     record {
       plain = c.if-not-is_plain.ensures;
-      placed = placed g c.in_ok-places.places.items c.sort_places.new.places.items c.in_ok-places.ensures.each c.in_ok-places.ensures.all c.sort_places.ensures.moved c.sort_places.ensures.order;
+      placed = placed g c.in_ok-places.places.items c.sort_places.new.places.items c.in_ok-places.ensures.each c.in_ok-places.ensures.all
+          c.sort_places.ensures.moved c.sort_places.ensures.order;
     }

@@ -26,7 +26,8 @@ returns-in-Fixed-clause-small c =
 won : (c : After-from-in-Showdown-2) → c.from-in-Showdown.result * c.from-in-Showdown-2.result * (c.args.before.on_board - c.args.before.on_level) ≤ 2 ^ 106
 won c =
     let chips : c.from-in-Showdown.result < 2 ^ 16 = omega arith in let win : c.from-in-Showdown-2.result < 2 ^ 8 = omega arith in
-    product_of_three c.from-in-Showdown.result c.from-in-Showdown-2.result (c.args.before.on_board - c.args.before.on_level) chips win (omega (arith, c.requires.few))
+    product_of_three c.from-in-Showdown.result c.from-in-Showdown-2.result (c.args.before.on_board - c.args.before.on_level) chips win
+    (omega (arith, c.requires.few))
 
 pub overflow_mul-result-in-Showdown-2 : goal.overflow_mul-result-in-Showdown-2
 overflow_mul-result-in-Showdown-2 c = let w = goal.at.overflow_mul-result-in-Showdown-2 c in record { fits = omega (arith, won w.After-from-in-Showdown-2) }

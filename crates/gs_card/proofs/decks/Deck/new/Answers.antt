@@ -3,7 +3,9 @@ use Rattle.gs_card.proofs.DeckLaws.{sound_at}
 use Rattle.gs_card.proofs.decks.Deck.new.Goals as goal
 
 pub invariant_of-result : goal.invariant_of-result
-invariant_of-result c = sound_at _ _ _ _ _ _ (sym c.fault.ensures ∙ c.in_default.is) c.in_ok-ranks.ensures.items c.in_ok-suits.ensures.items c.in_ok-counts.ensures
+invariant_of-result c = sound_at _ _ _ _ _ _ (sym c.fault.ensures ∙ c.in_default.is) c.in_ok-ranks.ensures.items c.in_ok-suits.ensures.items
+    c.in_ok-counts.ensures
 
 pub returns-clause-deck : goal.returns-clause-deck
-returns-clause-deck c = sound_at _ _ _ _ _ _ (sym c.fault.ensures ∙ c.in_default.is) c.in_ok-ranks.ensures.items c.in_ok-suits.ensures.items c.in_ok-counts.ensures
+returns-clause-deck c = sound_at _ _ _ _ _ _ (sym c.fault.ensures ∙ c.in_default.is) c.in_ok-ranks.ensures.items c.in_ok-suits.ensures.items
+    c.in_ok-counts.ensures

@@ -7,7 +7,8 @@ use Rattle.gs_filter.proofs.classes.Classes.class_of.Goals as goal
 pub returns-clause-class : goal.returns-clause-class
 returns-clause-class c =
     let e : c.of_round.result.now ≡ list_of c.args.self.now.lists c.args.round =
-    c.of_round.ensures ∙ ap (λ (vs : List (Vec ℕ Global)). list_of (rows vs) c.from.result) c.deref.ensures.value ∙ ap (λ k. list_of (rows c.self.inside.lists.items) k) c.from.ensures
+    c.of_round.ensures ∙ ap (λ (vs : List (Vec ℕ Global)). list_of (rows vs) c.from.result) c.deref.ensures.value
+    ∙ ap (λ k. list_of (rows c.self.inside.lists.items) k) c.from.ensures
     ∙ ap (λ (f : Filter). list_of f.lists c.args.round) c.self.view_is in
     subst (λ (xs : List ℕ). (0 < get_or xs c.args.signal 0) × (get_or xs c.args.signal 0 ≤ class_count c.args.self.now.lists c.args.round)) (sym e)
     (class_at c.args.self.now c.args.round c.requires.some c.requires.top c.args.signal c.requires.within)

@@ -8,7 +8,8 @@ module _ (c : goal.After-len) where
   count : c.len.result ≡ class_count c.args.self.now.lists c.args.round
   count =
       let tallied = subst (λ (f : Filter). rows c.self.inside.tallies.items ≡ map tallies_of f.lists) c.self.view_is c.self.invariant in
-      let e = round_tallies c.args.self.now.lists c.self.inside.tallies.items tallied c.args.round c.index.result.now c.requires.some c.requires.top c.index.ensures in
+      let e = round_tallies c.args.self.now.lists c.self.inside.tallies.items tallied c.args.round c.index.result.now c.requires.some c.requires.top
+      c.index.ensures in
       c.len.ensures ∙ c.index.result.now.ok.0 ∙ ap length e ∙ length-tallies_of (list_of c.args.self.now.lists c.args.round)
 
 pub overflow_cast-result : goal.overflow_cast-result

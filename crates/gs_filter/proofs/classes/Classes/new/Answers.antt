@@ -12,4 +12,7 @@ module _ (c : goal.In_ok-copy_of) where
       (subst (λ (vs : List (Vec ℕ Global)). AllTogether (rows c.args.parents.now) (rows vs)) c.deref-3.ensures.value c.in_default-first_apart.ensures)
 
 pub invariant_of-result : goal.invariant_of-result
-invariant_of-result c = (subst AreParents (sym c.in_ok-copy_of.ensures) c.requires, (subst (λ (ps : List (List ℕ)). IsClasses ps (rows c.args.lists.items)) (sym c.in_ok-copy_of.ensures) (are_classes c), tt))
+invariant_of-result c = (
+  subst AreParents (sym c.in_ok-copy_of.ensures) c.requires,
+  (subst (λ (ps : List (List ℕ)). IsClasses ps (rows c.args.lists.items)) (sym c.in_ok-copy_of.ensures) (are_classes c), tt),
+)

@@ -45,7 +45,8 @@ invariant_of-result c =
     let fits = c.requires.fits in
     record {
       reduced = rw (above_is, under_is)
-          (fraction_is (int_lt c.args.num (pos 0)) (c.unsigned_abs-size.result / c.gcd-divisor.result) (c.unsigned_abs-below.result / c.gcd-divisor.result) (omega arith) (omega (arith, ints)) p.some p.coprime);
+          (fraction_is (int_lt c.args.num (pos 0)) (c.unsigned_abs-size.result / c.gcd-divisor.result) (c.unsigned_abs-below.result / c.gcd-divisor.result)
+          (omega arith) (omega (arith, ints)) p.some p.coprime);
     }
 
 pub returns : goal.returns
@@ -59,4 +60,5 @@ returns c =
     let under_is : to_z w128 (of_z w128 c.with_sign-2.result) ≡ c.with_sign-2.result = omega (arith, ints) in
     let parts = reduced_by c.unsigned_abs-size.result c.unsigned_abs-below.result c.gcd-divisor.result c.gcd-divisor.ensures.divides (omega (arith, ints)) in
     crossed c.args.num c.args.den _ _ c.unsigned_abs-size.result c.unsigned_abs-below.result c.gcd-divisor.result size den_pos parts
-    (above_is ∙ c.with_sign.ensures ∙ ap (λ z. number_with_sign (int_lt z (pos 0)) (c.unsigned_abs-size.result / c.gcd-divisor.result)) num_is) (under_is ∙ c.with_sign-2.ensures)
+    (above_is ∙ c.with_sign.ensures ∙ ap (λ z. number_with_sign (int_lt z (pos 0)) (c.unsigned_abs-size.result / c.gcd-divisor.result)) num_is)
+    (under_is ∙ c.with_sign-2.ensures)

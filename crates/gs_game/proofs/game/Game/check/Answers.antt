@@ -24,11 +24,13 @@ returns-in_err-check_betting-clause-refused c =
 pub returns-in_err-totals-clause-refused : goal.returns-in_err-totals-clause-refused
 returns-in_err-totals-clause-refused c =
     let p = err_from_is_err_and c.from_residual-in_err-totals.result c.from_residual-in_err-totals.ensures.1 in
-    rw (p.1, p.2) (deals_fault (game_of c.args.self) c.in_err-totals.field-0.0 c.in_ok-check_cards.ensures c.in_ok-check_betting.ensures c.in_err-totals.ensures)
+    rw (p.1, p.2) (deals_fault (game_of c.args.self) c.in_err-totals.field-0.0 c.in_ok-check_cards.ensures c.in_ok-check_betting.ensures
+    c.in_err-totals.ensures)
 
 pub walk_from-requires : goal.walk_from-requires
 walk_from-requires c =
-    rw (c.deref.ensures.value, c.new.ensures.items, c.new-2.ensures.items, c.start.ensures) (walkable c.args.self c.requires.cards c.requires.bonus c.in_ok-check_cards.ensures c.in_ok-check_betting.ensures)
+    rw (c.deref.ensures.value, c.new.ensures.items, c.new-2.ensures.items, c.start.ensures)
+    (walkable c.args.self c.requires.cards c.requires.bonus c.in_ok-check_cards.ensures c.in_ok-check_betting.ensures)
 
 pub invariant_of-result : goal.invariant_of-result
 invariant_of-result c =

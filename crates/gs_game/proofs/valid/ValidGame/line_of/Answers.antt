@@ -10,8 +10,10 @@ follow_from-requires c =
 
 pub returns-clause-found : goal.returns-clause-found
 returns-clause-found c =
-    rw (trees_are c.args.self.now.game) (line_found c.args.self.now.game.rounds.items c.args.text.now c.follow_from.result (rw (c.deref.ensures.value, c.as_bytes.ensures.value) at c.follow_from.ensures))
+    rw (trees_are c.args.self.now.game) (line_found c.args.self.now.game.rounds.items c.args.text.now c.follow_from.result
+    (rw (c.deref.ensures.value, c.as_bytes.ensures.value) at c.follow_from.ensures))
 
 pub returns-clause-only : goal.returns-clause-only
 returns-clause-only c at h =
-    line_only c.args.self.now.game.rounds.items c.args.text.now c.follow_from.result at (rw (c.deref.ensures.value, c.as_bytes.ensures.value) at c.follow_from.ensures) (rw (trees_are c.args.self.now.game) at h)
+    line_only c.args.self.now.game.rounds.items c.args.text.now c.follow_from.result at
+    (rw (c.deref.ensures.value, c.as_bytes.ensures.value) at c.follow_from.ensures) (rw (trees_are c.args.self.now.game) at h)

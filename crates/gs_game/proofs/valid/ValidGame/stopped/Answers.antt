@@ -16,7 +16,8 @@ few_each (r ∷ rs) h = (record { private = h.0.0; public = h.0.1 }, few_each rs
 
 few_first : (rs : List Round) (n : ℕ) → All (λ (r : RoundRules). (r.private ≤ 2) × (r.public ≤ 3)) (map round_rules rs) → All HasFewCards (take n rs)
 few_first rs n h =
-    let each = All-from_recursion HasFewCards rs (few_each rs (recursion_from_All (λ (r : RoundRules). (r.private ≤ 2) × (r.public ≤ 3)) (map round_rules rs) h)) in
+    let each = All-from_recursion HasFewCards rs (few_each rs
+    (recursion_from_All (λ (r : RoundRules). (r.private ≤ 2) × (r.public ≤ 3)) (map round_rules rs) h)) in
     λ k d l. let m = length-take n rs in subst HasFewCards (sym (get_or-take n rs k d (omega (arith, l, m)))) (each k d (omega (arith, l, m)))
 
 -- a fault that is not want of memory is a refusal
@@ -35,11 +36,14 @@ refused r faults.TooManyDeals apart answers none = cc
 refused r faults.Memory apart answers none = apart refl
 
 -- the game of a copied deck and of such rounds is the stopped game
-made_so : (g : Rules) (round : ℕ) (d e : DeckValue) (bonus : List ℕ) (rs : List RoundRules) → e ≡ d → bonus ≡ 1 ∷ [] → g.suits ≡ length d.suits → g.copies ≡ d.counts
+made_so : (g : Rules) (round : ℕ) (d e : DeckValue) (bonus : List ℕ) (rs : List RoundRules) → e ≡ d → bonus ≡ 1 ∷ [] → g.suits ≡ length d.suits
+    → g.copies ≡ d.counts
     → rs ≡ map (λ (r : RoundRules). unbet r.private r.public) (take round g.rounds) ++ unbet 0 0 ∷ []
-    → (let made : Rules = record { suits = length e.suits; copies = e.counts; ranking = High; bonus = bonus; ante = 1; rounds = rs } in made) ≡ stopped_game g round
+    → (let made : Rules = record { suits = length e.suits; copies = e.counts; ranking = High; bonus = bonus; ante = 1; rounds = rs } in made) ≡
+    stopped_game g round
 made_so g round d e bonus rs same one suits copies rounds =
-    let of = λ (s : ℕ) (cs bonus : List ℕ) (rs : List RoundRules). let made : Rules = record { suits = s; copies = cs; ranking = High; bonus = bonus; ante = 1; rounds = rs } in made in
+    let of = λ (s : ℕ) (cs bonus : List ℕ) (rs : List RoundRules). let made : Rules =
+    record { suits = s; copies = cs; ranking = High; bonus = bonus; ante = 1; rounds = rs } in made in
     ap (λ (x : DeckValue). of (length x.suits) x.counts bonus rs) same
     ∙ ap (λ (b : List ℕ). of (length d.suits) d.counts b rs) one
     ∙ ap (λ (s : ℕ). of s d.counts (1 ∷ []) rs) (sym suits)
@@ -48,8 +52,16 @@ made_so g round d e bonus rs same one suits copies rounds =
 
 -- what a game's first rounds are turned into, from what was read of the game
 stopped_so : (game read : Game) (round n : ℕ) (now stopped : List Round) (deck : DeckValue) (bonus : List ℕ) → read ≡ game → now ≡ read.rounds.items → n ≡ round
-    → map round_rules stopped ≡ map (λ (r : RoundRules). unbet r.private r.public) (map round_rules (take n now)) ++ unbet 0 0 ∷ [] → deck ≡ read.deck → bonus ≡ 1 ∷ []
-    → (let made : Rules = record { suits = length deck.suits; copies = deck.counts; ranking = High; bonus = bonus; ante = 1; rounds = map round_rules stopped } in made) ≡ stopped_game (game_of game) round
+    → map round_rules stopped ≡ map (λ (r : RoundRules). unbet r.private r.public) (map round_rules (take n now)) ++ unbet 0 0 ∷ [] → deck ≡ read.deck
+    → bonus ≡ 1 ∷ []
+    → (let made : Rules = record {
+      suits = length deck.suits;
+      copies = deck.counts;
+      ranking = High;
+      bonus = bonus;
+      ante = 1;
+      rounds = map round_rules stopped;
+    } in made) ≡ stopped_game (game_of game) round
 stopped_so game read round n now stopped deck bonus same rounds count made copied one =
     let unbets = λ (rs : List RoundRules). map (λ (r : RoundRules). unbet r.private r.public) rs ++ unbet 0 0 ∷ [] in
     let first : take n now ≡ take round game.rounds.items =
@@ -68,7 +80,8 @@ returns-in-Ok c =
     let same = c.in-Ok.ensures.accepted.1 in
     let rounds = c.args.self.now.game.rounds.items in
     let read : take c.from.result c.deref.result.now ≡ take c.args.round rounds =
-    ap (λ (n : ℕ). take n c.deref.result.now) c.from.ensures ∙ ap (λ (rs : List Round). take c.args.round rs) (c.deref.ensures.value ∙ ap (λ (g : Game). g.rounds.items) c.game-game.ensures) in
+    ap (λ (n : ℕ). take n c.deref.result.now) c.from.ensures
+    ∙ ap (λ (rs : List Round). take c.args.round rs) (c.deref.ensures.value ∙ ap (λ (g : Game). g.rounds.items) c.game-game.ensures) in
     record {
       stops = record {
         copies = ap (λ (g : Game). g.deck.counts) same ∙ ap (λ d. d.counts) c.in_ok-copy.ensures ∙ ap (λ (g : Game). g.deck.counts) c.game-game.ensures;
@@ -77,20 +90,27 @@ returns-in-Ok c =
             ∙ ap (λ (rs : List RoundRules). seen_sizes rs ++ 0 ∷ 0 ∷ []) (sym (take-map round_rules c.args.round rounds));
       };
       whenever = ap game_of same
-          ∙ stopped_so c.args.self.now.game c.game-game.result.now c.args.round c.from.result c.deref.result.now c.in_ok-rounds.rounds.items c.in_ok-copy.field-0 c.in_ok-vec.field-0.items
-          c.game-game.ensures c.deref.ensures.value c.from.ensures c.in_ok-rounds.ensures.rounds c.in_ok-copy.ensures (c.in_ok-vec.ensures.items_if_clones_equal (λ y k. search rules));
+          ∙ stopped_so c.args.self.now.game c.game-game.result.now c.args.round c.from.result c.deref.result.now c.in_ok-rounds.rounds.items
+          c.in_ok-copy.field-0 c.in_ok-vec.field-0.items
+          c.game-game.ensures c.deref.ensures.value c.from.ensures c.in_ok-rounds.ensures.rounds c.in_ok-copy.ensures
+          (c.in_ok-vec.ensures.items_if_clones_equal (λ y k. search rules));
     }
 
 pub returns-after-fault-clause-whenever : goal.returns-after-fault-clause-whenever
 returns-after-fault-clause-whenever c =
     let game = c.args.self.now.game in
-    let P : Result (Option ValidGame) AllocError → Type 0 = λ r. IfOk r (λ o. MatchOption o (first_refusal (stopped_game (game_of game) c.args.round) ≢ None) (λ v. game_of v.game ≡ stopped_game (game_of game) c.args.round)) in
+    let P : Result (Option ValidGame) AllocError → Type 0 = λ r. IfOk r
+    (λ o. MatchOption o (first_refusal (stopped_game (game_of game) c.args.round) ≢ None)
+    (λ v. game_of v.game ≡ stopped_game (game_of game) c.args.round)) in
     let made =
-    stopped_so game c.game-game.result.now c.args.round c.from.result c.deref.result.now c.in_ok-rounds.rounds.items c.in_ok-copy.field-0 c.in_ok-vec.field-0.items
-    c.game-game.ensures c.deref.ensures.value c.from.ensures c.in_ok-rounds.ensures.rounds c.in_ok-copy.ensures (c.in_ok-vec.ensures.items_if_clones_equal (λ y k. search rules)) in
+    stopped_so game c.game-game.result.now c.args.round c.from.result c.deref.result.now c.in_ok-rounds.rounds.items c.in_ok-copy.field-0
+    c.in_ok-vec.field-0.items
+    c.game-game.ensures c.deref.ensures.value c.from.ensures c.in_ok-rounds.ensures.rounds c.in_ok-copy.ensures
+    (c.in_ok-vec.ensures.items_if_clones_equal (λ y k. search rules)) in
     elim c.match-fault.branch [
       | in-Memory w ↦ subst P (sym w.result-is) tt
       | in_default w ↦
           subst P (sym w.result-is)
-          (refused (first_refusal (stopped_game (game_of game) c.args.round)) c.in-Err.fault w.in_default.not-Memory (subst (λ (g : Rules). IsFaultOf (first_refusal g) c.in-Err.fault) made c.in-Err.ensures.refused))
+          (refused (first_refusal (stopped_game (game_of game) c.args.round)) c.in-Err.fault w.in_default.not-Memory
+          (subst (λ (g : Rules). IsFaultOf (first_refusal g) c.in-Err.fault) made c.in-Err.ensures.refused))
     ]

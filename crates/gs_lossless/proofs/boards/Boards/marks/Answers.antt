@@ -12,13 +12,16 @@ use Rattle.gs_lossless.proofs.boards.Boards.marks.Goals as goal
 -- the kinds are those of boards, the new one too
 known : (c : In_ok-kind) → All (IsKnown c.args.self.now.list.items c.args.keys.now) c.kind_of.new.kinds.list.items
 known c =
-    known_after c.args.self.now.list.items c.deref-board-items.result.now c.args.keys.now c.list_hands.new.hands.items c.deref.result.now c.loop-place.place c.board-item.result c.loop-place.kinds.list.items c.kind_of.new.kinds.list.items
-    c.deref-board-items.ensures.value c.deref.ensures.value c.loop-place-test.true c.board-item.is c.in_ok-list_hands.ensures c.loop-place.invariant.known c.in_ok-kind.ensures.list
+    known_after c.args.self.now.list.items c.deref-board-items.result.now c.args.keys.now c.list_hands.new.hands.items c.deref.result.now c.loop-place.place
+    c.board-item.result c.loop-place.kinds.list.items c.kind_of.new.kinds.list.items
+    c.deref-board-items.ensures.value c.deref.ensures.value c.loop-place-test.true c.board-item.is c.in_ok-list_hands.ensures c.loop-place.invariant.known
+    c.in_ok-kind.ensures.list
 
 -- and so is the one that is looked up
 like : (c : After-index-like) → IsKnown c.args.self.now.list.items c.args.keys.now c.index-like.result.now
 like c =
-    like_known c.args.self.now.list.items c.args.keys.now c.deref.result.now c.kind_of.new.kinds.list.items c.in_ok-kind.kind c.index-like.result.now (known (goal.at.After-index-like c).In_ok-kind) c.in_ok-kind.ensures.kind c.index-like.ensures
+    like_known c.args.self.now.list.items c.args.keys.now c.deref.result.now c.kind_of.new.kinds.list.items c.in_ok-kind.kind c.index-like.result.now
+    (known (goal.at.After-index-like c).In_ok-kind) c.in_ok-kind.ensures.kind c.index-like.ensures
 
 pub index-other-requires : goal.index-other-requires
 index-other-requires c =
@@ -28,8 +31,10 @@ pub mark_board-requires-clause-other_hands : goal.mark_board-requires-clause-oth
 mark_board-requires-clause-other_hands c =
     let keys : List ℕ = c.args.keys.now in
     let hands : List ℕ = c.index-like.result.now.hands.items in
-    let theirs : AreHands c.index-other.result.now keys hands = subst (λ (b : Board). AreHands b keys hands) (sym c.index-other.ensures) ((like (goal.at.mark_board-requires-clause-other_hands c).After-index-like).hands c.index-other.result.now) in
-    ap (λ (l : List ℕ). length l) c.deref-in-loop-place-4.ensures.value ∙ theirs.long ∙ ap (λ (l : List Seat). length l) (sym c.deref-in-loop-place-3.ensures.value)
+    let theirs : AreHands c.index-other.result.now keys hands = subst (λ (b : Board). AreHands b keys hands) (sym c.index-other.ensures)
+    ((like (goal.at.mark_board-requires-clause-other_hands c).After-index-like).hands c.index-other.result.now) in
+    ap (λ (l : List ℕ). length l) c.deref-in-loop-place-4.ensures.value ∙ theirs.long
+    ∙ ap (λ (l : List Seat). length l) (sym c.deref-in-loop-place-3.ensures.value)
 
 pub loop-place-init : goal.loop-place-init
 loop-place-init c =
@@ -56,16 +61,27 @@ loop-place-preserved c =
     let other : Board = c.index-other.result.now in
     let found : Kind = c.index-like.result.now in
     let new : List ℕ = c.mark_board.new.marks in
-    let here : c.loop-place.place < length boards = subst (λ (l : List Board). c.loop-place.place < length l) c.deref-board-items.ensures.value c.loop-place-test.true in
-    let at : board ≡ get_or boards c.loop-place.place board = subst (λ (l : List Board). board ≡ get_or l c.loop-place.place board) c.deref-board-items.ensures.value c.board-item.is in
+    let here : c.loop-place.place < length boards = subst (λ (l : List Board). c.loop-place.place < length l) c.deref-board-items.ensures.value
+    c.loop-place-test.true in
+    let at : board ≡ get_or boards c.loop-place.place board = subst (λ (l : List Board). board ≡ get_or l c.loop-place.place board)
+    c.deref-board-items.ensures.value c.board-item.is in
     let kind : IsKindOf kinds c.in_ok-kind.kind hands = subst (IsKindOf kinds c.in_ok-kind.kind) c.deref.ensures.value c.in_ok-kind.ensures.kind in
     let may : MayMark (seat_signals board.seats.items) hands (seat_signals other.seats.items) found.hands.items marks new =
-    may_read c.deref-in-loop-place.result.now c.deref-in-loop-place-3.result.now board.seats.items other.seats.items c.deref-in-loop-place-2.result.now c.deref-in-loop-place-4.result.now c.deref_mut.result.now hands found.hands.items marks new
-    c.deref-in-loop-place.ensures.value c.deref-in-loop-place-2.ensures.value c.deref-in-loop-place-3.ensures.value c.deref-in-loop-place-4.ensures.value c.deref_mut.ensures.value
+    may_read c.deref-in-loop-place.result.now c.deref-in-loop-place-3.result.now board.seats.items other.seats.items c.deref-in-loop-place-2.result.now
+    c.deref-in-loop-place-4.result.now c.deref_mut.result.now hands found.hands.items marks new
+    c.deref-in-loop-place.ensures.value c.deref-in-loop-place-2.ensures.value c.deref-in-loop-place-3.ensures.value c.deref-in-loop-place-4.ensures.value
+    c.deref_mut.ensures.value
     (record { long = c.mark_board.ensures.long; each = c.mark_board.ensures.each }) in
     let all : AreAlikeMarks g keys new =
-    marks_after g c.args.self.now.by_rank boards keys (λ i l. omega (arith, c.type_inv.keys i)) c.args.self.now.each c.loop-place.place c.in_ok-kind.kind board other found kinds hands marks new here at c.in_ok-list_hands.ensures (known (goal.at.loop-place-preserved c).In_ok-kind) kind
+    marks_after g c.args.self.now.by_rank boards keys (λ i l. omega (arith, c.type_inv.keys i)) c.args.self.now.each c.loop-place.place c.in_ok-kind.kind board
+    other found kinds hands marks new here at c.in_ok-list_hands.ensures (known (goal.at.loop-place-preserved c).In_ok-kind) kind
     c.index-like.ensures c.index-other.ensures c.loop-place.invariant.marks_are may in
     let long : length new ≡ length marks = c.mark_board.ensures.long ∙ ap (λ (l : List ℕ). length l) c.deref_mut.ensures.value in
-    let read : take c.loop-place.marks.len (new ++ drop (length new) marks) ≡ new = whole c.loop-place.marks.len new marks long (omega (arith, c.loop-place.marks.ok.0)) in
-    record { marks_are = subst (AreAlikeMarks g keys) (sym read) all; kept = c.in_ok-kind.ensures.kept; known = known (goal.at.loop-place-preserved c).In_ok-kind }
+    let read : take c.loop-place.marks.len (new ++ drop (length new) marks) ≡ new = whole c.loop-place.marks.len new marks long
+    (omega (arith, c.loop-place.marks.ok.0)) in
+    record {
+      marks_are = subst (AreAlikeMarks g keys) (sym read) all;
+      kept = c.in_ok-kind.ensures.kept;
+      known = known
+          (goal.at.loop-place-preserved c).In_ok-kind;
+    }

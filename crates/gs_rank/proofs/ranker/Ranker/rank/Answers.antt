@@ -15,7 +15,8 @@ returns-clause-rank c =
     let r = c.args.self.now in
     let v = c.index.result.now in
     let at : c.from.result ≡ c.args.card = c.from.ensures ∙ c.number.ensures in
-    c.index.ensures ∙ ap (λ (k : ℕ). get_or r.ranks.items k v) at ∙ kept (rank_of (length r.deck.now.suits)) (kinds r.deck.now) r.ranks.items c.args.card v r.ranked c.requires
+    c.index.ensures ∙ ap (λ (k : ℕ). get_or r.ranks.items k v) at
+    ∙ kept (rank_of (length r.deck.now.suits)) (kinds r.deck.now) r.ranks.items c.args.card v r.ranked c.requires
 
 pub returns-clause-low : goal.returns-clause-low
 returns-clause-low c =

@@ -15,4 +15,5 @@ returns c =
     let r = c.args.self.now in
     let v = c.index.result.now in
     let at : c.from.result ≡ c.args.card = c.from.ensures ∙ c.number.ensures in
-    c.index.ensures ∙ ap (λ (k : ℕ). get_or r.suits.items k v) at ∙ kept (suit_of (length r.deck.now.suits)) (kinds r.deck.now) r.suits.items c.args.card v r.suited c.requires
+    c.index.ensures ∙ ap (λ (k : ℕ). get_or r.suits.items k v) at
+    ∙ kept (suit_of (length r.deck.now.suits)) (kinds r.deck.now) r.suits.items c.args.card v r.suited c.requires

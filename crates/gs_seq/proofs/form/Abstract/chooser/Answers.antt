@@ -5,5 +5,6 @@ use Rattle.gs_seq.proofs.form.Abstract.chooser.Goals as goal
 
 pub returns : goal.returns
 returns c =
-    let r = form_reads c.args.self.now c.game.result.now c.points.result.now c.args.point c.index-points-point.result c.game.ensures c.points.ensures c.requires c.index-points-point.is in
+    let r = form_reads c.args.self.now c.game.result.now c.points.result.now c.args.point c.index-points-point.result c.game.ensures c.points.ensures c.requires
+    c.index-points-point.is in
     sym (ap (λ (p : Point). p.player) c.index-points-point.is) ∙ r.player

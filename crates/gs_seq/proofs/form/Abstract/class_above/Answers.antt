@@ -8,4 +8,5 @@ pub returns-clause-value : goal.returns-clause-value
 returns-clause-value c =
     let a = c.args.self.now in
     let same : c.classes.result.now ≡ a.lossless.now.classes.now = c.classes.ensures.held ∙ ap (λ (l : Lossless). l.classes.now) c.lossless.ensures in
-    subst (λ k. IsClassAbove k c.args.from c.args.to c.args.class c.class_above.result) same c.class_above.ensures.above (abstract_frame a) (form_in_range a) (sym a.lossless.now.parents)
+    subst (λ k. IsClassAbove k c.args.from c.args.to c.args.class c.class_above.result) same c.class_above.ensures.above (abstract_frame a) (form_in_range a)
+    (sym a.lossless.now.parents)

@@ -9,10 +9,12 @@ abbrev none : End
 none = record { round = 0; kind = kinds.Folded1; put = 0; one = None; two = None }
 
 pub returns-clause-value : goal.returns-clause-value
-returns-clause-value c = end_in_frame c.game.result.now (abstract_frame c.args.self.now) c.ends.result.now c.args.end none (ap frame_in c.game.ensures) c.ends.ensures c.requires
+returns-clause-value c = end_in_frame c.game.result.now (abstract_frame c.args.self.now) c.ends.result.now c.args.end none
+    (ap frame_in c.game.ensures) c.ends.ensures c.requires
 
 pub returns-clause-round : goal.returns-clause-round
-returns-clause-round c = round_in_frame c.game.result.now (abstract_frame c.args.self.now) c.ends.result.now c.args.end none (ap frame_in c.game.ensures) c.ends.ensures c.requires
+returns-clause-round c = round_in_frame c.game.result.now (abstract_frame c.args.self.now) c.ends.result.now c.args.end none
+    (ap frame_in c.game.ensures) c.ends.ensures c.requires
 
 pub returns-clause-some : goal.returns-clause-some
 returns-clause-some c =

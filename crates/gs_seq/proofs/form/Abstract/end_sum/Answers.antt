@@ -13,7 +13,9 @@ row_worth-requires-clause-source c =
     let z = c.args.end in
     let same = ap frame_in c.game.ensures in
     let made = c.end_source-source.ensures ls (subst (λ f. AreOffsets f ls c.offsets.result.now) (sym same) c.offsets.ensures) in
-    subst (λ p. MatchSource f ls p (at_end z) c.end_source-source.result) c.requires.other.player_is (subst (λ f. MatchSource f ls c.args.other.now.player (at_end z) c.end_source-source.result) same made)
+    subst (λ p. MatchSource f ls p (at_end z) c.end_source-source.result) c.requires.other.player_is
+    (subst (λ f. MatchSource f ls c.args.other.now.player (at_end z) c.end_source-source.result) same made)
 
 pub row_worth-requires-clause-row : goal.row_worth-requires-clause-row
-row_worth-requires-clause-row c = subst (λ r. IsRow (abstract_frame c.args.self.now) (lists_of c.args.self.now) r c.args.class c.pairs-row.result) c.end_in.ensures.round c.pairs-row.ensures
+row_worth-requires-clause-row c = subst (λ r. IsRow (abstract_frame c.args.self.now) (lists_of c.args.self.now) r c.args.class c.pairs-row.result)
+    c.end_in.ensures.round c.pairs-row.ensures

@@ -6,19 +6,23 @@ use Rattle.gs_seq.proofs.form.Abstract.end_sums.Goals as goal
 pub returns-in-Some-clause-numbers : goal.returns-in-Some-clause-numbers
 returns-in-Some-clause-numbers c =
     let a = c.args.self.now in
-    subst (λ p. AreNumbersAt (abstract_frame a) (lists_of a) p (class_plan (abstract_frame a) (lists_of a) c.args.other.now) c.args.end c.read_numbers.new.numbers) c.requires.other.player_is c.read_numbers.ensures.numbers
+    subst (λ p. AreNumbersAt (abstract_frame a) (lists_of a) p (class_plan (abstract_frame a) (lists_of a) c.args.other.now) c.args.end
+    c.read_numbers.new.numbers) c.requires.other.player_is c.read_numbers.ensures.numbers
 
 pub returns-in-None-clause-numbers : goal.returns-in-None-clause-numbers
 returns-in-None-clause-numbers c =
     let a = c.args.self.now in
-    subst (λ p. AreNumbersAt (abstract_frame a) (lists_of a) p (class_plan (abstract_frame a) (lists_of a) c.args.other.now) c.args.end c.read_numbers.new.numbers) c.requires.other.player_is c.read_numbers.ensures.numbers
+    subst (λ p. AreNumbersAt (abstract_frame a) (lists_of a) p (class_plan (abstract_frame a) (lists_of a) c.args.other.now) c.args.end
+    c.read_numbers.new.numbers) c.requires.other.player_is c.read_numbers.ensures.numbers
 
 pub returns-in-Some-clause-here : goal.returns-in-Some-clause-here
 returns-in-Some-clause-here c =
     let a = c.args.self.now in
-    λ k h. c.pay_along.ensures.here k h ∙ by_numbers (abstract_frame a) (lists_of a) c.args.player (class_plan (abstract_frame a) (lists_of a) c.args.other.now) c.args.end c.read_numbers.new.numbers (returns-in-Some-clause-numbers c) k
+    λ k h. c.pay_along.ensures.here k h ∙ by_numbers (abstract_frame a) (lists_of a) c.args.player (class_plan (abstract_frame a) (lists_of a) c.args.other.now)
+    c.args.end c.read_numbers.new.numbers (returns-in-Some-clause-numbers c) k
 
 pub returns-in-None-clause-here : goal.returns-in-None-clause-here
 returns-in-None-clause-here c =
     let a = c.args.self.now in
-    λ k h. c.pay_all.ensures.here k h ∙ by_numbers (abstract_frame a) (lists_of a) c.args.player (class_plan (abstract_frame a) (lists_of a) c.args.other.now) c.args.end c.read_numbers.new.numbers (returns-in-None-clause-numbers c) k
+    λ k h. c.pay_all.ensures.here k h ∙ by_numbers (abstract_frame a) (lists_of a) c.args.player (class_plan (abstract_frame a) (lists_of a) c.args.other.now)
+    c.args.end c.read_numbers.new.numbers (returns-in-None-clause-numbers c) k

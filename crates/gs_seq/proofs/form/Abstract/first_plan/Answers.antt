@@ -21,7 +21,8 @@ pub returns-clause-first : goal.returns-clause-first
 returns-clause-first c =
     let p = c.args.player in
     let weights = c.in_ok-weights.weights.items in
-    let firsts = carried (λ f ls. AreFirstBefore f ls p weights (point_count f)) (ap frame_in c.game.ensures) c.classes.ensures.lists c.in_ok-weights.ensures.firsts in
+    let firsts = carried (λ f ls. AreFirstBefore f ls p weights (point_count f)) (ap frame_in c.game.ensures) c.classes.ensures.lists
+    c.in_ok-weights.ensures.firsts in
     record {
       plan = (returns-clause-plan c).plan.plan;
       one = refl;

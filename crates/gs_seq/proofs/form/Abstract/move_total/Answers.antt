@@ -7,11 +7,18 @@ use Rattle.gs_seq.proofs.form.Abstract.move_total.Goals as goal
 
 counted : (c : After-len) → c.len.result ≡ move_count (abstract_frame c.args.self.now) c.args.point
 counted c =
-    let r = form_reads c.args.self.now c.game.result.now c.points.result.now c.args.point c.index-points-point.result c.game.ensures c.points.ensures c.requires c.index-points-point.is in
+    let r = form_reads c.args.self.now c.game.result.now c.points.result.now c.args.point c.index-points-point.result c.game.ensures c.points.ensures c.requires
+    c.index-points-point.is in
     omega (arith, c.len.ensures, ap (λ (p : Point). vec_len p.moves) c.index-points-point.is, c.index-points-point.result.moves.ok.0, r.moves)
 
 pub overflow_cast-result : goal.overflow_cast-result
-overflow_cast-result c = record { fits = omega (arith, counted (goal.at.overflow_cast-result c).After-len, (form_moves c.args.self.now c.args.point c.requires).few) }
+overflow_cast-result c = record {
+  fits = omega (
+    arith,
+    counted (goal.at.overflow_cast-result c).After-len,
+    (form_moves c.args.self.now c.args.point c.requires).few,
+  );
+}
 
 pub returns-clause-value : goal.returns-clause-value
 returns-clause-value c = omega (arith, counted (goal.at.returns-clause-value c).After-len)

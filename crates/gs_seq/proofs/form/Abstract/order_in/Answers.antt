@@ -8,4 +8,11 @@ use Rattle.gs_seq.proofs.form.Abstract.order_in.Goals as goal
 pub returns-in-Some-clause-last : goal.returns-in-Some-clause-last
 returns-in-Some-clause-last c =
     let g = c.args.self.now.lossless.now.signals.now.game.now in
-    omega (arith, c.if-round-rounds.true, c.rounds.ensures.value, ap (λ (x : Signals). round_count (rules_of x)) c.signals.ensures.held, last_round_of (game_of g.game))
+    omega (
+      arith,
+      c.if-round-rounds.true,
+      c.rounds.ensures.value,
+      ap (λ (x : Signals). round_count (rules_of x)) c.signals.ensures.held,
+      last_round_of
+          (game_of g.game),
+    )

@@ -22,7 +22,8 @@ is_last c =
     record { last = last; single = a.paired.single (omega (arith, less, last)) }
 
 -- the deals of the class's signal
-made_of : (c : After-deals_of) → c.deals_of.result ≡ filter (λ (d : Deal). d.one == c.args.one - 1) (deals (game_of c.args.self.now.lossless.now.signals.now.game.now.game))
+made_of : (c : After-deals_of) → c.deals_of.result ≡ filter (λ (d : Deal). d.one == c.args.one - 1)
+    (deals (game_of c.args.self.now.lossless.now.signals.now.game.now.game))
 made_of c = c.deals_of.ensures ∙ ap (λ (x : Signals). filter (λ (d : Deal). d.one == c.args.one - 1) (deals (game_of x.game.now.game))) c.signals.ensures.held
 
 pub deals_of-requires : goal.deals_of-requires

@@ -4,13 +4,16 @@ use Rattle.gs_seq.proofs.form.Abstract.payoff.Goals as goal
 
 pub plus-sum-requires : goal.plus-sum-requires
 plus-sum-requires c =
-    end_within _ _ (given_in c.args.self.now) _ _ c.requires.x.plan.plan c.requires.y.plan.plan c.loop-end.end (omega (arith, c.end_total-end-end.ensures, c.loop-end-test.true)) _ _ c.loop-end.invariant
+    end_within _ _ (given_in c.args.self.now) _ _ c.requires.x.plan.plan c.requires.y.plan.plan c.loop-end.end
+    (omega (arith, c.end_total-end-end.ensures, c.loop-end-test.true)) _ _ c.loop-end.invariant
     (read_back c.payoff_at.result _ (search rules) c.payoff_at.ensures)
 
 pub loop-end-preserved : goal.loop-end-preserved
-loop-end-preserved c = read_back c.plus-sum.result _ (search rules) (c.plus-sum.ensures ∙ range_begun _ c.loop-end.end _ _ c.loop-end.invariant (read_back c.payoff_at.result _ (search rules) c.payoff_at.ensures))
+loop-end-preserved c = read_back c.plus-sum.result _ (search rules)
+    (c.plus-sum.ensures ∙ range_begun _ c.loop-end.end _ _ c.loop-end.invariant (read_back c.payoff_at.result _ (search rules) c.payoff_at.ensures))
 
 pub returns : goal.returns
 returns c =
-    ends_are_all _ _ (given_in c.args.self.now) _ _ c.requires.x.plan.plan c.requires.y.plan.plan c.loop-end.end (omega (arith, c.end_total-end-end.ensures, c.loop-end-test.false, c.loop-end.auto.end-end)) _
+    ends_are_all _ _ (given_in c.args.self.now) _ _ c.requires.x.plan.plan c.requires.y.plan.plan c.loop-end.end
+    (omega (arith, c.end_total-end-end.ensures, c.loop-end-test.false, c.loop-end.auto.end-end)) _
     c.loop-end.invariant

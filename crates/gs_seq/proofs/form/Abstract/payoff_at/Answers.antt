@@ -8,7 +8,8 @@ use Rattle.gs_seq.proofs.form.Abstract.payoff_at.Goals as goal
 
 -- the class, its number and what the end pays there
 next : (c : After-end_sum-worth) → let f = abstract_frame c.args.self.now in let ls = lists_of c.args.self.now in
-    IsNext f ls (class_plan f ls c.args.x.now) (class_plan f ls c.args.y.now) c.args.end c.loop-before.before c.number_at_end-number.result (to_z w128 (of_z w128 c.end_sum-worth.result))
+    IsNext f ls (class_plan f ls c.args.x.now) (class_plan f ls c.args.y.now) c.args.end c.loop-before.before c.number_at_end-number.result
+    (to_z w128 (of_z w128 c.end_sum-worth.result))
 next c =
     let f = abstract_frame c.args.self.now in
     let ls = lists_of c.args.self.now in
@@ -16,21 +17,25 @@ next c =
     let n = c.loop-before.before in
     record {
       class = (omega arith, omega (arith, c.end_class_total-before-end.ensures, c.loop-before-test.true));
-      number = subst (λ p. c.number_at_end-number.result ≡ class_number f ls p x c.args.end (n + 1)) c.requires.x.player_is c.number_at_end-number.ensures.value;
+      number = subst (λ p. c.number_at_end-number.result ≡ class_number f ls p x c.args.end (n + 1)) c.requires.x.player_is
+          c.number_at_end-number.ensures.value;
       worth = read_back c.end_sum-worth.result _ (search rules) c.end_sum-worth.ensures;
     }
 
 pub scaled-requires : goal.scaled-requires
 scaled-requires c =
-    next_fits _ _ (given_in c.args.self.now) _ _ c.requires.x.plan.plan c.requires.y.plan.plan c.args.end _ _ _ c.requires.end (next (goal.at.scaled-requires c).After-end_sum-worth)
+    next_fits _ _ (given_in c.args.self.now) _ _ c.requires.x.plan.plan c.requires.y.plan.plan c.args.end _ _ _ c.requires.end
+    (next (goal.at.scaled-requires c).After-end_sum-worth)
 
 pub plus-sum-requires : goal.plus-sum-requires
 plus-sum-requires c =
-    next_within _ _ (given_in c.args.self.now) _ _ c.requires.x.plan.plan c.requires.y.plan.plan c.args.end _ _ _ c.requires.end (next (goal.at.plus-sum-requires c).After-end_sum-worth) _ _ c.loop-before.invariant
+    next_within _ _ (given_in c.args.self.now) _ _ c.requires.x.plan.plan c.requires.y.plan.plan c.args.end _ _ _ c.requires.end
+    (next (goal.at.plus-sum-requires c).After-end_sum-worth) _ _ c.loop-before.invariant
     (read_back c.scaled.result _ (search rules) c.scaled.ensures)
 
 pub loop-before-preserved : goal.loop-before-preserved
 loop-before-preserved c =
     read_back c.plus-sum.result _ (search rules) (c.plus-sum.ensures
-    ∙ next_put _ _ (given_in c.args.self.now) _ _ c.requires.x.plan.plan c.requires.y.plan.plan c.args.end _ _ _ c.requires.end (next (goal.at.loop-before-preserved c).After-end_sum-worth) _ _ c.loop-before.invariant
+    ∙ next_put _ _ (given_in c.args.self.now) _ _ c.requires.x.plan.plan c.requires.y.plan.plan c.args.end _ _ _ c.requires.end
+    (next (goal.at.loop-before-preserved c).After-end_sum-worth) _ _ c.loop-before.invariant
     (read_back c.scaled.result _ (search rules) c.scaled.ensures))

@@ -11,32 +11,39 @@ read_at : (sums : List ℤ) (n : ℕ) (w : ℤ) → get_or sums (0 + (n + 1 - 1)
 read_at sums n w h = let at : n ≡ 0 + (n + 1 - 1) = omega arith in ap (λ i. get_or sums i (pos 0)) at ∙ h
 
 -- the class, its number and what the end pays there
-next : (c : After-number_at_end-number) → FitsSigned w128 (get_or c.end_sums.new.sums c.loop-before.before (pos 0)) → let f = abstract_frame c.args.self.now in let ls = lists_of c.args.self.now in
-    IsNext f ls (class_plan f ls c.args.x.now) (class_plan f ls c.args.y.now) c.args.end c.loop-before.before c.number_at_end-number.result (to_z w128 (of_z w128 (get_or c.end_sums.new.sums c.loop-before.before (pos 0))))
+next : (c : After-number_at_end-number) → FitsSigned w128 (get_or c.end_sums.new.sums c.loop-before.before (pos 0))
+    → let f = abstract_frame c.args.self.now in let ls = lists_of c.args.self.now in
+    IsNext f ls (class_plan f ls c.args.x.now) (class_plan f ls c.args.y.now) c.args.end c.loop-before.before c.number_at_end-number.result
+    (to_z w128 (of_z w128 (get_or c.end_sums.new.sums c.loop-before.before (pos 0))))
 next c fits =
     let f = abstract_frame c.args.self.now in
     let ls = lists_of c.args.self.now in
     let x = class_plan f ls c.args.x.now in
     let n = c.loop-before.before in
     let sums = c.end_sums.new.sums in
-    let class : IsClass ls (round_of f (at_end c.args.end)) (n + 1) = (omega arith, omega (arith, c.end_class_total-before-end.ensures, c.loop-before-test.true)) in
+    let class : IsClass ls (round_of f (at_end c.args.end)) (n + 1) =
+    (omega arith, omega (arith, c.end_class_total-before-end.ensures, c.loop-before-test.true)) in
     record {
       class = class;
-      number = subst (λ p. c.number_at_end-number.result ≡ class_number f ls p x c.args.end (n + 1)) c.requires.x.player_is c.number_at_end-number.ensures.value;
+      number = subst (λ p. c.number_at_end-number.result ≡ class_number f ls p x c.args.end (n + 1)) c.requires.x.player_is
+          c.number_at_end-number.ensures.value;
       worth = read_back (get_or sums n (pos 0)) _ fits (read_at sums n _ (c.end_sums.ensures.here (n + 1) class));
     }
 
 pub scaled-requires : goal.scaled-requires
 scaled-requires c =
-    next_fits _ _ (given_in c.args.self.now) _ _ c.requires.x.plan.plan c.requires.y.plan.plan c.args.end _ _ _ c.requires.end (next (goal.at.scaled-requires c).After-number_at_end-number (search rules))
+    next_fits _ _ (given_in c.args.self.now) _ _ c.requires.x.plan.plan c.requires.y.plan.plan c.args.end _ _ _ c.requires.end
+    (next (goal.at.scaled-requires c).After-number_at_end-number (search rules))
 
 pub plus-sum-requires : goal.plus-sum-requires
 plus-sum-requires c =
-    next_within _ _ (given_in c.args.self.now) _ _ c.requires.x.plan.plan c.requires.y.plan.plan c.args.end _ _ _ c.requires.end (next (goal.at.plus-sum-requires c).After-number_at_end-number (search rules)) _ _ c.loop-before.invariant
+    next_within _ _ (given_in c.args.self.now) _ _ c.requires.x.plan.plan c.requires.y.plan.plan c.args.end _ _ _ c.requires.end
+    (next (goal.at.plus-sum-requires c).After-number_at_end-number (search rules)) _ _ c.loop-before.invariant
     (read_back c.scaled.result _ (search rules) c.scaled.ensures)
 
 pub loop-before-preserved : goal.loop-before-preserved
 loop-before-preserved c =
     read_back c.plus-sum.result _ (search rules) (c.plus-sum.ensures
-    ∙ next_put _ _ (given_in c.args.self.now) _ _ c.requires.x.plan.plan c.requires.y.plan.plan c.args.end _ _ _ c.requires.end (next (goal.at.loop-before-preserved c).After-number_at_end-number (search rules)) _ _ c.loop-before.invariant
+    ∙ next_put _ _ (given_in c.args.self.now) _ _ c.requires.x.plan.plan c.requires.y.plan.plan c.args.end _ _ _ c.requires.end
+    (next (goal.at.loop-before-preserved c).After-number_at_end-number (search rules)) _ _ c.loop-before.invariant
     (read_back c.scaled.result _ (search rules) c.scaled.ensures))

@@ -13,7 +13,8 @@ pub returns-in-Some-clause-refused : goal.returns-in-Some-clause-refused
 returns-in-Some-clause-refused c =
     let a = c.args.self.now in
     subst (λ ws. IsFaultOf (abstract_frame a) (lists_of a) c.args.player c.args.total ws c.in-Some.fault) c.deref.ensures.value
-    (carried (λ f ls. IsFaultOf f ls c.args.player c.args.total c.deref.result.now c.in-Some.fault) (ap frame_in c.game.ensures) c.classes.ensures.lists c.in-Some.ensures)
+    (carried (λ f ls. IsFaultOf f ls c.args.player c.args.total c.deref.result.now c.in-Some.fault) (ap frame_in c.game.ensures) c.classes.ensures.lists
+    c.in-Some.ensures)
 
 pub returns-in-None-clause-own : goal.returns-in-None-clause-own
 returns-in-None-clause-own c = record { player_is = refl; plan = returns-in-None-clause-plan c }

@@ -14,13 +14,16 @@ number_in numbers e = get_or numbers (e - 1) 0
 along : (c : After-end_in-at) → IsAlong c.args.self.now c.args.player c.args.end c.args.class c.args.row
 along c = record { some = c.requires.some; two = c.requires.two; inside = c.requires.end; is_row = c.requires.row }
 
-here : (c : In-Some) → IsHere c.args.self.now c.args.player c.args.end c.args.row c.next.new.self c.in-Some.pair (number_in c.args.numbers.now) (to_z w128 c.loop-pair.sum-bits)
+here : (c : In-Some) → IsHere c.args.self.now c.args.player c.args.end c.args.row c.next.new.self c.in-Some.pair (number_in c.args.numbers.now)
+    (to_z w128 c.loop-pair.sum-bits)
 here c =
-    here_in c.args.self.now c.args.player c.args.end c.args.class c.args.row (along (goal.at.In-Some c).After-end_in-at) (number_in c.args.numbers.now) c.loop-pair.pair-iterator c.next.new.self c.in-Some.pair _
+    here_in c.args.self.now c.args.player c.args.end c.args.class c.args.row (along (goal.at.In-Some c).After-end_in-at)
+    (number_in c.args.numbers.now) c.loop-pair.pair-iterator c.next.new.self c.in-Some.pair _
     c.loop-pair.invariant c.in-Some.ensures.steps
 
 -- the pair's part
-part_is : (c : After-number_of-number) → pos c.number_of-number.result *ℤ pair_pays c.args.player (end_of c.end_in-at.result) c.in-Some.pair ≡ paid c.args.self.now c.args.player c.args.end (number_in c.args.numbers.now) c.in-Some.pair
+part_is : (c : After-number_of-number) → pos c.number_of-number.result *ℤ pair_pays c.args.player (end_of c.end_in-at.result) c.in-Some.pair ≡ paid
+    c.args.self.now c.args.player c.args.end (number_in c.args.numbers.now) c.in-Some.pair
 part_is c = paid_as c.args.player _ _ _ _ c.in-Some.pair c.end_in-at.ensures.value c.number_of-number.ensures
 
 pub loop-pair-init : goal.loop-pair-init
@@ -38,7 +41,8 @@ pub add_pays-sum-requires : goal.add_pays-sum-requires
 add_pays-sum-requires c =
     let at = goal.at.add_pays-sum-requires c in
     let k = here at.In-Some in
-    let few : (e : ℕ) → IsClass (lists_of c.args.self.now) (round_of (abstract_frame c.args.self.now) (at_end c.args.end)) e → number_in c.args.numbers.now e ≤ 2 ^ 36 = λ e h. c.requires.few (e - 1) (omega (arith, h.0, h.1)) in
+    let few : (e : ℕ) → IsClass (lists_of c.args.self.now) (round_of (abstract_frame c.args.self.now) (at_end c.args.end)) e
+    → number_in c.args.numbers.now e ≤ 2 ^ 36 = λ e h. c.requires.few (e - 1) (omega (arith, h.0, h.1)) in
     record {
       few = k.known.weight;
       moderate = k.known.signed;
@@ -53,5 +57,6 @@ loop-pair-preserved c =
 
 pub returns : goal.returns
 returns c =
-    sum_is_all c.args.self.now c.args.player c.args.end c.args.class c.args.row (along (goal.at.returns c).After-end_in-at) (number_in c.args.numbers.now) c.loop-pair.pair-iterator _ c.loop-pair.invariant
+    sum_is_all c.args.self.now c.args.player c.args.end c.args.class c.args.row (along (goal.at.returns c).After-end_in-at)
+    (number_in c.args.numbers.now) c.loop-pair.pair-iterator _ c.loop-pair.invariant
     c.in-None.ensures.steps.0

@@ -17,48 +17,57 @@ along : (c : After-game-game) → IsAlong c.args.self.now c.args.player c.args.e
 along c = record { some = c.requires.some; two = c.requires.two; inside = c.requires.end; is_row = c.requires.row }
 
 here : (c : In-Some)
-    → IsHere c.args.self.now c.args.player c.args.end c.args.row c.next.new.self c.in-Some.pair (number_at c.args.self.now c.args.player c.args.other.now c.args.end) (to_z w128 c.loop-pair.sum-bits)
+    → IsHere c.args.self.now c.args.player c.args.end c.args.row c.next.new.self c.in-Some.pair
+    (number_at c.args.self.now c.args.player c.args.other.now c.args.end) (to_z w128 c.loop-pair.sum-bits)
 here c =
-    here_in c.args.self.now c.args.player c.args.end c.args.class c.args.row (along (goal.at.In-Some c).After-game-game) (number_at c.args.self.now c.args.player c.args.other.now c.args.end) c.loop-pair.pair-iterator
+    here_in c.args.self.now c.args.player c.args.end c.args.class c.args.row (along (goal.at.In-Some c).After-game-game)
+    (number_at c.args.self.now c.args.player c.args.other.now c.args.end) c.loop-pair.pair-iterator
     c.next.new.self c.in-Some.pair _ c.loop-pair.invariant c.in-Some.ensures.steps
 
 -- the number, as it was looked up
 number_is : (c : After-number_by-number)
-    → c.number_by-number.result ≡ class_number (abstract_frame c.args.self.now) (lists_of c.args.self.now) (other_player c.args.player) (class_plan (abstract_frame c.args.self.now) (lists_of c.args.self.now) c.args.other.now) c.args.end c.in-Some.pair.two
+    → c.number_by-number.result ≡ class_number (abstract_frame c.args.self.now) (lists_of c.args.self.now) (other_player c.args.player)
+    (class_plan (abstract_frame c.args.self.now) (lists_of c.args.self.now) c.args.other.now) c.args.end c.in-Some.pair.two
 number_is c =
     let f = abstract_frame c.args.self.now in
     let ls = lists_of c.args.self.now in
     let q = c.args.other.now in
-    carried (λ f ls. c.number_by-number.result ≡ class_number f ls q.player (class_plan f ls q) c.args.end c.in-Some.pair.two) (ap frame_in c.game-game.ensures) c.classes-classes.ensures.lists c.number_by-number.ensures.value
+    carried (λ f ls. c.number_by-number.result ≡ class_number f ls q.player (class_plan f ls q) c.args.end c.in-Some.pair.two)
+    (ap frame_in c.game-game.ensures) c.classes-classes.ensures.lists c.number_by-number.ensures.value
     ∙ ap (λ p. class_number f ls p (class_plan f ls q) c.args.end c.in-Some.pair.two) c.requires.other.player_is
 
 -- the pair's part
 part_is : (c : After-number_by-number)
-    → pos c.number_by-number.result *ℤ pair_pays c.args.player (end_of c.end_in-at.result) c.in-Some.pair ≡ paid c.args.self.now c.args.player c.args.end (number_at c.args.self.now c.args.player c.args.other.now c.args.end) c.in-Some.pair
+    → pos c.number_by-number.result *ℤ pair_pays c.args.player (end_of c.end_in-at.result) c.in-Some.pair ≡ paid c.args.self.now c.args.player c.args.end
+    (number_at c.args.self.now c.args.player c.args.other.now c.args.end) c.in-Some.pair
 part_is c = paid_as c.args.player _ _ _ _ c.in-Some.pair c.end_in-at.ensures.value (number_is c)
 
 pub loop-pair-init : goal.loop-pair-init
 loop-pair-init c =
     let begins : ◌≡◌ {A = List Pair} c.into_iter-pair-iterator.result c.args.row = cc in
-    come_begun (pair_term (abstract_frame c.args.self.now) (lists_of c.args.self.now) c.args.player (class_plan (abstract_frame c.args.self.now) (lists_of c.args.self.now) c.args.other.now) c.args.end) c.args.row _ begins
+    come_begun (pair_term (abstract_frame c.args.self.now) (lists_of c.args.self.now) c.args.player
+    (class_plan (abstract_frame c.args.self.now) (lists_of c.args.self.now) c.args.other.now) c.args.end) c.args.row _ begins
 
 pub number_by-number-requires-clause-plan : goal.number_by-number-requires-clause-plan
 number_by-number-requires-clause-plan c =
     let f = abstract_frame c.args.self.now in
     let ls = lists_of c.args.self.now in
-    carried (λ f ls. IsPlanOf f ls c.args.other.now.player c.args.other.now) (sym (ap frame_in c.game-game.ensures)) (sym c.classes-classes.ensures.lists) (subst (λ p. IsPlanOf f ls p c.args.other.now) (sym c.requires.other.player_is) c.requires.other)
+    carried (λ f ls. IsPlanOf f ls c.args.other.now.player c.args.other.now) (sym (ap frame_in c.game-game.ensures)) (sym c.classes-classes.ensures.lists)
+    (subst (λ p. IsPlanOf f ls p c.args.other.now) (sym c.requires.other.player_is) c.requires.other)
 
 pub number_by-number-requires-clause-source : goal.number_by-number-requires-clause-source
 number_by-number-requires-clause-source c =
     let f = abstract_frame c.args.self.now in
     let ls = lists_of c.args.self.now in
     let z = c.args.end in
-    carried (λ f ls. MatchSource f ls c.args.other.now.player (at_end z) c.args.source) (sym (ap frame_in c.game-game.ensures)) (sym c.classes-classes.ensures.lists)
+    carried (λ f ls. MatchSource f ls c.args.other.now.player (at_end z) c.args.source) (sym (ap frame_in c.game-game.ensures))
+    (sym c.classes-classes.ensures.lists)
     (subst (λ p. MatchSource f ls p (at_end z) c.args.source) (sym c.requires.other.player_is) c.requires.source)
 
 pub number_by-number-requires-clause-class : goal.number_by-number-requires-clause-class
 number_by-number-requires-clause-class c =
-    carried (λ f ls. IsClass ls (round_of f (at_end c.args.end)) c.in-Some.pair.two) (sym (ap frame_in c.game-game.ensures)) (sym c.classes-classes.ensures.lists) (here (goal.at.number_by-number-requires-clause-class c).In-Some).known.class
+    carried (λ f ls. IsClass ls (round_of f (at_end c.args.end)) c.in-Some.pair.two) (sym (ap frame_in c.game-game.ensures))
+    (sym c.classes-classes.ensures.lists) (here (goal.at.number_by-number-requires-clause-class c).In-Some).known.class
 
 pub add_pays-sum-requires : goal.add_pays-sum-requires
 add_pays-sum-requires c =
@@ -71,7 +80,12 @@ add_pays-sum-requires c =
     let k = here at.In-Some in
     let most = c.requires.other.plan.plan.total_in.1 in
     let few : (e : _) → IsClass ls (round_of f (at_end c.args.end)) e → class_number f ls own y c.args.end e ≤ 2 ^ 36 = λ e h.
-    omega (arith, number_few f ls own y c.args.end e g.in_range (g.walked own (omega (arith, c.requires.two)) (omega (arith, c.requires.some))) g.classes c.requires.other.plan.plan c.requires.end h, most) in
+    omega (
+      arith,
+      number_few f ls own y c.args.end e g.in_range (g.walked own (omega (arith, c.requires.two)) (omega (arith, c.requires.some))) g.classes
+          c.requires.other.plan.plan c.requires.end h,
+      most,
+    ) in
     record {
       few = k.known.weight;
       moderate = k.known.signed;
@@ -86,5 +100,6 @@ loop-pair-preserved c =
 
 pub returns : goal.returns
 returns c =
-    sum_is_all c.args.self.now c.args.player c.args.end c.args.class c.args.row (along (goal.at.returns c).After-game-game) (number_at c.args.self.now c.args.player c.args.other.now c.args.end) c.loop-pair.pair-iterator _
+    sum_is_all c.args.self.now c.args.player c.args.end c.args.class c.args.row (along (goal.at.returns c).After-game-game)
+    (number_at c.args.self.now c.args.player c.args.other.now c.args.end) c.loop-pair.pair-iterator _
     c.loop-pair.invariant c.in-None.ensures.steps.0

@@ -4,10 +4,12 @@ use Rattle.gs_seq.proofs.{Moves.{SlotFacts, slot_at}, form.Abstract.slot.Goals.{
 use Rattle.gs_seq.proofs.form.Abstract.slot.Goals as goal
 
 -- where a slot stands that counts from what was read as the base
-facts : (c : After-index) → SlotFacts (abstract_frame c.args.self.now) (lists_of c.args.self.now) c.args.point c.args.class c.args.choice c.index.result.now c.from-moves.result
+facts : (c : After-index) → SlotFacts (abstract_frame c.args.self.now) (lists_of c.args.self.now) c.args.point c.args.class c.args.choice c.index.result.now
+    c.from-moves.result
 facts c =
     slot_at c.args.self.now c.args.point c.args.class c.args.choice c.index.result.now c.from-moves.result c.requires.point c.requires.class c.requires.choice
-    (c.index.ensures ∙ get_or_default_zero c.args.self.now.offsets.items c.args.point c.index.result.now (omega (arith, c.args.self.now.placed.long, c.requires.point)))
+    (c.index.ensures ∙ get_or_default_zero c.args.self.now.offsets.items c.args.point c.index.result.now
+    (omega (arith, c.args.self.now.placed.long, c.requires.point)))
     (c.from-moves.ensures ∙ c.move_total.ensures.value)
 
 pub overflow_mul-result : goal.overflow_mul-result

@@ -14,8 +14,10 @@ too_long most f lists (TooManyCells count) h = ⊎_elim (λ one. absurd one) (λ
 too_long most f lists Memory h = tt
 
 -- what holds of the game and classes as they are called here holds of those that came in
-moved : (c : After-game-game) (P : Frame → ClassLists → Type 0) → P (frame_in c.game-game.result.now) c.classes-classes.result.now.lists → P (frame_in c.args.lossless.now.signals.now.game.now) c.args.lossless.now.classes.now.lists
-moved c P = carried c.game-game.result.now c.args.lossless.now.signals.now.game.now c.classes-classes.result.now c.args.lossless.now.classes.now P (c.game-game.ensures ∙ ap (λ (x : Signals). x.game.now) c.signals-signals.ensures.held) c.classes-classes.ensures.held
+moved : (c : After-game-game) (P : Frame → ClassLists → Type 0) → P (frame_in c.game-game.result.now) c.classes-classes.result.now.lists
+    → P (frame_in c.args.lossless.now.signals.now.game.now) c.args.lossless.now.classes.now.lists
+moved c P = carried c.game-game.result.now c.args.lossless.now.signals.now.game.now c.classes-classes.result.now c.args.lossless.now.classes.now P
+    (c.game-game.ensures ∙ ap (λ (x : Signals). x.game.now) c.signals-signals.ensures.held) c.classes-classes.ensures.held
 
 -- how many sequences and cells there are
 few : (c : In_ok-count) → HasSequencesWithin c.args.most.sequences (frame_in c.args.lossless.now.signals.now.game.now) c.args.lossless.now.classes.now.lists
@@ -28,9 +30,11 @@ pub returns-in_err-one-clause-refused : goal.returns-in_err-one-clause-refused
 returns-in_err-one-clause-refused c =
     let f = frame_in c.args.lossless.now.signals.now.game.now in
     let lists = c.args.lossless.now.classes.now.lists in
-    let long = moved (goal.at.returns-in_err-one-clause-refused c).After-game-game (λ f lists. IsTooLong c.args.most.sequences f lists c.in_err-one.field-0.0) c.in_err-one.ensures.refused in
+    let long = moved (goal.at.returns-in_err-one-clause-refused c).After-game-game (λ f lists. IsTooLong c.args.most.sequences f lists c.in_err-one.field-0.0)
+    c.in_err-one.ensures.refused in
     let e = err_from_is_err_and c.from_residual.result c.from_residual.ensures.1 in
-    subst (λ r. IfErr r (IsStopAt c.args.most f lists)) (sym e.1) (subst (IsStopAt c.args.most f lists) (sym e.2) (too_long c.args.most f lists c.in_err-one.field-0.0 long))
+    subst (λ r. IfErr r (IsStopAt c.args.most f lists)) (sym e.1)
+    (subst (IsStopAt c.args.most f lists) (sym e.2) (too_long c.args.most f lists c.in_err-one.field-0.0 long))
 
 pub cells-requires-clause-rows : goal.cells-requires-clause-rows
 cells-requires-clause-rows c =
@@ -39,7 +43,8 @@ cells-requires-clause-rows c =
     let classes = c.classes-classes.result.now in
     let same : s.signals.now.game.now ≡ game = sym (c.game-game.ensures ∙ ap (λ (x : Signals). x.game.now) c.signals-signals.ensures.held) in
     subst (AreRows (frame_in game) classes.lists) (sym c.deref.ensures.value)
-    (carried s.signals.now.game.now game s.classes.now classes (λ f lists. AreRows f lists c.in_ok-rows.rows.items) same (sym c.classes-classes.ensures.held) c.in_ok-rows.ensures)
+    (carried s.signals.now.game.now game s.classes.now classes (λ f lists. AreRows f lists c.in_ok-rows.rows.items) same
+    (sym c.classes-classes.ensures.held) c.in_ok-rows.ensures)
 
 pub returns-then-count-most-clause-refused : goal.returns-then-count-most-clause-refused
 returns-then-count-most-clause-refused c = let at = (goal.at.returns-then-count-most-clause-refused c).In_ok-count in (few at, count at, c.if-count-most.true)
@@ -59,4 +64,5 @@ invariant_of-result c =
     }
 
 pub returns-clause-small : goal.returns-clause-small
-returns-clause-small c = let at = (goal.at.returns-clause-small c).In_ok-count in record { sequences = few at; cells = omega (arith, count at, c.if-count-most.false) }
+returns-clause-small c = let at = (goal.at.returns-clause-small c).In_ok-count in record
+    { sequences = few at; cells = omega (arith, count at, c.if-count-most.false) }

@@ -1,4 +1,5 @@
-use Rattle.std.proofs.Common.{◌≡◌, ◌≢◌, IfNone, MatchOption, Option, Some, None, ◌⊎◌, inl, inr, ℕ, ◌+◌, ◌-◌, ◌*◌, ◌<◌, ◌≤◌, ℤ, pos, ◌<ℤ◌, List, ◌++◌, length, slice_index, take, drop, sym, ap, subst, ◌∙◌, arith}
+use Rattle.std.proofs.Common.{◌≡◌, ◌≢◌, IfNone, MatchOption, Option, Some, None, ◌⊎◌, inl, inr, ℕ, ◌+◌, ◌-◌, ◌*◌, ◌<◌, ◌≤◌, ℤ, pos, ◌<ℤ◌, List, ◌++◌, length}
+use Rattle.std.proofs.Common.{slice_index, take, drop, sym, ap, subst, ◌∙◌, arith}
 use Rattle.std.proofs.{lemmas.List.{take_at}, lemmas.Bool.{cases_lt}}
 use Rattle.gs_simplex.specs.{declared.program.Program.{Program}, Rows.{IsNarrow}, Program.{Listing, IsPairList}, declared.table.WideCell.{WideCell}}
 use Rattle.gs_simplex.specs.Numbers.{at, cell, AreNarrowNumbers, IsAtMost, AreTops, IsLeadOf, IsCleared, IsClearedTo}
@@ -29,7 +30,8 @@ record IsLed (p : Program) (old mid lead : List ℤ) (width r c : ℕ) : Type 0 
       → MatchOption res (IsCleared mid new (p.rows + 1) width r c (at lead)) (λ w. IsClearedTo mid (p.rows + 1) width r c (at lead) w.row w.column w.number)
       → MatchOption res (IsTableAfter p old new r c) (λ w. IsWideAfter p old r c w.row w.column w.number)
 
-module _ (p : Program) (old mid lead : List ℤ) (r c : ℕ) (rows : r < p.rows) (cols : c < p.cols) (table : IsTable p old) (nonzero : table_rows p old r c ≢ pos 0) (u : IsTaken p old mid lead r c) where
+module _ (p : Program) (old mid lead : List ℤ) (r c : ℕ) (rows : r < p.rows) (cols : c < p.cols) (table : IsTable p old)
+    (nonzero : table_rows p old r c ≢ pos 0) (u : IsTaken p old mid lead r c) where
   same_at : (j : ℕ) → j < p.cols + 2 → at lead j ≡ at mid (r * (p.cols + 2) + j)
   same_at j h = u.same j (omega (arith, u.wide))
 
@@ -52,13 +54,15 @@ module _ (p : Program) (old mid lead : List ℤ) (r c : ℕ) (rows : r < p.rows)
       elim (cases_lt k s) [
         | inl l ↦ subst P (sym (others_at k (inl l))) (table.narrow k (omega (arith, u.long)))
         | inr m ↦ elim (cases_lt k (s + (p.cols + 2))) [
-          | inl l ↦ (let q : s + (k - s) ≡ k = omega arith in let Q : ℕ → Type 0 = λ t. IsNarrow (at mid t) in subst Q q (subst P (same_at (k - s) (omega arith)) (narrow_lead (k - s) (omega arith))))
+          | inl l ↦ (let q : s + (k - s) ≡ k = omega arith in let Q : ℕ
+              → Type 0 = λ t. IsNarrow (at mid t) in subst Q q (subst P (same_at (k - s) (omega arith)) (narrow_lead (k - s) (omega arith))))
           | inr g ↦ subst P (sym (others_at k (inr g))) (table.narrow k (omega (arith, u.long)))
         ]
       ]
 
   answer : (new : List ℤ) (res : Option WideCell) → length new ≡ length mid
-      → MatchOption res (IsCleared mid new (p.rows + 1) (p.cols + 2) r c (at lead)) (λ w. IsClearedTo mid (p.rows + 1) (p.cols + 2) r c (at lead) w.row w.column w.number)
+      → MatchOption res (IsCleared mid new (p.rows + 1) (p.cols + 2) r c (at lead))
+      (λ w. IsClearedTo mid (p.rows + 1) (p.cols + 2) r c (at lead) w.row w.column w.number)
       → MatchOption res (IsTableAfter p old new r c) (λ w. IsWideAfter p old r c w.row w.column w.number)
   answer new None e h = table_after p old mid (at lead) r c rows cols table others_at same_at taken_at nonzero new (e ∙ u.long) h
   answer new (Some w) e h = wide_from p old mid (at lead) r c rows cols table others_at same_at taken_at nonzero w.row w.column w.number h narrow_lead
@@ -72,13 +76,16 @@ module _ (p : Program) (old mid lead : List ℤ) (r c : ℕ) (rows : r < p.rows)
     narrow_lead = u.narrow;
     narrow = narrow_mid;
     lead_row = λ j h. sym (same_at j h);
-    tops = λ tops has i h ne. at_most_same (p.cols + 2) (slice_index tops i) (cell old (p.cols + 2) i) (cell mid (p.cols + 2) i) (λ j l. sym (kept_row i ne j l)) (has i h);
-    live = λ l places owns found pairs of f. live_of p l r found places owns old mid (at lead) pairs table of.rows_of.0 of.rows_of.1 of.rows_of.2 of.rows_of.3 rows f kept_row (zero_lead p old mid (at lead) r c rows cols table others_at same_at taken_at nonzero);
+    tops = λ tops has i h ne. at_most_same (p.cols + 2) (slice_index tops i) (cell old (p.cols + 2) i) (cell mid (p.cols + 2) i)
+        (λ j l. sym (kept_row i ne j l)) (has i h);
+    live = λ l places owns found pairs of f. live_of p l r found places owns old mid (at lead) pairs table of.rows_of.0 of.rows_of.1 of.rows_of.2 of.rows_of.3
+        rows f kept_row (zero_lead p old mid (at lead) r c rows cols table others_at same_at taken_at nonzero);
     answer = answer;
   }
 
 -- what take_lead left, in the table and in the lead
-taken_lead : (c : After-take_lead-count) → IsTaken c.args.p.now c.args.self.now.numbers.items c.take_lead-count.new.numbers c.take_lead-count.new.lead c.args.r c.args.c
+taken_lead : (c : After-take_lead-count) → IsTaken c.args.p.now c.args.self.now.numbers.items c.take_lead-count.new.numbers c.take_lead-count.new.lead
+    c.args.r c.args.c
 taken_lead c =
     let P : List ℤ → Type 0 = λ x. IsTaken c.args.p.now x c.take_lead-count.new.numbers c.take_lead-count.new.lead c.args.r c.args.c in
     subst P c.deref_mut.ensures.value (record {
@@ -91,16 +98,20 @@ taken_lead c =
     })
 
 same_numbers : (c : After-deref_mut-3) → c.deref_mut-3.result.now ≡ c.take_lead-count.new.numbers
-same_numbers c = c.deref_mut-3.ensures.value ∙ take_at c.take_lead-count.new.numbers (drop (length c.take_lead-count.new.numbers) c.args.self.now.numbers.items) c.args.self.now.numbers.len (omega (arith, c.take_lead-count.auto.numbers, c.deref_mut.ensures.len))
+same_numbers c = c.deref_mut-3.ensures.value ∙ take_at c.take_lead-count.new.numbers (drop (length c.take_lead-count.new.numbers) c.args.self.now.numbers.items)
+    c.args.self.now.numbers.len (omega (arith, c.take_lead-count.auto.numbers, c.deref_mut.ensures.len))
 
 same_lead : (c : After-deref-numbers) → c.deref-numbers.result.now ≡ c.take_lead-count.new.lead
-same_lead c = c.deref-numbers.ensures.value ∙ take_at c.take_lead-count.new.lead (drop (length c.take_lead-count.new.lead) c.args.self.now.lead.items) c.args.self.now.lead.len (omega (arith, c.take_lead-count.auto.lead, c.deref_mut-2.ensures.len))
+same_lead c = c.deref-numbers.ensures.value ∙ take_at c.take_lead-count.new.lead (drop (length c.take_lead-count.new.lead) c.args.self.now.lead.items)
+    c.args.self.now.lead.len (omega (arith, c.take_lead-count.auto.lead, c.deref_mut-2.ensures.len))
 
 -- what is known of the rows and of the lead as they are passed
-led_here : (c : After-deref_mut-3) → IsLed c.args.p.now c.args.self.now.numbers.items c.deref_mut-3.result.now c.deref-numbers.result.now (length c.deref-numbers.result.now) c.args.r c.args.c
+led_here : (c : After-deref_mut-3) → IsLed c.args.p.now c.args.self.now.numbers.items c.deref_mut-3.result.now c.deref-numbers.result.now
+    (length c.deref-numbers.result.now) c.args.r c.args.c
 led_here c =
     let w = goal.at.After-deref_mut-3 c in
-    let p = c.args.p.now in let r = c.args.r in let k = c.args.c in let items = c.args.self.now.numbers.items in let now = c.deref_mut-3.result.now in let lead = c.deref-numbers.result.now in
+    let p = c.args.p.now in let r = c.args.r in let k = c.args.c in let items = c.args.self.now.numbers.items in let now =
+    c.deref_mut-3.result.now in let lead = c.deref-numbers.result.now in
     let taken = taken_lead w.After-take_lead-count in let same = same_lead w.After-deref-numbers in
     let W : ℕ → Type 0 = λ n. IsLed p items now lead n r k in
     let M : List ℤ → Type 0 = λ x. IsLed p items x lead (p.cols + 2) r k in
@@ -130,7 +141,8 @@ clear_column-requires-clause-live c =
     let F : List ℕ → Type 0 = λ x. AreFoundPlaces p c.args.basis.now r x owns found in
     let O : List ℕ → Type 0 = λ x. AreFoundPlaces p c.args.basis.now r c.find-found.new.self.places.items x found in
     subst (λ n. IsLive places owns found n r width rows lead) (sym (owns_long w.After-deref))
-    ((led_here w.After-deref_mut-3).live c.args.basis.now places owns found c.requires.pairs c.requires.rows (subst F (sym c.deref_mut-5.ensures.value) (subst O (sym c.deref.ensures.value) c.find-found.ensures.found)))
+    ((led_here w.After-deref_mut-3).live c.args.basis.now places owns found c.requires.pairs c.requires.rows
+    (subst F (sym c.deref_mut-5.ensures.value) (subst O (sym c.deref.ensures.value) c.find-found.ensures.found)))
 
 pub clear_column-requires-clause-narrow : goal.clear_column-requires-clause-narrow
 clear_column-requires-clause-narrow c = (led_here (goal.at.clear_column-requires-clause-narrow c).After-deref_mut-3).narrow
@@ -140,7 +152,8 @@ clear_column-requires-clause-tops c = λ i h ne.
     let w = goal.at.clear_column-requires-clause-tops c in
     let width = length c.deref-numbers.result.now in
     let P : List ℕ → Type 0 = λ x. IsAtMost width (cell c.deref_mut-3.result.now width i) (slice_index x i) in
-    subst P (sym c.deref_mut-6.ensures.value) ((led_here w.After-deref_mut-3).tops c.args.self.now.tops.items c.requires.tops i (omega (arith, h, owns_long w.After-deref)) ne)
+    subst P (sym c.deref_mut-6.ensures.value) ((led_here w.After-deref_mut-3).tops c.args.self.now.tops.items c.requires.tops i
+    (omega (arith, h, owns_long w.After-deref)) ne)
 
 pub returns-clause-listed : goal.returns-clause-listed
 returns-clause-listed c =
@@ -149,13 +162,23 @@ returns-clause-listed c =
     let mid = c.take_lead-count.new.numbers in let now = c.deref_mut-3.result.now in let new = c.clear_column.new.numbers in
     let width = length c.deref-numbers.result.now in let lead = at c.deref-numbers.result.now in let res = c.clear_column.result in
     let rest = drop (length new) (take n (mid ++ drop (length mid) items)) in
-    let long : length new ≡ n = omega (arith, c.clear_column.auto.numbers, c.take_lead-count.auto.numbers, c.deref_mut.ensures.len, ap length (same_numbers w.After-deref_mut-3)) in
+    let long : length new ≡ n = omega (
+      arith,
+      c.clear_column.auto.numbers,
+      c.take_lead-count.auto.numbers,
+      c.deref_mut.ensures.len,
+      ap length (same_numbers
+          w.After-deref_mut-3),
+    ) in
     let N : List ℤ → Type 0 = λ x. MatchOption res (IsTableAfter p items x r k) (λ y. IsWideAfter p items r k y.row y.column y.number) in
-    let C : ℕ → Type 0 = λ count. MatchOption res (IsCleared now new count width r k lead) (λ y. IsClearedTo now count width r k lead y.row y.column y.number) in
-    subst N (sym (take_at new rest n long)) ((led_here w.After-deref_mut-3).answer new res c.clear_column.auto.numbers (subst C (owns_long w.After-deref) c.clear_column.ensures.cleared))
+    let C : ℕ → Type 0 = λ count. MatchOption res (IsCleared now new count width r k lead)
+    (λ y. IsClearedTo now count width r k lead y.row y.column y.number) in
+    subst N (sym (take_at new rest n long)) ((led_here w.After-deref_mut-3).answer new res c.clear_column.auto.numbers
+    (subst C (owns_long w.After-deref) c.clear_column.ensures.cleared))
 
 -- a fact where there is no answer, of equal lists
-tops_of : (p : Program) (res : Option WideCell) (new new' : List ℤ) (tops tops' : List ℕ) (count width : ℕ) → new' ≡ new → tops' ≡ tops → count ≡ p.rows + 1 → width ≡ p.cols + 2
+tops_of : (p : Program) (res : Option WideCell) (new new' : List ℤ) (tops tops' : List ℕ) (count width : ℕ) → new' ≡ new → tops' ≡ tops → count ≡ p.rows + 1
+    → width ≡ p.cols + 2
     → IfNone res (AreTops count width new tops) → IfNone res (HasTops p new' tops')
 tops_of p None new new' tops tops' count width en et ec ew u =
     let C : ℕ → Type 0 = λ k. AreTops k width new tops in let W : ℕ → Type 0 = λ k. AreTops (p.rows + 1) k new tops in
@@ -168,9 +191,17 @@ returns-clause-tops c =
     let w = goal.at.returns-clause-tops c in
     let items = c.args.self.now.numbers.items in let n = c.args.self.now.numbers.len in let mid = c.take_lead-count.new.numbers in
     let new = c.clear_column.new.numbers in let tops = c.clear_column.new.tops in let old = c.args.self.now.tops in
-    let long : length new ≡ n = omega (arith, c.clear_column.auto.numbers, c.take_lead-count.auto.numbers, c.deref_mut.ensures.len, ap length (same_numbers w.After-deref_mut-3)) in
+    let long : length new ≡ n = omega (
+      arith,
+      c.clear_column.auto.numbers,
+      c.take_lead-count.auto.numbers,
+      c.deref_mut.ensures.len,
+      ap length (same_numbers
+          w.After-deref_mut-3),
+    ) in
     let same = same_lead w.After-deref-numbers in
-    tops_of c.args.p.now c.clear_column.result new (take n (new ++ drop (length new) (take n (mid ++ drop (length mid) items)))) tops (take old.len (tops ++ drop (length tops) old.items)) (length c.deref.result.now) (length c.deref-numbers.result.now)
+    tops_of c.args.p.now c.clear_column.result new (take n (new ++ drop (length new) (take n (mid ++ drop (length mid) items)))) tops
+    (take old.len (tops ++ drop (length tops) old.items)) (length c.deref.result.now) (length c.deref-numbers.result.now)
     (take_at new (drop (length new) (take n (mid ++ drop (length mid) items))) n long)
     (take_at tops (drop (length tops) old.items) old.len (omega (arith, c.clear_column.auto.tops, c.deref_mut-6.ensures.len)))
     (owns_long w.After-deref) (ap length same ∙ (taken_lead w.After-take_lead-count).wide) c.clear_column.ensures.tops

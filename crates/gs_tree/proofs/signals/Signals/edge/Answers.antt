@@ -10,5 +10,6 @@ returns c =
     let l : Layer = c.index.result.now in
     let ls : List Layer = c.args.self.now.tables.layers.items in
     let at : l ≡ get_or ls (c.args.round - 1) l = c.index.ensures ∙ ap (λ k. get_or ls (k - 1) l) c.from.ensures in
-    let h = layer_of g c.args.self.now.tables.parents.items ls c.args.round l c.args.self.now.listed c.requires.some (omega (arith, c.args.self.now.counted, c.requires.last)) at in
+    let h = layer_of g c.args.self.now.tables.parents.items ls c.args.round l c.args.self.now.listed c.requires.some
+    (omega (arith, c.args.self.now.counted, c.requires.last)) at in
     c.of.ensures ∙ h.weighs c.args.signal c.requires.in_range

@@ -7,5 +7,7 @@ pub returns-then-one-last_count : goal.returns-then-one-last_count
 returns-then-one-last_count c =
     let s = c.args.self.now in
     let firsts : List ℕ = s.boards.firsts.items in
-    row_start (rules_of s) firsts s.boards.nexts.items c.args.one c.index.result.now s.beside (omega (arith, c.last_count.ensures.value, c.if-one-last_count.true))
-    (c.index.ensures ∙ same_read firsts c.args.one c.index.result.now 0 (omega (arith, s.beside.firsts_long, c.last_count.ensures.value, c.if-one-last_count.true)))
+    row_start (rules_of s) firsts s.boards.nexts.items c.args.one c.index.result.now s.beside
+    (omega (arith, c.last_count.ensures.value, c.if-one-last_count.true))
+    (c.index.ensures ∙ same_read firsts c.args.one c.index.result.now 0
+    (omega (arith, s.beside.firsts_long, c.last_count.ensures.value, c.if-one-last_count.true)))

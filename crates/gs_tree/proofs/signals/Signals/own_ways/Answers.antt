@@ -16,12 +16,17 @@ all_rounds c = sym (ap (map round_rules) (c.deref-round-items.ensures.value ∙ 
 
 -- what one turn reads
 read_turn : (c : After-from) → (rules_of c.args.self.now).rounds ≡ map round_rules c.deref-round-items.result.now
-    → IsTurn (rules_of c.args.self.now) (left_by (rules_of c.args.self.now).copies (signal_at (rules_of c.args.self.now) (round_count (rules_of c.args.self.now)) c.args.one)) (signal_at (rules_of c.args.self.now) (round_count (rules_of c.args.self.now)) c.args.two) c.loop-round.round-index c.loop-round.start (c.loop-round.start + c.from.result) c.own-own.result.now
+    → IsTurn (rules_of c.args.self.now) (left_by (rules_of c.args.self.now).copies
+    (signal_at (rules_of c.args.self.now) (round_count (rules_of c.args.self.now)) c.args.one))
+    (signal_at (rules_of c.args.self.now) (round_count (rules_of c.args.self.now)) c.args.two) c.loop-round.round-index c.loop-round.start
+    (c.loop-round.start + c.from.result) c.own-own.result.now
 read_turn c all =
     let s = c.args.self.now in
     let g : Game = rules_of s in
     let left : List ℕ = left_by g.copies (signal_at g (round_count g) c.args.one) in
-    turn g left c.deref-round-items.result.now c.args.two c.loop-round.round-index c.round-item.result c.loop-round.start (c.loop-round.start + c.from.result) c.own-own.result.now s.game.now.dealable all c.requires.two_in c.own-own.ensures c.loop-round-test.true c.round-item.is c.loop-round.invariant.start
+    turn g left c.deref-round-items.result.now c.args.two c.loop-round.round-index c.round-item.result c.loop-round.start
+    (c.loop-round.start + c.from.result) c.own-own.result.now s.game.now.dealable all c.requires.two_in c.own-own.ensures c.loop-round-test.true c.round-item.is
+    c.loop-round.invariant.start
     (ap (λ w. c.loop-round.start + w) c.from.ensures)
 
 pub overflow_add-end : goal.overflow_add-end
@@ -31,7 +36,8 @@ overflow_add-end c =
     let g : Game = rules_of s in
     let h = read_turn w.After-from (all_rounds w.After-deref-round-items) in
     let ss : List Signal = signals g (round_count g) in
-    let long : length s.hands.owns.items ≡ length ss * s.hands.own = ap (λ (x : List ℕ). length x) s.dealt.owned ∙ parts_length own_cards s.hands.own ss [] s.dealt.own_each in
+    let long : length s.hands.owns.items ≡ length ss * s.hands.own = ap (λ (x : List ℕ). length x) s.dealt.owned
+    ∙ parts_length own_cards s.hands.own ss [] s.dealt.own_each in
     let room : c.args.two * s.hands.own + s.hands.own ≤ length ss * s.hands.own = part_in c.args.two (length ss) s.hands.own c.requires.two_in in
     let each : length c.own-own.result.now ≡ s.hands.own = ap (λ (x : List ℕ). length x) c.own-own.ensures ∙ s.dealt.own_each c.args.two c.requires.two_in in
     omega (arith, h.step.within, each, room, long, s.hands.owns.ok.0, s.hands.owns.small)
@@ -49,7 +55,8 @@ slice_bounds-ways_beside-end-in-loop-round c =
 pub ways_beside-ways-requires-clause-own_in : goal.ways_beside-ways-requires-clause-own_in
 ways_beside-ways-requires-clause-own_in c =
     let w = goal.at.ways_beside-ways-requires-clause-own_in c in
-    let kinds_are : length (rules_of c.args.self.now).copies ≡ kinds c.deck-deck.result.now = c.deck-deck.ensures.valid.counted ∙ sym (ap kinds c.deck-deck.ensures.deck) in
+    let kinds_are : length (rules_of c.args.self.now).copies ≡ kinds c.deck-deck.result.now = c.deck-deck.ensures.valid.counted
+    ∙ sym (ap kinds c.deck-deck.ensures.deck) in
     let P : ℕ → Type 0 = λ n. All (λ card. card < n) (between c.loop-round.start (c.loop-round.start + c.from.result) c.own-own.result.now) in
     subst P kinds_are (read_turn w.After-from (all_rounds w.After-deref-round-items)).own_in
 
@@ -63,7 +70,13 @@ overflow_mul-ways c =
     let k : ℕ = c.loop-round.round-index in
     let all = all_rounds (goal.at.overflow_mul-ways c).After-deref-round-items in
     let power = power_more c.loop-round.ways c.ways_beside-ways.result k c.loop-round.invariant.small c.ways_beside-ways.ensures.small in
-    let few : k + 1 ≤ 4 = omega (arith, c.args.self.now.game.now.limits.few_rounds, c.loop-round-test.true, ap (λ (x : List Round). length x) all, length-map c.deref-round-items.result.now round_rules) in
+    let few : k + 1 ≤ 4 = omega (
+      arith,
+      c.args.self.now.game.now.limits.few_rounds,
+      c.loop-round-test.true,
+      ap (λ (x : List Round). length x) all,
+      length-map c.deref-round-items.result.now round_rules,
+    ) in
     let fits = power_fits (c.loop-round.ways * c.ways_beside-ways.result) (k + 1) few power in
     omega (arith, fits)
 
@@ -81,7 +94,8 @@ loop-round-preserved c =
     ∙ ap (λ x. left_after (left_after g.copies x) c.public-board.result.now) c.own-held.ensures
     ∙ ap (left_after (left_after g.copies (own_cards (signal_at g (round_count g) c.args.one)))) c.public-board.ensures
     ∙ sym (left_by_cards g.copies (signal_at g (round_count g) c.args.one)) in
-    let before : take c.loop-round.start c.own-own.result.now ≡ own_cards (take k t) = sym (between_from_start c.own-own.result.now c.loop-round.start) ∙ h.step.before in
+    let before : take c.loop-round.start c.own-own.result.now ≡ own_cards (take k t) = sym (between_from_start c.own-own.result.now c.loop-round.start)
+    ∙ h.step.before in
     let group : List ℕ = between c.loop-round.start (c.loop-round.start + c.from.result) c.own-own.result.now in
     let here : c.ways_beside-ways.result ≡ ways (left_after left (own_cards (take k t))) p.own =
     c.ways_beside-ways.ensures.value
@@ -100,5 +114,6 @@ returns c =
     let t : Signal = signal_at g (round_count g) c.args.two in
     let all = all_rounds (goal.at.returns c).After-deref-round-items in
     let h = has_rounds g (round_count g) c.args.two c.requires.two_in in
-    let over : length t ≤ c.loop-round.round-index = omega (arith, h.long, c.loop-round-test.false, ap (λ (x : List Round). length x) all, length-map c.deref-round-items.result.now round_rules) in
+    let over : length t ≤ c.loop-round.round-index = omega
+    (arith, h.long, c.loop-round-test.false, ap (λ (x : List Round). length x) all, length-map c.deref-round-items.result.now round_rules) in
     c.loop-round.invariant.counted ∙ ap (own_ways (left_by g.copies (signal_at g (round_count g) c.args.one))) (take_all c.loop-round.round-index t over)

@@ -8,4 +8,5 @@ use Rattle.gs_tree.proofs.signals.Signals.parents.Goals as goal
 pub returns : goal.returns
 returns c =
     let items : Vec ℕ → List ℕ = λ v. v.items in
-    ap (map items) c.deref.ensures.value ∙ rows_all (rules_of c.args.self.now) c.args.self.now.tables.parents.items c.args.self.now.tables.layers.items (round_count (rules_of c.args.self.now)) c.args.self.now.listed c.args.self.now.counted
+    ap (map items) c.deref.ensures.value ∙ rows_all (rules_of c.args.self.now) c.args.self.now.tables.parents.items c.args.self.now.tables.layers.items
+    (round_count (rules_of c.args.self.now)) c.args.self.now.listed c.args.self.now.counted

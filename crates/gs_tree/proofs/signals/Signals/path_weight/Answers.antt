@@ -9,5 +9,6 @@ returns-clause-some c =
     let s = c.args.self.now in
     let g : Game = rules_of s in
     let value : c.of.result ≡ path_weight g.copies (signal_at g (round_count g) c.args.signal) =
-    c.of.ensures ∙ ap (λ (x : List ℕ). get_or x c.args.signal 0) s.dealt.weighed ∙ get_or-map (path_weight g.copies) (signals g (round_count g)) c.args.signal [] 0 c.requires in
+    c.of.ensures ∙ ap (λ (x : List ℕ). get_or x c.args.signal 0) s.dealt.weighed
+    ∙ get_or-map (path_weight g.copies) (signals g (round_count g)) c.args.signal [] 0 c.requires in
     omega (arith, value, (leaves_are_deals g c.args.signal c.requires).0)

@@ -9,7 +9,8 @@ overflow_mul-result c =
     let z = c.args.self.now in
     let g : Game = rules_of z in
     let same : same_public (signal_at g (round_count g) c.args.one) (signal_at g (round_count g) c.args.two) ≡ true = c.requires.same in
-    let both : ℕ = path_weight g.copies (signal_at g (round_count g) c.args.one) * own_ways (left_by g.copies (signal_at g (round_count g) c.args.one)) (signal_at g (round_count g) c.args.two) in
+    let both : ℕ = path_weight g.copies (signal_at g (round_count g) c.args.one) * own_ways (left_by g.copies (signal_at g (round_count g) c.args.one))
+    (signal_at g (round_count g) c.args.two) in
     let weight : c.path_weight.result * c.own_ways.result ≡ (deal_at g c.args.one c.args.two).weight =
     ap (λ w. w * c.own_ways.result) c.path_weight.ensures.value
     ∙ ap (λ w. path_weight g.copies (signal_at g (round_count g) c.args.one) * w) c.own_ways.ensures

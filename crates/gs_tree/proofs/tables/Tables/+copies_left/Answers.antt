@@ -11,12 +11,14 @@ use Rattle.gs_tree.proofs.tables.Tables.+copies_left.Goals.{After-index-2}
 pub index-shown-requires : goal.index-shown-requires
 index-shown-requires t c =
     let l : Layer = c.index.result.now in
-    let h = layer_of (game_of c.args.game.now) c.args.self.now.parents.items c.args.self.now.layers.items c.args.round l c.requires.tables (omega arith) c.requires.round_in c.index.ensures in
+    let h = layer_of (game_of c.args.game.now) c.args.self.now.parents.items c.args.self.now.layers.items c.args.round l c.requires.tables
+    (omega arith) c.requires.round_in c.index.ensures in
     omega (arith, h.long, l.shown.ok.0, c.requires.signal_in)
 
 -- the round's row is of the parents
 row_is : (t : ℕ) (c : After-index-2 t) → c.index-2.result.now.items ≡ parents (game_of c.args.game.now) c.args.round
-row_is t c = parents_of (game_of c.args.game.now) c.args.self.now.parents.items c.args.self.now.layers.items c.args.round c.index-2.result.now c.requires.tables (omega arith) c.requires.round_in c.index-2.ensures
+row_is t c = parents_of (game_of c.args.game.now) c.args.self.now.parents.items c.args.self.now.layers.items c.args.round c.index-2.result.now c.requires.tables
+    (omega arith) c.requires.round_in c.index-2.ensures
 
 pub index-parent-requires : goal.index-parent-requires
 index-parent-requires t c =
@@ -26,7 +28,8 @@ index-parent-requires t c =
 pub copies_left-requires : goal.copies_left-requires
 copies_left-requires t c =
     let g : Game = game_of c.args.game.now in
-    let p = parent_read g c.index-2.result.now c.args.round c.args.signal c.index-parent.result.now (row_is t (goal.at.copies_left-requires t c).After-index-2) c.requires.signal_in c.index-parent.ensures in
+    let p = parent_read g c.index-2.result.now c.args.round c.args.signal c.index-parent.result.now (row_is t (goal.at.copies_left-requires t c).After-index-2)
+    c.requires.signal_in c.index-parent.ensures in
     let child = is_child g c.args.round c.args.signal (omega arith) c.requires.signal_in in
     (omega arith, (c.requires.tables, (omega (arith, c.requires.round_in), omega (arith, p, child.parent_in))))
 
@@ -34,14 +37,19 @@ pub returns-clause-left : goal.returns-clause-left
 returns-clause-left t c =
     let g : Game = game_of c.args.game.now in
     let l : Layer = c.index.result.now in
-    let p = parent_read g c.index-2.result.now c.args.round c.args.signal c.index-parent.result.now (row_is t (goal.at.returns-clause-left t c).After-index-2) c.requires.signal_in c.index-parent.ensures in
+    let p = parent_read g c.index-2.result.now c.args.round c.args.signal c.index-parent.result.now (row_is t (goal.at.returns-clause-left t c).After-index-2)
+    c.requires.signal_in c.index-parent.ensures in
     let child = is_child g c.args.round c.args.signal (omega arith) c.requires.signal_in in
-    let k = layer_of g c.args.self.now.parents.items c.args.self.now.layers.items c.args.round l c.requires.tables (omega arith) c.requires.round_in c.index.ensures in
+    let k = layer_of g c.args.self.now.parents.items c.args.self.now.layers.items c.args.round l c.requires.tables (omega arith) c.requires.round_in
+    c.index.ensures in
     let shown = c.index-shown.result.now in
     let reads : shown ≡ get_or l.shown.items c.args.signal shown = c.index-shown.ensures in
     let shows : seen_of shown ≡ last_seen (signal_at g c.args.round c.args.signal) = ap seen_of reads ∙ k.shows c.args.signal shown c.requires.signal_in in
     let step = left_step g c.args.round c.args.signal c.index-parent.result.now c.in_ok-left.left.items shown child p c.in_ok-left.ensures.left shows in
-    let first : c.in_ok-left-2.left.items ≡ left_after c.in_ok-left.left.items (cards_of shown.own) = c.in_ok-left-2.ensures.value ∙ ap (λ x. left_after x c.cards.result.now) c.deref.ensures.value ∙ ap (left_after c.in_ok-left.left.items) c.cards.ensures in
-    let second : left_after c.deref-2.result.now c.cards-2.result.now ≡ left_by g.copies (signal_at g c.args.round c.args.signal) = ap (λ x. left_after x c.cards-2.result.now) (c.deref-2.ensures.value ∙ first) ∙ ap (left_after (left_after c.in_ok-left.left.items (cards_of shown.own))) c.cards-2.ensures ∙ step in
+    let first : c.in_ok-left-2.left.items ≡ left_after c.in_ok-left.left.items (cards_of shown.own) = c.in_ok-left-2.ensures.value
+    ∙ ap (λ x. left_after x c.cards.result.now) c.deref.ensures.value ∙ ap (left_after c.in_ok-left.left.items) c.cards.ensures in
+    let second : left_after c.deref-2.result.now c.cards-2.result.now ≡ left_by g.copies (signal_at g c.args.round c.args.signal) =
+    ap (λ x. left_after x c.cards-2.result.now) (c.deref-2.ensures.value ∙ first)
+    ∙ ap (left_after (left_after c.in_ok-left.left.items (cards_of shown.own))) c.cards-2.ensures ∙ step in
     let P : List ℕ → Type 0 = λ x. IfOk c.left_without-2.result (λ (rest : Vec ℕ). rest.items ≡ x) in
     subst P second c.left_without-2.ensures.value

@@ -13,16 +13,21 @@ counting m n e = omega arith
 pub grow-requires-clause-few : goal.grow-requires-clause-few
 grow-requires-clause-few c =
     let n : length c.loop-next.tables.layers.items ≡ c.loop-next.next-index = c.loop-next.invariant.rounds in
-    c.requires.limits.signals_in (suc (length c.loop-next.tables.layers.items)) (omega (arith, n, ap (λ (x : List Round). length x) c.deref-next-items.ensures.value, length-map c.args.game.now.rounds.items round_rules))
+    c.requires.limits.signals_in (suc (length c.loop-next.tables.layers.items))
+    (omega (arith, n, ap (λ (x : List Round). length x) c.deref-next-items.ensures.value, length-map c.args.game.now.rounds.items round_rules))
 
 pub grow-requires-clause-private : goal.grow-requires-clause-private
 grow-requires-clause-private c =
-    let s = small_round c.args.game.now.rounds.items c.loop-next.next-index c.next-item.result c.requires.dealable.small (omega (arith, ap (λ (x : List Round). length x) c.deref-next-items.ensures.value)) (c.next-item.is ∙ ap (λ (x : List Round). get_or x c.loop-next.next-index c.next-item.result) c.deref-next-items.ensures.value) in
+    let s = small_round c.args.game.now.rounds.items c.loop-next.next-index c.next-item.result c.requires.dealable.small
+    (omega (arith, ap (λ (x : List Round). length x) c.deref-next-items.ensures.value))
+    (c.next-item.is ∙ ap (λ (x : List Round). get_or x c.loop-next.next-index c.next-item.result) c.deref-next-items.ensures.value) in
     omega (arith, s.0)
 
 pub grow-requires-clause-public : goal.grow-requires-clause-public
 grow-requires-clause-public c =
-    let s = small_round c.args.game.now.rounds.items c.loop-next.next-index c.next-item.result c.requires.dealable.small (omega (arith, ap (λ (x : List Round). length x) c.deref-next-items.ensures.value)) (c.next-item.is ∙ ap (λ (x : List Round). get_or x c.loop-next.next-index c.next-item.result) c.deref-next-items.ensures.value) in
+    let s = small_round c.args.game.now.rounds.items c.loop-next.next-index c.next-item.result c.requires.dealable.small
+    (omega (arith, ap (λ (x : List Round). length x) c.deref-next-items.ensures.value))
+    (c.next-item.is ∙ ap (λ (x : List Round). get_or x c.loop-next.next-index c.next-item.result) c.deref-next-items.ensures.value) in
     s.1
 
 pub overflow_cast-count : goal.overflow_cast-count
@@ -30,7 +35,8 @@ overflow_cast-count c =
     let g : Game = game_of c.args.game.now in
     let m : ℕ = length c.loop-next.tables.layers.items in
     let n : m ≡ c.loop-next.next-index = c.loop-next.invariant.rounds in
-    let few = c.requires.limits.signals_in (suc m) (omega (arith, n, ap (λ (x : List Round). length x) c.deref-next-items.ensures.value, length-map c.args.game.now.rounds.items round_rules)) in
+    let few = c.requires.limits.signals_in (suc m) (omega
+    (arith, n, ap (λ (x : List Round). length x) c.deref-next-items.ensures.value, length-map c.args.game.now.rounds.items round_rules)) in
     let owned : c.in_ok-parents.field-0.parents.items ≡ parents g (suc m) = c.in_ok-parents.ensures.parents in
     omega (arith, few, ap (λ (x : List ℕ). length x) owned, length-parents g (suc m), c.len-count.ensures, c.in_ok-parents.field-0.parents.ok.0)
 
@@ -46,7 +52,16 @@ loop-next-preserved c =
     let more = tables_push g c.loop-next.tables.parents.items ls row layer c.loop-next.invariant.tables owned listed in
     let R : List (Vec ℕ) → Type 0 = λ ps. AreTables g ps (ls ++ layer ∷ []) in
     let S : List Layer → Type 0 = λ x. AreTables g c.push.new.self.items x in
-    let counted : c.len-count.result ≡ length (signals g (c.loop-next.next-index + 1)) = omega (arith, c.len-count.ensures, c.in_ok-parents.field-0.parents.ok.0, ap (λ (x : List ℕ). length x) owned, length-parents g (suc (length ls)), ap (λ k. length (signals g k)) (counting (length ls) c.loop-next.next-index c.loop-next.invariant.rounds)) in
+    let counted : c.len-count.result ≡ length (signals g (c.loop-next.next-index + 1)) =
+    omega (
+      arith,
+      c.len-count.ensures,
+      c.in_ok-parents.field-0.parents.ok.0,
+      ap (λ (x : List ℕ). length x) owned,
+      length-parents g
+          (suc (length ls)),
+      ap (λ k. length (signals g k)) (counting (length ls) c.loop-next.next-index c.loop-next.invariant.rounds),
+    ) in
     record {
       tables = subst S (sym c.in_ok-push-2.ensures.items) (subst R (sym c.in_ok-push.ensures.items) more);
       rounds = omega (arith, ap (λ (x : List Layer). length x) c.in_ok-push-2.ensures.items, length-append ls (layer ∷ []), c.loop-next.invariant.rounds);
