@@ -41,7 +41,8 @@ pub(crate) fn classes_of(
     }
 }
 
-/// Returns the classes of a grouping as lossless ones, or the refusal with their first unlike pair. Only signal classes are compared: the others are known to be lossless.
+/// Returns the classes of a grouping as lossless ones, or the refusal with their first unlike pair. Only signal classes are compared: the others are known
+/// to be lossless.
 pub(crate) fn lossless_of<'a>(
     alloc: Global,
     signals: &'a Signals<'a>,

@@ -1,4 +1,4 @@
-use Rattle.std.proofs.Common.{ap, refl, sym}
+use Rattle.std.proofs.Common.{Err, ap, refl, sym, ◌∙◌}
 use Rattle.gs_best.specs.Judged.{parts}
 use Rattle.gs_certificate.specs.FaultTexts.{cert_fault_text}
 use Rattle.gs_model.specs.Verdict.{IsValue}
@@ -8,20 +8,21 @@ use Rattle.gs_strategy.specs.Views.{parts_of}
 use Rattle.gs_strategy_commands.proofs.Moved.{bounds_moved, fault_moved, moved, sound_moved}
 use Rattle.gs_strategy_commands.proofs.verifying.sound.Goals as goal
 
-pub returns-in_ok-cert_fault_text-in-Err : goal.returns-in_ok-cert_fault_text-in-Err
-returns-in_ok-cert_fault_text-in-Err c =
+pub returns-in_ok-why-in-Err-Fault : goal.returns-in_ok-why-in-Err-Fault
+returns-in_ok-why-in-Err-Fault c =
     let s = c.args.stored.now in
     let k = c.args.c.now in
-    let why = c.in-Err.fault in (
+    let why = c.in-Err-Fault.fault in (
       Bad_certificate (cert_fault_text why),
       record {
         lossless = c.requires.form.lossless;
         small = c.requires.form.small;
         why = why;
-        fault = fault_moved c.args.form.now.lossless.now s k c.requires.form.held _ why c.in-Err.is c.certified_payoff.ensures.exact;
+        fault = fault_moved c.args.form.now.lossless.now s k c.requires.form.held _ why (c.in-Err-Fault.is ∙ ap Err c.in-Err-Fault.field-0-is)
+            c.certified_payoff.ensures.exact;
         told = refl;
       },
-      ap Bad_certificate (sym c.in_ok-cert_fault_text-in-Err.ensures),
+      ap Bad_certificate (sym c.in_ok-why-in-Err-Fault.ensures),
     )
 
 pub returns-in_ok-bounds_text-in-Ok : goal.returns-in_ok-bounds_text-in-Ok
