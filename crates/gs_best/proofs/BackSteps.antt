@@ -1,9 +1,9 @@
--- One step of the induction backwards, for worths of any kind: a point gets its row, and all later ones stay as they are.
+-- One step of the induction backwards: a point gets its row, and all later ones stay as they are.
 use Rattle.std.proofs.{Common.{◌≡◌, ◌≢◌, ℕ, ◌+◌, ◌-◌, ◌<◌, ◌≤◌, List, get_or, sym, ap, ◌∙◌, subst, arith, ⊎_elim}, lemmas.Bool.{cases_eq}, lemmas.Int.{ints}}
 use Rattle.std.specs.Prelude.{ℤ, pos, ◌≤ℤ◌, ◌<ℤ◌}
 use Rattle.gs_model.specs.{BestAnswers.{Values}, Classes.{ClassLists, IsClass}, Frame.{Frame, choices_at, move_count, player_at, point_count, round_of}}
 use Rattle.gs_model.specs.{FrameFacts.{IsFrom}, Positions.{Target, at_end, at_point}, Sums.{sum_z}}
-use Rattle.gs_best.specs.{Rows.{AreSums, IsCopied, IsMerged, Worths}, Tables.{AreFirstBy, IsFollowedBy, classes_at, start_of}}
+use Rattle.gs_best.specs.{ClassTotals.{total_worth}, Places.{AreFirstFrom, IsFollowedFrom}, Rows.{AreSums, IsCopied, IsMerged}, Tables.{classes_at, start_of}}
 use Rattle.gs_best.proofs.{Placed.{row_later}, Ranges.{sum_same}}
 
 -- what comes later than a point comes later than all points before it
@@ -25,19 +25,21 @@ module _ {A : Type 0} (zero : A) (f : Frame) (lists : ClassLists) (q start count
   copied_here c lc = let e : start_of f lists q + (c - 1) ≡ start + (c - 1) = omega (arith, at) in
       ap (λ i. get_or new i zero) e ∙ copied.here (c - 1) (omega (arith, lc.0, lc.1, wide))
 
-module _ (f : Frame) (lists : ClassLists) (player q : ℕ) (lq : q < point_count f) (v v' : Values) (worth worth' : Worths) (move move' : ℕ → ℕ
-    → ℕ) (row : List ℤ)
+module _ (f : Frame) (lists : ClassLists) (player q : ℕ) (lq : q < point_count f) (v v' : Values) (move move' : ℕ → ℕ → ℕ) (row : List ℤ)
     (value_later : (p c : ℕ) → q + 1 ≤ p → IsClass lists (round_of f (at_point p)) c → v' (at_point p) c ≡ v (at_point p) c) (value_here : (c : ℕ)
     → IsClass lists (round_of f (at_point q)) c → v' (at_point q) c ≡ get_or row (c - 1) (pos 0))
-    (same_worth : (p m c : ℕ) → q ≤ p → p < point_count f → m < move_count f p → worth' p m c ≡ worth p m c) (kept : (p c : ℕ) → q + 1 ≤ p
-    → IsClass lists (round_of f (at_point p)) c → move' p c ≡ move p c) where
-  same_sum : (p c : ℕ) → q ≤ p → p < point_count f → sum_z (λ m. worth' p m c) (choices_at f p) ≡ sum_z (λ m. worth p m c) (choices_at f p)
-  same_sum p c lo lp = sum_same (λ m. worth' p m c) (λ m. worth p m c) 0 (move_count f p) (λ m a b. same_worth p m c lo lp (omega arith))
+    (same_worth : (p m c : ℕ) → q ≤ p → p < point_count f → m < move_count f p → total_worth f lists v' p m c ≡ total_worth f lists v p m c)
+    (kept : (p c : ℕ) → q + 1 ≤ p → IsClass lists (round_of f (at_point p)) c → move' p c ≡ move p c) where
+  same_sum : (p c : ℕ) → q ≤ p → p < point_count f
+      → sum_z (λ m. total_worth f lists v' p m c) (choices_at f p) ≡ sum_z (λ m. total_worth f lists v p m c) (choices_at f p)
+  same_sum p c lo lp = sum_same (λ m. total_worth f lists v' p m c) (λ m. total_worth f lists v p m c) 0 (move_count f p)
+      (λ m a b. same_worth p m c lo lp (omega arith))
 
   module _ (own_in : player_at f q ≡ player → (c : ℕ) → IsClass lists (round_of f (at_point q)) c → move' q c < move_count f q)
-      (own_is : player_at f q ≡ player → (c : ℕ) → IsClass lists (round_of f (at_point q)) c → get_or row (c - 1) (pos 0) ≡ worth q (move' q c) c) where
-    pub followed_back : (player_at f q ≢ player → AreSums f lists worth q (move_count f q) row) → IsFollowedBy f lists player v worth move (q + 1)
-        → IsFollowedBy f lists player v' worth' move' q
+      (own_is : player_at f q ≡ player → (c : ℕ) → IsClass lists (round_of f (at_point q)) c
+      → get_or row (c - 1) (pos 0) ≡ total_worth f lists v q (move' q c) c) where
+    pub followed_back : (player_at f q ≢ player → AreSums f lists (total_worth f lists v) q (move_count f q) row) → IsFollowedFrom f lists player v move (q + 1)
+        → IsFollowedFrom f lists player v' move' q
     followed_back sums h = record {
       in_range = λ p c lo lp. ⊎_elim
           (λ (same : p ≡ q). let P : ℕ → Type 0 = λ p. player_at f p ≡ player → IsClass lists (round_of f (at_point p)) c → move' p c < move_count f p in
@@ -47,16 +49,16 @@ module _ (f : Frame) (lists : ClassLists) (player q : ℕ) (lq : q < point_count
           (cases_eq p q);
       reached = λ p c lo lp. ⊎_elim
           (λ (same : p ≡ q). let P : ℕ → Type 0 = λ p. player_at f p ≡ player → IsClass lists (round_of f (at_point p)) c
-          → v' (at_point p) c ≡ worth' p (move' p c) c in subst P (sym same)
+          → v' (at_point p) c ≡ total_worth f lists v' p (move' p c) c in subst P (sym same)
           (λ own lc. value_here c lc ∙ own_is own c lc ∙ sym (same_worth q (move' q c) c (omega arith) lq (own_in own c lc))))
           (λ (other : p ≡ q → ⊥). λ own lc.
           let later : q + 1 ≤ p = omega arith in
           value_later p c later lc ∙ h.reached p c later lp own lc ∙ sym (same_worth p (move p c) c lo lp (h.in_range p c later lp own lc))
-          ∙ ap (λ m. worth' p m c) (sym (kept p c later lc)))
+          ∙ ap (λ m. total_worth f lists v' p m c) (sym (kept p c later lc)))
           (cases_eq p q);
       at_others = λ p c lo lp. ⊎_elim
           (λ (same : p ≡ q). let P : ℕ → Type 0 = λ p. player_at f p ≢ player → IsClass lists (round_of f (at_point p)) c
-          → v' (at_point p) c ≡ sum_z (λ m. worth' p m c) (choices_at f p) in subst P (sym same)
+          → v' (at_point p) c ≡ sum_z (λ m. total_worth f lists v' p m c) (choices_at f p) in subst P (sym same)
           (λ other lc. value_here c lc ∙ sums other c lc ∙ sym (same_sum q c (omega arith) lq)))
           (λ (not : p ≡ q → ⊥). λ other lc.
           let later : q + 1 ≤ p = omega arith in
@@ -65,14 +67,14 @@ module _ (f : Frame) (lists : ClassLists) (player q : ℕ) (lq : q < point_count
     }
 
   first_back : ((m c : ℕ) → player_at f q ≡ player → m < move_count f q → IsClass lists (round_of f (at_point q)) c
-      → worth q m c ≤ℤ get_or row (c - 1) (pos 0))
+      → total_worth f lists v q m c ≤ℤ get_or row (c - 1) (pos 0))
       → ((m c : ℕ) → player_at f q ≡ player → IsClass lists (round_of f (at_point q)) c → m < move' q c
-      → (m < move_count f q) × (worth q m c <ℤ get_or row (c - 1) (pos 0)))
-      → IsFollowedBy f lists player v worth move (q + 1) → AreFirstBy f lists player v worth move (q + 1) → AreFirstBy f lists player v' worth' move' q
+      → (m < move_count f q) × (total_worth f lists v q m c <ℤ get_or row (c - 1) (pos 0)))
+      → IsFollowedFrom f lists player v move (q + 1) → AreFirstFrom f lists player v move (q + 1) → AreFirstFrom f lists player v' move' q
   first_back more before g h = record {
     none_more = λ p m c lo lp. ⊎_elim
         (λ (same : p ≡ q). let P : ℕ → Type 0 = λ p. player_at f p ≡ player → m < move_count f p → IsClass lists (round_of f (at_point p)) c
-        → worth' p m c ≤ℤ v' (at_point p) c in subst P (sym same)
+        → total_worth f lists v' p m c ≤ℤ v' (at_point p) c in subst P (sym same)
         (λ own lm lc. let a = more m c own lm lc in let e = same_worth q m c (omega arith) lq lm in let g = value_here c lc in omega (arith, ints, a, e, g)))
         (λ (other : p ≡ q → ⊥). λ own lm lc.
         let later : q + 1 ≤ p = omega arith in
@@ -80,7 +82,7 @@ module _ (f : Frame) (lists : ClassLists) (player q : ℕ) (lq : q < point_count
         (cases_eq p q);
     none_before = λ p m c lo lp. ⊎_elim
         (λ (same : p ≡ q). let P : ℕ → Type 0 = λ p. player_at f p ≡ player → IsClass lists (round_of f (at_point p)) c → m < move' p c
-        → worth' p m c <ℤ v' (at_point p) c in subst P (sym same)
+        → total_worth f lists v' p m c <ℤ v' (at_point p) c in subst P (sym same)
         (λ own lc lm. let a = before m c own lc lm in let b = a.1 in let e = same_worth q m c (omega arith) lq a.0 in let g = value_here c lc in
         omega (arith, ints, b, e, g)))
         (λ (other : p ≡ q → ⊥). λ own lc lm.
@@ -94,11 +96,11 @@ module _ (f : Frame) (lists : ClassLists) (player q : ℕ) (lq : q < point_count
 
   -- by the first greatest
   pub best_back : (moves : List ℕ) → ((c : ℕ) → IsClass lists (round_of f (at_point q)) c → move' q c ≡ get_or moves (c - 1) 0)
-      → IsMerged f lists player worth q row moves → IsFollowedBy f lists player v worth move (q + 1) → AreFirstBy f lists player v worth move (q + 1)
-      → IsFollowedBy f lists player v' worth' move' q × AreFirstBy f lists player v' worth' move' q
+      → IsMerged f lists player (total_worth f lists v) q row moves → IsFollowedFrom f lists player v move (q + 1) → AreFirstFrom f lists player v move (q + 1)
+      → IsFollowedFrom f lists player v' move' q × AreFirstFrom f lists player v' move' q
   best_back moves is m followed first = (
     followed_back (λ own c lc. subst (λ n. n < move_count f q) (sym (is c lc)) (m.own own c lc).in_range) (λ own c lc. (m.own own c lc).reached
-        ∙ ap (λ n. worth q n c) (sym (is c lc))) m.others followed,
+        ∙ ap (λ n. total_worth f lists v q n c) (sym (is c lc))) m.others followed,
     first_back (λ n c own lm lc. (m.own own c lc).none_more n lm)
         (λ n c own lc lm.
         let o = m.own own c lc in

@@ -7,7 +7,7 @@ use Rattle.gs_model.specs.{BestAnswers.{IsBestValues, Values}, Classes.{IsClass,
 use Rattle.gs_model.specs.Positions.{Target, at_end, at_point}
 use Rattle.gs_seq.specs.Plans.{lifted}
 use Rattle.gs_seq.proofs.Forms.{form_classes, form_in_range, form_lossless}
-use Rattle.gs_best.specs.{ClassTotals.{AreBestTotals}, Filled.{IsFilled}, Sides.{frame_at, lists_at, moves_at, plan_at, totals_at}, Tables.{start_of, table_of}}
+use Rattle.gs_best.specs.{ClassTotals.{AreBestTotals}, Filled.{IsFilled}, Sides.{frame_at, lists_at, picks_at, plan_at, totals_at}, Tables.{start_of, table_of}}
 use Rattle.gs_best.specs.{declared.tables.Table.{Table}, declared.side.Side.{Side}}
 use Rattle.gs_best.proofs.{Modest.{known_few}, Players.{walked}, Shares.{some_member}, Stepping.{from_some}, TotalAnswers.{best_values, values_of}}
 use Rattle.gs_best.proofs.{TotalsBest.{totals_sized}, Trimmed.{best_same, place_of}}
@@ -16,14 +16,14 @@ use Rattle.gs_best.proofs.{TotalsBest.{totals_sized}, Trimmed.{best_same, place_
 pub filled_values : (s : Side) (t : Table) → IsFilled s t → Values
 filled_values s t h =
     values_of (frame_at s) (form_in_range s.form.now) (lists_at s) (form_classes s.form.now) (form_lossless s.form.now) s.player (walked s) (plan_at s)
-    (totals_at s t.totals.items) (moves_at s t.picks.items) h.best
+    (totals_at s t.totals.items) (picks_at s t.picks.items) h.best
 
 pub filled_best : (s : Side) (t : Table) (h : IsFilled s t)
-    → IsBestValues (frame_at s) (lists_at s) s.player (lifted (frame_at s) (lists_at s) s.other.now) (filled_values s t h) (moves_at s t.picks.items)
+    → IsBestValues (frame_at s) (lists_at s) s.player (lifted (frame_at s) (lists_at s) s.other.now) (filled_values s t h) (picks_at s t.picks.items)
 unfolding filled_values
 filled_best s t h =
     best_values (frame_at s) (form_in_range s.form.now) (lists_at s) (form_classes s.form.now) (form_lossless s.form.now) s.player (walked s) (plan_at s)
-    (totals_at s t.totals.items) (moves_at s t.picks.items) h.best
+    (totals_at s t.totals.items) (picks_at s t.picks.items) h.best
 
 -- a part is no larger than the whole
 pub part_small : (n : ℕ) (x : ℤ) (most : ℕ) → 0 < n → unsigned_abs (pos n *ℤ x) ≤ most → unsigned_abs x ≤ most

@@ -1,5 +1,5 @@
 -- Room by the sizes of rounds.
-use Rattle.std.proofs.Common.{◌≡◌, ℕ, ◌+◌, ◌-◌, ◌*◌, ◌<◌, List, ◌++◌, drop, length, get_or, sym, take, ap, ◌∙◌, subst, arith, sum_by, count_by, eqb}
+use Rattle.std.proofs.Common.{◌≡◌, ℕ, ◌+◌, ◌-◌, ◌*◌, ◌<◌, length, get_or, sym, ap, ◌∙◌, subst, arith, sum_by, count_by, eqb}
 use Rattle.std.proofs.{Math.Nat.{mul-one, mul_comm}, lemmas.Bool.Decides.{Decides-eqb}, lemmas.Int.{ints}, lemmas.List.{get_or-map, length-map}}
 use Rattle.std.proofs.lemmas.List.FromFn.{get_or-range_with_len, length-range_with_len}
 use Rattle.std.specs.{Prelude.{pos, ◌*ℤ◌}, List.{range_with_len}}
@@ -7,7 +7,6 @@ use borrow.Author.Differences.{product_is}
 use Rattle.gs_model.specs.{Classes.{ClassLists, class_count}, Frame.{Frame, last_round, point_count, round_of}, FrameFacts.{IsWalked}, Positions.{at_point}}
 use Rattle.gs_model.proofs.{RawBound.{All-range, range_once}, Regroup.{regroup_weights, sum_z-pos}, Total.{sum_z-same}}
 use Rattle.gs_model.proofs.Basics.{pos-injective, sum-same, sum-ones, sum_by-map}
-use Rattle.gs_best.proofs.Written.{written}
 use Rattle.gs_best.specs.{Rooms.{HasRows, AreOfLength, HoldsEntries, HoldsAll, IsWide}, Tables.{start_of}, declared.tables.Scratch.{Scratch}}
 use Rattle.gs_best.specs.{declared.tables.Table.{Table}, Sizes.{IsRoomy, IsWideFor, point_room, points_of_round, sizes_of, value_room}}
 

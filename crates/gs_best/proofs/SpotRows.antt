@@ -1,14 +1,13 @@
 -- The rows at the targets of a point's moves: they stand in their lists, and hold the class totals there.
 use Rattle.std.proofs.Common.{◌≡◌, ℕ, ◌+◌, ◌-◌, ◌<◌, ◌≤◌, List, length, get_or, sym, ap, ◌∙◌, subst, arith}
 use Rattle.std.specs.Prelude.{ℤ, pos, unsigned_abs}
-use Rattle.gs_model.specs.{Classes.{ClassLists, IsClass, class_count}, Frame.{Frame, end_count, leads_to, move_count, other_player, point_count, round_of}}
-use Rattle.gs_model.specs.{FrameFacts.{IsWalked}, Positions.{Target, at_end, at_point}}
-use Rattle.gs_seq.specs.Payoffs.{end_classes}
-use Rattle.gs_seq.proofs.{SlotLaws.{sum_range_le}, Forms.{form_walked}}
+use Rattle.gs_model.specs.{Classes.{ClassLists, IsClass, class_count}, Frame.{Frame, leads_to, move_count, point_count, round_of}}
+use Rattle.gs_model.specs.Positions.{Target, at_point}
+use Rattle.gs_seq.proofs.SlotLaws.{sum_range_le}
 use Rattle.gs_best.specs.{Rows.{AreWorths}, Tables.{classes_at, start_of}, ClassTotals.{gathered_below, total_worth}}
-use Rattle.gs_best.specs.{LaterRows.{AreGathered, row_from, IsLaterRow, IsRowOf}, Places.{end_start}, Rooms.{AreKept, IsLaid, IsWide}}
-use Rattle.gs_best.specs.{Sides.{frame_at, lists_at, plan_at, totals_at}, Spots.{frame_on, lists_on, totals_on}, declared.row.Row.{Row}}
-use Rattle.gs_best.specs.{declared.tables.EndSums.{EndSums}, declared.tables.Table.{Table}, declared.side.Side.{Side}, declared.spot.Spot.{Spot}}
+use Rattle.gs_best.specs.{LaterRows.{AreGathered, row_from, IsLaterRow, IsRowOf}, Rooms.{IsLaid, IsWide}}
+use Rattle.gs_best.specs.{Sides.{frame_at, lists_at, totals_at}, Spots.{frame_on, lists_on, totals_on}, declared.row.Row.{Row}}
+use Rattle.gs_best.specs.{declared.tables.Table.{Table}, declared.side.Side.{Side}, declared.spot.Spot.{Spot}}
 use Rattle.gs_best.proofs.{Players.{walked}, Placed.{IsRow, row_next, row_read}, Gathered.{gathered_same}}
 
 -- ---- its own row
@@ -43,33 +42,14 @@ pub point_row : (f : Frame) (lists : ClassLists) (t : Table) → IsLaid f lists 
 point_row f lists t laid q start count l read all = row_read (classes_at f lists) (point_count f) q start count t.starts.items l laid.holds.starts
     laid.places read all
 
--- the numbers of an end that are kept
-pub end_row : (s : Side) (e : EndSums) → AreKept (frame_at s) (lists_at s) s.player (plan_at s) e → (z start count : ℕ) → z < end_count (frame_at s)
-    → start ≡ get_or e.starts.items z start → count ≡ end_classes (frame_at s) (lists_at s) z
-    → IsRow (end_classes (frame_at s) (lists_at s)) (end_count (frame_at s)) z start count
-end_row s e kept z start count l read all = row_read (end_classes (frame_at s) (lists_at s)) (end_count (frame_at s)) z start count e.starts.items l kept.starts
-    kept.places read all
-
--- ---- rows hold class totals
-
-module _ (s : Side) (values : List ℤ) (r : Row) where
-  pub held_at_point : (t : Target) (q : ℕ) → t ≡ at_point q → r.round ≡ round_of (frame_at s) (at_point q) → r.start ≡ start_of (frame_at s) (lists_at s) q
-      → r.values.now ≡ values → IsRowOf (frame_at s) (lists_at s) (totals_at s values) t r
-  held_at_point t q is round start same = subst (λ t. IsRowOf (frame_at s) (lists_at s) (totals_at s values) t r) (sym is) (record {
-    round_is = round;
-    values_are = λ c lc. ap (λ s. get_or r.values.now (s + (c - 1)) (pos 0)) start
-        ∙ ap (λ l. get_or l (start_of (frame_at s) (lists_at s) q + (c - 1)) (pos 0)) same;
-  })
-
-  pub held_at_end : (e : EndSums) → AreKept (frame_at s) (lists_at s) s.player (plan_at s) e → (t : Target) (z : ℕ) → t ≡ at_end z → z < end_count (frame_at s)
-      → r.round ≡ round_of (frame_at s) (at_end z) → r.start ≡ end_start (frame_at s) (lists_at s) z → r.values.now ≡ e.sums.items
-      → IsRowOf (frame_at s) (lists_at s) (totals_at s values) t r
-  held_at_end e kept t z is inside round start same = subst (λ t. IsRowOf (frame_at s) (lists_at s) (totals_at s values) t r) (sym is) (record {
-    round_is = round;
-    values_are = λ c lc.
-        ap (λ s. get_or r.values.now (s + (c - 1)) (pos 0)) start ∙ ap (λ l.
-        get_or l (end_start (frame_at s) (lists_at s) z + (c - 1)) (pos 0)) same ∙ kept.paid z c inside lc;
-  })
+-- the row of a point holds the point's class totals
+pub held_at_point : (s : Side) (values : List ℤ) (r : Row) (t : Target) (q : ℕ) → t ≡ at_point q → r.round ≡ round_of (frame_at s) (at_point q)
+    → r.start ≡ start_of (frame_at s) (lists_at s) q → r.values.now ≡ values → IsRowOf (frame_at s) (lists_at s) (totals_at s values) t r
+held_at_point s values r t q is round start same = subst (λ t. IsRowOf (frame_at s) (lists_at s) (totals_at s values) t r) (sym is) (record {
+  round_is = round;
+  values_are = λ c lc. ap (λ s. get_or r.values.now (s + (c - 1)) (pos 0)) start
+      ∙ ap (λ l. get_or l (start_of (frame_at s) (lists_at s) q + (c - 1)) (pos 0)) same;
+})
 
 module _ (at : Spot) (m : ℕ) (lm : m < move_count (frame_on at) at.point) (r : Row)
     (held : IsRowOf (frame_on at) (lists_on at) (totals_on at) (leads_to (frame_on at) at.point m) r) where

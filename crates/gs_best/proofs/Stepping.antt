@@ -67,8 +67,7 @@ module _ (f : Frame) (lists : ClassLists) (player : ℕ) (w : IsWalked f player)
       → IsFollowedFrom f lists player (totals_of f lists player y values) move (q + 1)
       → IsFollowedFrom f lists player (totals_of f lists player y new_values) move' q
   following_back inside own others h =
-      followed_back f lists player q lq (totals_of f lists player y values) (totals_of f lists player y new_values)
-      (total_worth f lists (totals_of f lists player y values)) (total_worth f lists (totals_of f lists player y new_values)) move move' row
+      followed_back f lists player q lq (totals_of f lists player y values) (totals_of f lists player y new_values) move move' row
       (kept_later (pos 0) f lists q start count at wide row values new_values cv)
       (copied_here (pos 0) f lists q start count at wide row values new_values cv) same_worth kept inside
       own others h
@@ -80,8 +79,7 @@ module _ (f : Frame) (lists : ClassLists) (player : ℕ) (w : IsWalked f player)
       → AreBestFrom f lists player (totals_of f lists player y new_values) move' q
   best_back moves is m h =
       let both =
-      best_back_by f lists player q lq (totals_of f lists player y values) (totals_of f lists player y new_values)
-      (total_worth f lists (totals_of f lists player y values)) (total_worth f lists (totals_of f lists player y new_values)) move move' row
+      best_back_by f lists player q lq (totals_of f lists player y values) (totals_of f lists player y new_values) move move' row
       (kept_later (pos 0) f lists q start count at wide row values new_values cv)
       (copied_here (pos 0) f lists q start count at wide row values new_values cv) same_worth kept moves is m h.followed h.greatest in
       record { followed = both.0; greatest = both.1 }

@@ -1,15 +1,14 @@
 -- What plans gain against the best totals, and how large payoffs are.
-use Rattle.std.proofs.{Common.{◌≡◌, ℕ, ◌+◌, ◌-◌, ◌^◌, ◌<◌, ◌≤◌, List, get_or, sym, ap, ◌∙◌, subst, arith}, lemmas.Int.{ints, unsigned_abs-mul}}
+use Rattle.std.proofs.{Common.{ℕ, ◌^◌, ◌≤◌, sym, subst, arith}, lemmas.Int.{ints, unsigned_abs-mul}}
 use Rattle.std.specs.Prelude.{ℤ, pos, ◌*ℤ◌, ◌≤ℤ◌, unsigned_abs}
 use borrow.Author.Differences.{abs_is}
-use Rattle.gs_model.specs.{BestAnswers.{IsFirstBestPlan, spread, start_sum}, Classes.{ClassLists, IsClasses, class_of}}
-use Rattle.gs_model.specs.{Frame.{Frame, last_round, round_of, signal_count, signals_in}, FrameFacts.{InRange, IsExchanged, IsWalked}, Lossless.{IsLossless}}
-use Rattle.gs_model.specs.{Payoff.{gain, raw_payoff}, Plans.{IsClassPlan, Plan, lift}, Positions.{Target, at_end, at_point}, Sums.{sum_z}}
+use Rattle.gs_model.specs.{BestAnswers.{IsFirstBestPlan}, Classes.{ClassLists, IsClasses}}
+use Rattle.gs_model.specs.{Frame.{Frame}, FrameFacts.{InRange, IsExchanged, IsWalked}, Lossless.{IsLossless}}
+use Rattle.gs_model.specs.{Payoff.{gain, raw_payoff}, Plans.{IsClassPlan, Plan, lift}}
 use Rattle.gs_model.proofs.{Alike.{keeps_from}, Best.{best_holds}, Deviations.{lift_is_raw_plan, no_raw_plan_gains_more}}
 use Rattle.gs_model.proofs.{Exchange.{gain_exchange, raw_payoff_is_gain}, FirstBest.{first_best_reaches}}
-use Rattle.gs_model.proofs.{Gather.{class_in, firsts_from, holds_by, known_from, plan_by}, Tables.{is_table}, Basics.{product_le}}
-use Rattle.gs_best.proofs.Ranges.{sum_same}
-use Rattle.gs_best.specs.{ClassTotals.{IsBestTotal}, Tables.{start_of, table_of}, Answers.{NoneGainsMore}}
+use Rattle.gs_model.proofs.{Gather.{firsts_from, holds_by, known_from, plan_by}, Tables.{is_table}, Basics.{product_le}}
+use Rattle.gs_best.specs.{ClassTotals.{IsBestTotal}, Answers.{NoneGainsMore}}
 
 -- a product of a total and a best total
 pub scaled_small : (total : ℕ) (best : ℤ) → total ≤ 2 ^ 36 → unsigned_abs best ≤ 2 ^ 74 → unsigned_abs (pos total *ℤ best) ≤ 2 ^ 110

@@ -8,7 +8,7 @@ use Rattle.gs_model.specs.Frame.{Frame, choices_at, end_count, leads_to, move_co
 use Rattle.gs_model.specs.{FrameFacts.{InRange, IsInside, IsWalked}, Lossless.{IsLossless}, Plans.{Plan, lift}, Positions.{Target, at_end, at_point}}
 use Rattle.gs_model.specs.Sums.{sum_z}
 use Rattle.gs_model.proofs.Total.{sum_z-mul}
-use Rattle.gs_best.specs.ClassTotals.{AreFirstGreatest, AreTimesSizes, IsFollowed, total_worth}
+use Rattle.gs_best.specs.ClassTotals.{AreFirstGreatest, IsFollowed, total_worth}
 use Rattle.gs_best.proofs.{Ranges.{sum_same}, Shares.{end_share, some_member}, Last.{IsLast, all_last, next_last}, WorthTotals.{worth_total}}
 
 -- ---- division by a size
@@ -108,7 +108,8 @@ module _ (f : Frame) (r : InRange f) (lists : ClassLists) (k : IsClasses f.paren
   sized : (g : Target) → IsInside f g → AreSized g
   sized g i = sized_last (point_count f) g i (all_last f g)
 
-  pub totals_sized : AreTimesSizes f lists V W
+  -- each class total is the class's size times its value
+  pub totals_sized : (g : Target) (c : ℕ) → IsInside f g → IsClass lists (round_of f g) c → V g c ≡ pos (size g c) *ℤ W g c
   totals_sized g c i lc = sized g i c lc
 
   pub totals_are_best : AreFirstGreatest f lists player V move → IsBestValues f lists player (lift f lists y) W move

@@ -1,9 +1,9 @@
 -- Class totals: what all members of a class gain together. A class total is the class's size times the value of its first member, so totals order the
 -- moves as values do. At ends they are sums over pairs of classes; in an earlier round they are sums over the classes below.
-use Rattle.std.specs.Prelude.{ℕ, ◌<◌, ◌≡◌, ◌≢◌, ◌==◌, ℤ, pos, ◌*ℤ◌, ◌≤ℤ◌, ◌<ℤ◌, if◌then◌else◌}
-use Rattle.gs_model.specs.{BestAnswers.{IsBestValues, Values, spread, start_sum}, Classes.{ClassLists, IsClass, class_of, class_size, classes_in, first_member}}
-use Rattle.gs_model.specs.{Frame.{Frame, ancestor, choices_at, end_count, leads_to, move_count, player_at, point_count, round_of}, FrameFacts.{IsInside}}
-use Rattle.gs_model.specs.{Plans.{Plan}, Positions.{Target, at_end, at_point}, Sums.{sum_z}}
+use Rattle.std.specs.Prelude.{ℕ, ◌<◌, ◌≡◌, ◌≢◌, ◌==◌, ℤ, pos, ◌≤ℤ◌, ◌<ℤ◌, if◌then◌else◌}
+use Rattle.gs_model.specs.{BestAnswers.{IsBestValues, Values, spread, start_sum}, Classes.{ClassLists, IsClass, class_of, classes_in, first_member}}
+use Rattle.gs_model.specs.Frame.{Frame, ancestor, choices_at, end_count, leads_to, move_count, player_at, point_count, round_of}
+use Rattle.gs_model.specs.{Plans.{Plan}, Positions.{at_end, at_point}, Sums.{sum_z}}
 use Rattle.gs_seq.specs.Payoffs.{end_sum}
 
 -- the class in an earlier round that a class descends from
@@ -38,11 +38,6 @@ pub record AreFirstGreatest (f : Frame) (lists : ClassLists) (player : ℕ) (v :
 pub record AreBestTotals (f : Frame) (lists : ClassLists) (player : ℕ) (y : Plan) (v : Values) (move : ℕ → ℕ → ℕ) : Type 0 where
   pub followed : IsFollowed f lists player y v move
   pub greatest : AreFirstGreatest f lists player v move
-
--- each class total is the class's size times its value
-abbrev pub AreTimesSizes : Frame → ClassLists → Values → Values → Type 0
-AreTimesSizes f lists totals values = (g : Target) (c : ℕ) → IsInside f g → IsClass lists (round_of f g) c
-    → totals g c ≡ pos (class_size lists (round_of f g) c) *ℤ values g c
 
 -- what a player's best raw plan of total 1 gains against the other's raw plan y
 pub record IsBestTotal (f : Frame) (lists : ClassLists) (player : ℕ) (y : Plan) (total : ℤ) : Type 0 where

@@ -1,8 +1,9 @@
 -- Class totals kept in lists: a row for each end and a row for each point, one after the other. A row has a number for each class.
-use Rattle.std.specs.{Prelude.{ℕ, ◌+◌, ◌-◌, ◌<◌, ◌≡◌, List, get_or, slice_index, ℤ, pos, sum_by}, List.{range_with_len}}
-use Rattle.gs_model.specs.{BestAnswers.{Values}, Classes.{ClassLists, IsClass}, Frame.{Frame, end_count, round_of}, Plans.{Plan}, Positions.{at_end, at_point}}
+use Rattle.std.specs.{Prelude.{ℕ, ◌+◌, ◌-◌, ◌<◌, ◌≤◌, ◌≡◌, ◌≢◌, List, get_or, slice_index, ℤ, pos, ◌≤ℤ◌, ◌<ℤ◌, sum_by}, List.{range_with_len}}
+use Rattle.gs_model.specs.{BestAnswers.{Values}, Classes.{ClassLists, IsClass}, Plans.{Plan}, Positions.{at_end, at_point}, Sums.{sum_z}}
+use Rattle.gs_model.specs.Frame.{Frame, choices_at, end_count, move_count, player_at, point_count, round_of}
 use Rattle.gs_seq.specs.Payoffs.{end_classes, end_sum}
-use Rattle.gs_best.specs.{ClassTotals.{total_worth}, Tables.{AreFirstBy, IsFollowedBy, start_of}}
+use Rattle.gs_best.specs.{ClassTotals.{total_worth}, Tables.{start_of}}
 
 -- the place of an end's first class
 abbrev pub end_start : Frame → ClassLists → ℕ → ℕ
@@ -22,13 +23,21 @@ abbrev pub totals_of : Frame → ClassLists → ℕ → Plan → List ℤ → Va
 totals_of f lists player y values (at_point q) c = get_or values (start_of f lists q + (c - 1)) (pos 0)
 totals_of f lists player y values (at_end z) c = end_sum f lists player y z c
 
--- from point `from` on, each own class has what its move is worth, and the other's points have the sums over their moves
-abbrev pub IsFollowedFrom : Frame → ClassLists → ℕ → Values → (ℕ → ℕ → ℕ) → ℕ → Type 0
-IsFollowedFrom f lists player v move from = IsFollowedBy f lists player v (total_worth f lists v) move from
+-- at the player's points from `from` on, `move` names a move of the point for each class, and the class total is that move's worth.
+-- At the other player's points from `from` on, the class total is the sum of the worths of all moves
+pub record IsFollowedFrom (f : Frame) (lists : ClassLists) (player : ℕ) (v : Values) (move : ℕ → ℕ → ℕ) (from : ℕ) : Type 0 where
+  pub in_range : (q c : ℕ) → from ≤ q → q < point_count f → player_at f q ≡ player → IsClass lists (round_of f (at_point q)) c → move q c < move_count f q
+  pub reached : (q c : ℕ) → from ≤ q → q < point_count f → player_at f q ≡ player → IsClass lists (round_of f (at_point q)) c
+      → v (at_point q) c ≡ total_worth f lists v q (move q c) c
+  pub at_others : (q c : ℕ) → from ≤ q → q < point_count f → player_at f q ≢ player → IsClass lists (round_of f (at_point q)) c
+      → v (at_point q) c ≡ sum_z (λ m. total_worth f lists v q m c) (choices_at f q)
 
--- from point `from` on, the move of each own class is the first of greatest worth
-abbrev pub AreFirstFrom : Frame → ClassLists → ℕ → Values → (ℕ → ℕ → ℕ) → ℕ → Type 0
-AreFirstFrom f lists player v move from = AreFirstBy f lists player v (total_worth f lists v) move from
+-- at the player's points from `from` on, no move is worth more than the class total, and every move before `move` is worth less
+pub record AreFirstFrom (f : Frame) (lists : ClassLists) (player : ℕ) (v : Values) (move : ℕ → ℕ → ℕ) (from : ℕ) : Type 0 where
+  pub none_more : (q m c : ℕ) → from ≤ q → q < point_count f → player_at f q ≡ player → m < move_count f q → IsClass lists (round_of f (at_point q)) c
+      → total_worth f lists v q m c ≤ℤ v (at_point q) c
+  pub none_before : (q m c : ℕ) → from ≤ q → q < point_count f → player_at f q ≡ player → IsClass lists (round_of f (at_point q)) c → m < move q c
+      → total_worth f lists v q m c <ℤ v (at_point q) c
 
 -- from point `from` on, v has the best class totals and `move` the first best moves
 pub record AreBestFrom (f : Frame) (lists : ClassLists) (player : ℕ) (v : Values) (move : ℕ → ℕ → ℕ) (from : ℕ) : Type 0 where

@@ -1,8 +1,7 @@
--- Room for class totals, and what is kept in it.
+-- Room for class totals.
 use Rattle.std.specs.Prelude.{ℕ, ◌<◌, ◌≤◌, length}
-use Rattle.gs_model.specs.{Classes.{ClassLists, class_count}, Frame.{Frame, end_count, last_round, point_count}, Plans.{Plan}}
-use Rattle.gs_best.specs.{Places.{AreEndStarts, AreEndSums, end_start}, Tables.{AreStarts, start_of}, declared.tables.EndSums.{EndSums}}
-use Rattle.gs_best.specs.{declared.tables.Scratch.{Scratch}, declared.tables.Table.{Table}}
+use Rattle.gs_model.specs.{Classes.{ClassLists, class_count}, Frame.{Frame, last_round, point_count}}
+use Rattle.gs_best.specs.{Tables.{AreStarts, start_of}, declared.tables.Scratch.{Scratch}, declared.tables.Table.{Table}}
 
 -- no round has more than `wide` classes
 abbrev pub IsWide : Frame → ClassLists → ℕ → Type 0
@@ -34,10 +33,3 @@ HoldsAll f lists = HoldsEntries (point_count f) (start_of f lists (point_count f
 pub record IsLaid (f : Frame) (lists : ClassLists) (t : Table) : Type 0 where
   pub holds : HoldsAll f lists t
   pub places : AreStarts f lists t.starts.items
-
--- what each end pays a player against the other's plan y is kept
-pub record AreKept (f : Frame) (lists : ClassLists) (player : ℕ) (y : Plan) (e : EndSums) : Type 0 where
-  pub starts : end_count f ≤ length e.starts.items
-  pub sums : end_start f lists (end_count f) ≤ length e.sums.items
-  pub places : AreEndStarts f lists e.starts.items
-  pub paid : AreEndSums f lists player y e.sums.items

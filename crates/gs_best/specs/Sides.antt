@@ -21,5 +21,5 @@ abbrev pub totals_at : Side → List ℤ → Values
 totals_at s totals = totals_of (frame_at s) (lists_at s) s.player (plan_at s) totals
 
 -- the moves that a list has for each point and class
-abbrev pub moves_at : Side → List ℕ → ℕ → ℕ → ℕ
-moves_at s picks = moves_of (frame_at s) (lists_at s) picks
+abbrev pub picks_at : Side → List ℕ → ℕ → ℕ → ℕ
+picks_at s picks = moves_of (frame_at s) (lists_at s) picks

@@ -1,8 +1,7 @@
 -- Best values kept as one list: the points in order, for each point the classes of its round.
-use Rattle.std.specs.{Prelude.{ℕ, ◌+◌, ◌-◌, ◌<◌, ◌≤◌, ◌≡◌, ◌≢◌, List, get_or, slice_index, ℤ, pos, ◌≤ℤ◌, ◌<ℤ◌, sum_by}, List.{range_with_len}}
-use Rattle.gs_model.specs.{BestAnswers.{Values, class_worth, end_worth}, Classes.{ClassLists, IsClass, class_count, first_member}}
-use Rattle.gs_model.specs.{Frame.{Frame, choices_at, move_count, player_at, point_count, round_of}, Plans.{Plan}, Positions.{at_end, at_point}, Sums.{sum_z}}
-use Rattle.gs_best.specs.Rows.{Worths}
+use Rattle.std.specs.{Prelude.{ℕ, ◌+◌, ◌-◌, ◌<◌, ◌≡◌, List, get_or, slice_index, ℤ, pos, sum_by}, List.{range_with_len}}
+use Rattle.gs_model.specs.{BestAnswers.{Values, end_worth}, Classes.{ClassLists, IsClass, class_count, first_member}}
+use Rattle.gs_model.specs.{Frame.{Frame, move_count, player_at, point_count, round_of}, Plans.{Plan}, Positions.{at_end, at_point}}
 
 -- how many classes the round of a point has
 abbrev pub classes_at : Frame → ClassLists → ℕ → ℕ
@@ -29,19 +28,3 @@ AreStarts f lists starts = (q : ℕ) → q < point_count f → slice_index start
 abbrev pub AreInMoves : Frame → ClassLists → ℕ → (ℕ → ℕ → ℕ) → Type 0
 AreInMoves f lists player move = (q c : ℕ) → q < point_count f → player_at f q ≡ player → IsClass lists (round_of f (at_point q)) c
     → move q c < move_count f q
-
--- at the player's points from `from` on, `move` names a move of the point for each class, and the value is that move's worth.
--- At the other player's points from `from` on, the value is the sum of the worths of all moves
-pub record IsFollowedBy (f : Frame) (lists : ClassLists) (player : ℕ) (v : Values) (worth : Worths) (move : ℕ → ℕ → ℕ) (from : ℕ) : Type 0 where
-  pub in_range : (q c : ℕ) → from ≤ q → q < point_count f → player_at f q ≡ player → IsClass lists (round_of f (at_point q)) c → move q c < move_count f q
-  pub reached : (q c : ℕ) → from ≤ q → q < point_count f → player_at f q ≡ player → IsClass lists (round_of f (at_point q)) c
-      → v (at_point q) c ≡ worth q (move q c) c
-  pub at_others : (q c : ℕ) → from ≤ q → q < point_count f → player_at f q ≢ player → IsClass lists (round_of f (at_point q)) c
-      → v (at_point q) c ≡ sum_z (λ m. worth q m c) (choices_at f q)
-
--- at the player's points from `from` on, no move is worth more than the value, and every move before `move` is worth less
-pub record AreFirstBy (f : Frame) (lists : ClassLists) (player : ℕ) (v : Values) (worth : Worths) (move : ℕ → ℕ → ℕ) (from : ℕ) : Type 0 where
-  pub none_more : (q m c : ℕ) → from ≤ q → q < point_count f → player_at f q ≡ player → m < move_count f q → IsClass lists (round_of f (at_point q)) c
-      → worth q m c ≤ℤ v (at_point q) c
-  pub none_before : (q m c : ℕ) → from ≤ q → q < point_count f → player_at f q ≡ player → IsClass lists (round_of f (at_point q)) c → m < move q c
-      → worth q m c <ℤ v (at_point q) c

@@ -1,7 +1,7 @@
 //! Sums of a row over the classes below a class of an earlier round.
 
 ghost use Rattle.std.specs.{Prelude.{◌≡◌, ◌+◌, ◌-◌, ◌<◌, ◌≤◌, ◌^◌, ℕ, pos, get_or, length, unsigned_abs}, List.{range_with_len}};
-ghost use Rattle.gs_model.specs.{Classes.{IsClass, class_count}, Frame.{last_round}, Sums.{sum_z}};
+ghost use Rattle.gs_model.specs.{Classes.{IsClass, class_count}, Sums.{sum_z}};
 ghost use Rattle.gs_seq.specs.Abstracts.{abstract_frame, lists_of};
 ghost use Rattle.gs_best.specs.{ClassTotals.{gathered_below}, LaterRows.{AreGathered, row_from, IsLaterRow}};
 

@@ -48,8 +48,8 @@ pub fn verdict(form: &Abstract, one: &Plan, two: &Plan, work: &mut Work) -> Verd
     };
     lay_out(form, &mut work.table);
     let best = (
-        best_total(&first, None, &mut work.table, &mut work.scratch),
-        best_total(&second, None, &mut work.table, &mut work.scratch),
+        best_total(&first, &mut work.table, &mut work.scratch),
+        best_total(&second, &mut work.table, &mut work.scratch),
     );
     let paid = plans_pay(form, one, two, &mut work.scratch);
     judged(form.deal_weight(), (one.total, two.total), best, paid)

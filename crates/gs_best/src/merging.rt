@@ -1,6 +1,6 @@
 //! The class totals of a point, from what its moves are worth.
 
-ghost use Rattle.std.specs.Prelude.{◌+◌, ◌≤◌, length};
+ghost use Rattle.std.specs.Prelude.{◌≤◌, length};
 ghost use Rattle.gs_model.specs.Frame.{move_count};
 ghost use Rattle.gs_best.specs.{ClassTotals.{total_worth}, Rooms.{IsWide}, Rows.{AreGreatest, AreSums, IsMerged}, Spots.{frame_on, lists_on, totals_on}};
 

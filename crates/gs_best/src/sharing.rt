@@ -5,7 +5,7 @@ ghost use Rattle.gs_model.specs.{BestAnswers.{IsBestValues, end_worth}, Classes.
 ghost use Rattle.gs_model.specs.Positions.{at_end, at_point};
 ghost use Rattle.gs_seq.specs.Plans.{lifted};
 ghost use Rattle.gs_best.specs.{Tables.{start_of, table_of}, ClassTotals.{AreBestTotals}, Rooms.{IsLaid}};
-ghost use Rattle.gs_best.specs.Sides.{frame_at, lists_at, moves_at, plan_at, totals_at};
+ghost use Rattle.gs_best.specs.Sides.{frame_at, lists_at, picks_at, plan_at, totals_at};
 
 use crate::dividing::{over, size_of};
 use crate::side::Side;
@@ -46,11 +46,11 @@ pub fn share_all(side: &Side<'_>, table: &Table, values: &mut [i128])
     requires laid { IsLaid (frame_at side.now) (lists_at side.now) table.now }
     requires room { start_of (frame_at side.now) (lists_at side.now) (point_count (frame_at side.now)) ≤ length values.old }
     requires best { AreBestTotals (frame_at side.now) (lists_at side.now) side.now.player (plan_at side.now) (totals_at side.now table.now.totals.items)
-        (moves_at side.now table.now.picks.items) }
+        (picks_at side.now table.now.picks.items) }
     ensures small { (i : ℕ) → i < start_of (frame_at side.now) (lists_at side.now) (point_count (frame_at side.now))
         → unsigned_abs (get_or values.new i (pos 0)) ≤ 2 ^ 74 }
     ensures best { let f = frame_at side.now in let lists = lists_at side.now in let y = lifted f lists side.now.other.now in
-        IsBestValues f lists side.now.player y (table_of f lists side.now.player y values.new) (moves_at side.now table.now.picks.items) }
+        IsBestValues f lists side.now.player y (table_of f lists side.now.player y values.new) (picks_at side.now table.now.picks.items) }
 {
     for point in 0..side.form.point_total() {
         share_point(side, table, point, values);

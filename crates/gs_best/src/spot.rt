@@ -1,18 +1,17 @@
 //! A point whose class totals are found.
 
-ghost use Rattle.std.specs.{Prelude.{◌≡◌, ◌+◌, ◌<◌}, Option.{ForSome}};
+ghost use Rattle.std.specs.Prelude.{◌≡◌, ◌+◌, ◌<◌};
 ghost use Rattle.gs_model.specs.{Frame.{point_count, round_of}, Positions.{at_point}};
-ghost use Rattle.gs_best.specs.{Tables.{classes_at, start_of}, LaterRows.{AreModestFrom}, Rooms.{AreKept, IsLaid}};
-ghost use Rattle.gs_best.specs.Sides.{frame_at, lists_at, plan_at, totals_at};
+ghost use Rattle.gs_best.specs.{Tables.{classes_at, start_of}, LaterRows.{AreModestFrom}, Rooms.{IsLaid}};
+ghost use Rattle.gs_best.specs.Sides.{frame_at, lists_at, totals_at};
 
 use crate::side::Side;
-use crate::tables::{EndSums, Table};
+use crate::tables::Table;
 
 /// A point with its round, the place of its first number and the number of its classes. The class totals of all later points are known.
 #[derive(Clone, Copy)]
 pub(crate) struct Spot<'a, 'b> {
     pub(crate) side: Side<'a>,
-    pub(crate) ends: Option<&'b EndSums>,
     pub(crate) table: &'b Table,
     pub(crate) point: u32,
     pub(crate) round: u8,
@@ -23,21 +22,14 @@ pub(crate) struct Spot<'a, 'b> {
     pub(crate) ghost start_is: { start ≡ start_of (frame_at side) (lists_at side) point },
     pub(crate) ghost count_is: { count ≡ classes_at (frame_at side) (lists_at side) point },
     pub(crate) ghost laid: { IsLaid (frame_at side) (lists_at side) table.now },
-    pub(crate) ghost kept: { ForSome ends (λ e. AreKept (frame_at side) (lists_at side) side.player (plan_at side) e.now) },
     pub(crate) ghost modest: { AreModestFrom (frame_at side) (lists_at side) (totals_at side table.now.totals.items) (point + 1) },
 }
 
 impl<'a, 'b> Spot<'a, 'b> {
     /// Returns a point with what is read at it.
-    pub(crate) fn of(
-        side: &Side<'a>,
-        ends: Option<&'b EndSums>,
-        table: &'b Table,
-        point: u32,
-    ) -> Spot<'a, 'b>
+    pub(crate) fn of(side: &Side<'a>, table: &'b Table, point: u32) -> Spot<'a, 'b>
         requires inside { point < point_count (frame_at side.now) }
         requires laid { IsLaid (frame_at side.now) (lists_at side.now) table.now }
-        requires kept { ForSome ends (λ e. AreKept (frame_at side.now) (lists_at side.now) side.now.player (plan_at side.now) e.now) }
         requires modest { AreModestFrom (frame_at side.now) (lists_at side.now) (totals_at side.now table.now.totals.items) (point + 1) }
         ensures side { result.side ≡ side.now }
         ensures table { result.table.now ≡ table.now }
@@ -48,7 +40,6 @@ impl<'a, 'b> Spot<'a, 'b> {
         let count = side.form.class_total(round) as usize;
         Spot {
             side: *side,
-            ends,
             table,
             point,
             round,

@@ -18,13 +18,6 @@ pub struct Table {
     pub picks: Vec<u8>,
 }
 
-/// What ends pay, where that is kept: a number for each class of each end, and the place where each end's numbers start.
-#[derive(Drop)]
-pub struct EndSums {
-    pub starts: Vec<u32>,
-    pub sums: Vec<i128>,
-}
-
 /// Scratch rows, with one entry for each class.
 #[derive(Drop)]
 pub struct Scratch {

@@ -1,23 +1,21 @@
 //! What moves are worth to all members of a class together.
 
-ghost use Rattle.std.specs.{Prelude.{◌+◌, ◌<◌, ◌≤◌, length}, Option.{ForSome}};
+ghost use Rattle.std.specs.Prelude.{◌+◌, ◌<◌, ◌≤◌, length};
 ghost use Rattle.gs_game.specs.Seen.{target_of};
 ghost use Rattle.gs_model.specs.{Classes.{class_count}, Frame.{move_count}, FrameFacts.{IsInside}};
-ghost use Rattle.gs_best.specs.{Rows.{AreWorths}, ClassTotals.{total_worth}, LaterRows.{IsRowOf}, Rooms.{AreKept, IsLaid, IsWide}};
-ghost use Rattle.gs_best.specs.{Sides.{frame_at, lists_at, plan_at, totals_at}, Spots.{frame_on, lists_on, totals_on}};
+ghost use Rattle.gs_best.specs.{Rows.{AreWorths}, ClassTotals.{total_worth}, LaterRows.{IsRowOf}, Rooms.{IsLaid, IsWide}};
+ghost use Rattle.gs_best.specs.{Sides.{frame_at, lists_at, totals_at}, Spots.{frame_on, lists_on, totals_on}};
 
 use crate::gathering::read_row;
 use crate::row::Row;
 use crate::side::Side;
 use crate::spot::Spot;
-use crate::tables::{EndSums, Table};
+use crate::tables::Table;
 use gs_game::Target;
 
-/// Returns the class totals at a position. Those of a point, and of an end whose sums are kept, are read where they stand;
-/// otherwise the sums of an end are written into `row`.
+/// Returns the class totals at a position. Those of a point are read where they stand; those of an end are added up and written into `row`.
 pub(crate) fn row_to<'r>(
-    side: &'r Side<'_>,
-    ends: Option<&'r EndSums>,
+    side: &Side<'_>,
     table: &'r Table,
     target: Target,
     row: &'r mut [i128],
@@ -25,7 +23,6 @@ pub(crate) fn row_to<'r>(
 ) -> Row<'r>
     requires inside { IsInside (frame_at side.now) (target_of target) }
     requires laid { IsLaid (frame_at side.now) (lists_at side.now) table.now }
-    requires ends { ForSome ends (λ e. AreKept (frame_at side.now) (lists_at side.now) side.now.player (plan_at side.now) e.now) }
     requires row { IsWide (frame_at side.now) (lists_at side.now) (length row.old) }
     requires numbers { IsWide (frame_at side.now) (lists_at side.now) (length numbers.old) }
     ensures held { IsRowOf (frame_at side.now) (lists_at side.now) (totals_at side.now table.now.totals.items) (target_of target) result }
@@ -40,20 +37,11 @@ pub(crate) fn row_to<'r>(
         },
         Target::End(end) => {
             let round = form.end_round(end);
-            match ends {
-                Some(kept) => Row {
-                    round,
-                    values: &kept.sums,
-                    start: kept.starts[end as usize] as usize,
-                },
-                None => {
-                    form.end_sums(side.player, side.other, end, 0, row, numbers);
-                    Row {
-                        round,
-                        values: row,
-                        start: 0,
-                    }
-                }
+            form.end_sums(side.player, side.other, end, 0, row, numbers);
+            Row {
+                round,
+                values: row,
+                start: 0,
             }
         }
     }
@@ -76,6 +64,6 @@ pub(crate) fn read_worths<'r>(
     ensures long { at.now.count ≤ length result.now }
 {
     let target = at.side.form.target_at(at.point, choice);
-    let below = row_to(&at.side, at.ends, at.table, target, row, numbers);
+    let below = row_to(&at.side, at.table, target, row, numbers);
     read_row(at.side.form, below, at.round, worths)
 }

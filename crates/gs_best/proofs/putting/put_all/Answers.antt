@@ -2,7 +2,7 @@ use Rattle.std.proofs.Common.{refl}
 use Rattle.gs_model.specs.BestAnswers.{IsFirstBestPlan}
 use Rattle.gs_seq.specs.{Plans.{lifted}, Slots.{plan_of}}
 use Rattle.gs_seq.proofs.Forms.{form_classes, form_in_range}
-use Rattle.gs_best.specs.Sides.{frame_at, lists_at, moves_at}
+use Rattle.gs_best.specs.Sides.{frame_at, lists_at, picks_at}
 use Rattle.gs_best.proofs.{MemberValues.{filled_best, filled_values}, Players.{walked}, AllOn.{put_is_best, put_is_plan}, putting.put_all.Goals.{In_ok-weights}}
 use Rattle.gs_best.proofs.putting.put_all.Goals as goal
 
@@ -13,7 +13,7 @@ best c =
     let s = c.args.side.now in
     let t = c.args.table.now in
     put_is_best (frame_at s) (lists_at s) s.player (lifted (frame_at s) (lists_at s) s.other.now) (filled_values s t c.requires.filled)
-    (moves_at s t.picks.items)
+    (picks_at s t.picks.items)
     c.in_ok-weights.weights.items (filled_best s t c.requires.filled) c.in_ok-weights.ensures.puts
 
 pub returns-clause-plan : goal.returns-clause-plan

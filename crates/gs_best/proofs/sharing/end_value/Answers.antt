@@ -1,4 +1,4 @@
-use Rattle.std.proofs.{Common.{◌≡◌, ap, sym, ◌∙◌, subst}, lemmas.Int.{to_z-of_z}}
+use Rattle.std.proofs.{Common.{ap, sym, ◌∙◌, subst}, lemmas.Int.{to_z-of_z}}
 use Rattle.std.specs.Prelude.{pos, ◌*ℤ◌}
 use mir.Syntax.{w128}
 use Rattle.gs_model.specs.{BestAnswers.{end_worth}, Classes.{IsClass, class_size, first_member}, Frame.{round_of}, Positions.{at_end}}

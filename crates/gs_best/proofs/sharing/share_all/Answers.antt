@@ -1,7 +1,7 @@
 use Rattle.std.proofs.{Common.{◌≡◌, ℕ, ◌+◌, ◌-◌, get_or, sym, ◌∙◌, subst, arith, ⊎_elim}, lemmas.Bool.{cases_eq}}
 use Rattle.std.specs.Prelude.{pos, ◌*ℤ◌}
 use Rattle.gs_model.specs.{Classes.{IsClass, class_size}, Frame.{round_of}, Positions.{at_point}}
-use Rattle.gs_best.specs.{Tables.{classes_at, start_of}, Sides.{frame_at, lists_at, moves_at}}
+use Rattle.gs_best.specs.{Tables.{classes_at, start_of}, Sides.{frame_at, lists_at, picks_at}}
 use Rattle.gs_best.proofs.{Placed.{place_inside}, MemberValues.{shared_best, shared_small}}
 use Rattle.gs_best.proofs.sharing.share_all.Goals as goal
 
@@ -26,12 +26,12 @@ pub returns-clause-small : goal.returns-clause-small
 returns-clause-small c =
     let s = c.args.side.now in
     let t = c.args.table.now in
-    shared_small s t.totals.items c.loop-point.values (moves_at s t.picks.items) c.requires.best
+    shared_small s t.totals.items c.loop-point.values (picks_at s t.picks.items) c.requires.best
     (λ q k share lq. c.loop-point.invariant q k share (omega (arith, lq, c.loop-point-test.false, c.point_total-point-end.ensures)))
 
 pub returns-clause-best : goal.returns-clause-best
 returns-clause-best c =
     let s = c.args.side.now in
     let t = c.args.table.now in
-    shared_best s t.totals.items c.loop-point.values (moves_at s t.picks.items) c.requires.best
+    shared_best s t.totals.items c.loop-point.values (picks_at s t.picks.items) c.requires.best
     (λ q k share lq. c.loop-point.invariant q k share (omega (arith, lq, c.loop-point-test.false, c.point_total-point-end.ensures)))

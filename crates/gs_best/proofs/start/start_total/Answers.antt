@@ -5,7 +5,7 @@ use mir.Val.{to_z}
 use Rattle.gs_model.specs.{Classes.{classes_in}, Frame.{round_of}, FrameFacts.{IsInside}, Sums.{sum_z}}
 use Rattle.gs_seq.specs.Plans.{lifted}
 use Rattle.gs_seq.proofs.Forms.{form_classes, form_in_range, form_lossless}
-use Rattle.gs_best.specs.{ClassTotals.{IsBestTotal}, LaterRows.{IsRowOf}, Sides.{frame_at, lists_at, moves_at, plan_at, totals_at}}
+use Rattle.gs_best.specs.{ClassTotals.{IsBestTotal}, LaterRows.{IsRowOf}, Sides.{frame_at, lists_at, picks_at, plan_at, totals_at}}
 use Rattle.gs_best.proofs.{TotalAnswers.{best_total}, Players.{walked}, Starts.{in_round, round_small, row_small, row_sum}}
 use Rattle.gs_best.proofs.start.start_total.Goals.{After-row_to-totals, After-sum_between}
 use Rattle.gs_best.proofs.start.start_total.Goals as goal
@@ -35,7 +35,7 @@ pub sum_between-requires-clause-modest : goal.sum_between-requires-clause-modest
 sum_between-requires-clause-modest c =
     let s = c.args.side.now in
     let t = c.args.table.now in
-    row_small s t.totals.items (frame_at s).start (walked s).start_in (moves_at s t.picks.items) c.requires.best.followed c.row_to-totals.result
+    row_small s t.totals.items (frame_at s).start (walked s).start_in (picks_at s t.picks.items) c.requires.best.followed c.row_to-totals.result
     (held (goal.at.sum_between-requires-clause-modest c).After-row_to-totals) c.class_total-count.result c.class_total-count.ensures.value
 
 sum_is : (c : After-sum_between) → let s = c.args.side.now in
@@ -58,12 +58,12 @@ returns-clause-total c =
     subst (IsBestTotal (frame_at s) (lists_at s) s.player (lifted (frame_at s) (lists_at s) s.other.now))
     (sym (sum_is at.After-sum_between (held at.After-row_to-totals)))
     (best_total (frame_at s) (form_in_range a) (lists_at s) (form_classes s.form.now) (form_lossless a) s.player (walked s) (plan_at s)
-    (totals_at s t.totals.items) (moves_at s t.picks.items) c.requires.best round.0 round.1)
+    (totals_at s t.totals.items) (picks_at s t.picks.items) c.requires.best round.0 round.1)
 
 pub returns-clause-small : goal.returns-clause-small
 returns-clause-small c =
     let s = c.args.side.now in
     let t = c.args.table.now in
     let at = goal.at.returns-clause-small c in
-    let small = round_small s t.totals.items (frame_at s).start (walked s).start_in (moves_at s t.picks.items) c.requires.best.followed in
+    let small = round_small s t.totals.items (frame_at s).start (walked s).start_in (picks_at s t.picks.items) c.requires.best.followed in
     omega (arith, small, ap unsigned_abs (sum_is at.After-sum_between (held at.After-row_to-totals)))

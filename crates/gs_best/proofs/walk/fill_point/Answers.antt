@@ -2,7 +2,7 @@ use Rattle.std.proofs.Common.{◌≡◌, ℕ, ◌≤◌, ◌++◌, List, length,
 use Rattle.std.specs.{Prelude.{ℤ, pos}, Vec.{with_items}}
 use Rattle.gs_model.specs.Frame.{point_count}
 use Rattle.gs_best.specs.{ClassTotals.{total_worth}, Rows.{IsCopied, IsMerged}, Places.{AreBestFrom}, Rooms.{HasRows, IsWide}, Tables.{classes_at}}
-use Rattle.gs_best.specs.Sides.{frame_at, lists_at, moves_at, totals_at}
+use Rattle.gs_best.specs.Sides.{frame_at, lists_at, picks_at, totals_at}
 use Rattle.gs_best.proofs.{Placed.{IsRow}, Slices.{kept_through, long_through, through, wide_through}, Modest.{known_modest}}
 use Rattle.gs_best.proofs.{SpotRows.{carried, row_of, wide_of}, Steps.{step_best}, walk.fill_point.Goals.{After-of-at, After-merge_moves, After-copy_values}}
 use Rattle.gs_best.proofs.walk.fill_point.Goals as goal
@@ -19,7 +19,7 @@ merged c = carried c.args.side.now c.args.table.now c.args.point c.of-at.result 
     c.merge_moves.new.moves) c.merge_moves.ensures
 
 pub of-at-requires-clause-modest : goal.of-at-requires-clause-modest
-of-at-requires-clause-modest c = known_modest c.args.side.now c.args.table.now.totals.items (moves_at c.args.side.now c.args.table.now.picks.items) _
+of-at-requires-clause-modest c = known_modest c.args.side.now c.args.table.now.totals.items (picks_at c.args.side.now c.args.table.now.picks.items) _
     c.requires.later.followed
 
 -- the rows as they were written
@@ -123,6 +123,6 @@ returns-clause-known c =
     old.picks.items (copied at.After-copy_values) new_picks moved
     (merged at.After-merge_moves) c.requires.later in
     kept_through old.totals _ values c.deref_mut-6.ensures.value c.copy_values.auto.values
-    (λ l. AreBestFrom (frame_at s) (lists_at s) s.player (totals_at s l) (moves_at s (with_items old.picks new_picks).items) c.args.point)
+    (λ l. AreBestFrom (frame_at s) (lists_at s) s.player (totals_at s l) (picks_at s (with_items old.picks new_picks).items) c.args.point)
     (kept_through old.picks _ new_picks c.deref_mut-7.ensures.value c.copy_moves.auto.moves
-    (λ p. AreBestFrom (frame_at s) (lists_at s) s.player (totals_at s values) (moves_at s p) c.args.point) step)
+    (λ p. AreBestFrom (frame_at s) (lists_at s) s.player (totals_at s values) (picks_at s p) c.args.point) step)
