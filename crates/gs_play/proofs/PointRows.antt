@@ -5,7 +5,7 @@ use Rattle.gs_model.specs.{Classes.{IsClass, class_count}, Frame.{end_count, lea
 use Rattle.gs_seq.proofs.SlotLaws.{sum_range_le}
 use Rattle.gs_best.specs.{Tables.{classes_at, start_of}, Places.{end_start}, Rooms.{IsWide}}
 use Rattle.gs_best.proofs.Placed.{IsRow, row_next}
-use Rattle.gs_play.specs.{PointRows.{totals_at}, Roles.{role_frame, role_lists}, Rows.{IsLaterRow, IsRowOf}, declared.ledger.Ledger.{Ledger}}
+use Rattle.gs_play.specs.{PointRows.{row_totals}, Roles.{role_frame, role_lists}, Rows.{IsLaterRow, IsRowOf}, declared.ledger.Ledger.{Ledger}}
 use Rattle.gs_play.specs.{declared.places.Totals.{Totals}, declared.point_row.PointRow.{PointRow}, declared.rows.Row.{Row}}
 use Rattle.gs_play.proofs.Sides.{walked}
 
@@ -38,8 +38,8 @@ wide_at at long wide =
 module _ (at : PointRow) (r : Row) where
   pub held_at_point : (t : Target) (q : ℕ) → t ≡ at_point q → r.round ≡ round_of (role_frame at.ledger.role) (at_point q)
       → r.start ≡ start_of (role_frame at.ledger.role) (role_lists at.ledger.role) q → r.values.now ≡ at.totals.now.points.items
-      → IsRowOf (role_frame at.ledger.role) (role_lists at.ledger.role) (totals_at at) t r
-  held_at_point t q is round start values = subst (λ t. IsRowOf (role_frame at.ledger.role) (role_lists at.ledger.role) (totals_at at) t r) (sym is) (record {
+      → IsRowOf (role_frame at.ledger.role) (role_lists at.ledger.role) (row_totals at) t r
+  held_at_point t q is round start values = subst (λ t. IsRowOf (role_frame at.ledger.role) (role_lists at.ledger.role) (row_totals at) t r) (sym is) (record {
     round_is = round;
     values_are = λ c lc. ap (λ s. get_or r.values.now (s + (c - 1)) (pos 0)) start
         ∙ ap (λ l. get_or l (start_of (role_frame at.ledger.role) (role_lists at.ledger.role) q + (c - 1)) (pos 0)) values;
@@ -47,8 +47,8 @@ module _ (at : PointRow) (r : Row) where
 
   pub held_at_end : (t : Target) (z : ℕ) → t ≡ at_end z → z < end_count (role_frame at.ledger.role) → r.round ≡ round_of (role_frame at.ledger.role) (at_end z)
       → r.start ≡ end_start (role_frame at.ledger.role) (role_lists at.ledger.role) z → r.values.now ≡ at.totals.now.ends.items
-      → IsRowOf (role_frame at.ledger.role) (role_lists at.ledger.role) (totals_at at) t r
-  held_at_end t z is inside round start values = subst (λ t. IsRowOf (role_frame at.ledger.role) (role_lists at.ledger.role) (totals_at at) t r)
+      → IsRowOf (role_frame at.ledger.role) (role_lists at.ledger.role) (row_totals at) t r
+  held_at_end t z is inside round start values = subst (λ t. IsRowOf (role_frame at.ledger.role) (role_lists at.ledger.role) (row_totals at) t r)
       (sym is) (record {
         round_is = round;
         values_are = λ c lc.
@@ -57,7 +57,7 @@ module _ (at : PointRow) (r : Row) where
       })
 
 module _ (at : PointRow) (m : ℕ) (lm : m < move_count (role_frame at.ledger.role) at.point) (r : Row)
-    (held : IsRowOf (role_frame at.ledger.role) (role_lists at.ledger.role) (totals_at at) (leads_to (role_frame at.ledger.role) at.point m) r) where
+    (held : IsRowOf (role_frame at.ledger.role) (role_lists at.ledger.role) (row_totals at) (leads_to (role_frame at.ledger.role) at.point m) r) where
   pub later_row : r.start + class_count (role_lists at.ledger.role) r.round ≤ length r.values.now
       → IsLaterRow (role_frame at.ledger.role) (role_lists at.ledger.role) (round_of (role_frame at.ledger.role) (at_point at.point)) r
   later_row room =

@@ -3,5 +3,5 @@ use Rattle.gs_model.specs.BestAnswers.{Values}
 use Rattle.gs_play.specs.{Roles.{totals_in}, declared.point_row.PointRow.{PointRow}}
 
 -- the class totals that are read
-abbrev pub totals_at : PointRow → Values
-totals_at at = totals_in at.ledger.role at.ledger.other.now at.totals.now.points.items
+abbrev pub row_totals : PointRow → Values
+row_totals at = totals_in at.ledger.role at.ledger.other.now at.totals.now.points.items

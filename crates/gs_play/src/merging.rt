@@ -3,7 +3,7 @@
 ghost use Rattle.std.specs.Prelude.{◌+◌, ◌<◌, ◌≤◌, length};
 ghost use Rattle.gs_model.specs.Frame.{move_count, point_count};
 ghost use Rattle.gs_best.specs.{Rows.{AreGreatest, AreSums, IsMerged}, Tables.{start_of}, ClassTotals.{total_worth}, Rooms.{IsWide}};
-ghost use Rattle.gs_play.specs.{Merged.{AreChosen, AreTaken, IsFollowing}, PointRows.{totals_at}, Roles.{role_frame, role_lists, moves_in}};
+ghost use Rattle.gs_play.specs.{Merged.{AreChosen, AreTaken, IsFollowing}, PointRows.{row_totals}, Roles.{role_frame, role_lists, moves_in}};
 
 use crate::point_row::PointRow;
 use crate::rows::read_worths;
@@ -29,7 +29,7 @@ fn best_moves(at: &PointRow<'_, '_>, worths: &mut [i128], best: &mut [i128], mov
     requires best { at.now.count ≤ length best.old }
     requires moves { at.now.count ≤ length moves.old }
     ensures { let k = at.now.ledger.role in let f = role_frame k in
-        AreGreatest f (role_lists k) (total_worth f (role_lists k) (totals_at at.now)) at.now.point (move_count f at.now.point) best.new moves.new }
+        AreGreatest f (role_lists k) (total_worth f (role_lists k) (row_totals at.now)) at.now.point (move_count f at.now.point) best.new moves.new }
 {
     for choice in 0..at.ledger.role.form.move_total(at.point) {
         let read = read_worths(&*at, choice, worths);
@@ -42,7 +42,7 @@ fn sum_moves(at: &PointRow<'_, '_>, worths: &mut [i128], sums: &mut [i128])
     requires worths { IsWide (role_frame at.now.ledger.role) (role_lists at.now.ledger.role) (length worths.old) }
     requires sums { at.now.count ≤ length sums.old }
     ensures { let k = at.now.ledger.role in let f = role_frame k in
-        AreSums f (role_lists k) (total_worth f (role_lists k) (totals_at at.now)) at.now.point (move_count f at.now.point) sums.new }
+        AreSums f (role_lists k) (total_worth f (role_lists k) (row_totals at.now)) at.now.point (move_count f at.now.point) sums.new }
 {
     for choice in 0..at.ledger.role.form.move_total(at.point) {
         let read = read_worths(&*at, choice, worths);
@@ -56,7 +56,7 @@ fn chosen_moves(at: &PointRow<'_, '_>, picks: &[u8], worths: &mut [i128], row: &
     requires worths { IsWide (role_frame at.now.ledger.role) (role_lists at.now.ledger.role) (length worths.old) }
     requires row { at.now.count ≤ length row.old }
     ensures { let k = at.now.ledger.role in let f = role_frame k in
-        AreChosen f (role_lists k) (totals_at at.now) (moves_in k picks.now) at.now.point (move_count f at.now.point) row.new }
+        AreChosen f (role_lists k) (row_totals at.now) (moves_in k picks.now) at.now.point (move_count f at.now.point) row.new }
 {
     for choice in 0..at.ledger.role.form.move_total(at.point) {
         let read = read_worths(&*at, choice, worths);
@@ -75,7 +75,7 @@ pub(crate) fn merge_moves(
     requires best { IsWide (role_frame at.now.ledger.role) (role_lists at.now.ledger.role) (length best.old) }
     requires moves { IsWide (role_frame at.now.ledger.role) (role_lists at.now.ledger.role) (length moves.old) }
     ensures { let k = at.now.ledger.role in let f = role_frame k in
-        IsMerged f (role_lists k) k.player (total_worth f (role_lists k) (totals_at at.now)) at.now.point best.new moves.new }
+        IsMerged f (role_lists k) k.player (total_worth f (role_lists k) (row_totals at.now)) at.now.point best.new moves.new }
 {
     if at.ledger.role.form.chooser(at.point) == at.ledger.role.player {
         best_moves(at, worths, best, moves);
@@ -95,7 +95,7 @@ pub(crate) fn follow_moves(
     requires worths { IsWide (role_frame at.now.ledger.role) (role_lists at.now.ledger.role) (length worths.old) }
     requires row { IsWide (role_frame at.now.ledger.role) (role_lists at.now.ledger.role) (length row.old) }
     ensures { let k = at.now.ledger.role in let f = role_frame k in
-        IsFollowing f (role_lists k) k.player (totals_at at.now) (moves_in k picks.now) at.now.point row.new }
+        IsFollowing f (role_lists k) k.player (row_totals at.now) (moves_in k picks.now) at.now.point row.new }
 {
     if at.ledger.role.form.chooser(at.point) == at.ledger.role.player {
         chosen_moves(at, picks, worths, row);

@@ -4,7 +4,7 @@ ghost use Rattle.std.specs.Prelude.{◌≡◌, ◌<◌, ◌≤◌, ℕ, pos, len
 ghost use Rattle.gs_model.specs.{Classes.{class_count}, Frame.{leads_to, move_count, round_of}, Positions.{at_point}};
 ghost use Rattle.gs_seq.specs.Abstracts.{abstract_frame, lists_of};
 ghost use Rattle.gs_best.specs.{Rows.{AreWorths}, ClassTotals.{total_worth}, LaterRows.{AreGathered}, Rooms.{IsWide}};
-ghost use Rattle.gs_play.specs.{PointRows.{totals_at}, Roles.{role_frame, role_lists}, Rows.{IsLaterRow, IsRowOf}};
+ghost use Rattle.gs_play.specs.{PointRows.{row_totals}, Roles.{role_frame, role_lists}, Rows.{IsLaterRow, IsRowOf}};
 
 use crate::point_row::PointRow;
 use gs_game::Target;
@@ -63,7 +63,7 @@ fn read_row<'a>(form: &Abstract, row: Row<'a>, to: u8, sums: &'a mut [i128]) -> 
 fn target_row<'a>(at: &'a PointRow<'_, '_>, choice: u8) -> Row<'a>
     requires { choice < move_count (role_frame at.now.ledger.role) at.now.point }
     ensures later { let k = at.now.ledger.role in IsLaterRow (role_frame k) (role_lists k) (round_of (role_frame k) (at_point at.now.point)) result }
-    ensures held { let k = at.now.ledger.role in IsRowOf (role_frame k) (role_lists k) (totals_at at.now) (leads_to (role_frame k) at.now.point choice) result }
+    ensures held { let k = at.now.ledger.role in IsRowOf (role_frame k) (role_lists k) (row_totals at.now) (leads_to (role_frame k) at.now.point choice) result }
 {
     let form = at.ledger.role.form;
     match form.target_at(at.point, choice) {
@@ -89,7 +89,7 @@ pub(crate) fn read_worths<'a>(
     requires choice { choice < move_count (role_frame at.now.ledger.role) at.now.point }
     requires wide { IsWide (role_frame at.now.ledger.role) (role_lists at.now.ledger.role) (length sums.old) }
     ensures worths { let k = at.now.ledger.role in
-        AreWorths (role_frame k) (role_lists k) (total_worth (role_frame k) (role_lists k) (totals_at at.now)) at.now.point choice result.now }
+        AreWorths (role_frame k) (role_lists k) (total_worth (role_frame k) (role_lists k) (row_totals at.now)) at.now.point choice result.now }
     ensures long { at.now.count ≤ length result.now }
 {
     let form = at.ledger.role.form;
