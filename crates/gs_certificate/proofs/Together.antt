@@ -13,7 +13,7 @@ use Rattle.gs_best.specs.{ClassTotals.{gathered_below, total_worth}, Sides.{fram
 use Rattle.gs_best.specs.declared.side.Side.{Side}
 use Rattle.gs_best.proofs.{Modest.{known_modest}, Players.{walked}, Ranges.{sum_same}, Shares.{end_share, some_member}, Starts.{in_round}}
 use Rattle.gs_best.proofs.{Stepping.{none_followed}, TotalAnswers.{all_by_classes}, WorthTotals.{worth_total}}
-use Rattle.gs_certificate.specs.Claims.{IsWay, claimed, first_place_of, together}
+use Rattle.gs_certificate.specs.Claims.{IsWay, claimed, first_place_of, claimed_totals}
 use Rattle.gs_certificate.specs.{declared.claim.Claim.{Claim}, declared.spot.Spot.{Spot}, declared.way.Way.{Way}}
 
 module _ (s : Side) where
@@ -48,7 +48,7 @@ module _ (c : Claim) where
       omega (arith, le.0, le.1, c.long, sum_range_more width q, sum_range_le width (q + 1) (point_count (frame_at c.side)) (omega (arith, lq)))
 
   sized : (g : Target) (e : ℕ) → IsInside (frame_at c.side) g → IsClass (lists_at c.side) (round_of (frame_at c.side) g) e
-      → together c g e ≡ pos (class_size (lists_at c.side) (round_of (frame_at c.side) g) e) *ℤ claimed c g e
+      → claimed_totals c g e ≡ pos (class_size (lists_at c.side) (round_of (frame_at c.side) g) e) *ℤ claimed c g e
   sized (at_point q) e i le = refl
   sized (at_end z) e i le =
       let s = c.side in
@@ -59,13 +59,13 @@ module _ (c : Claim) where
       (pos (class_size (lists_at s) j e))
 
   -- at the start all classes together gain what all signals do
-  pub start_is : sum_z (together c (frame_at c.side).start) (classes_in (lists_at c.side) (round_of (frame_at c.side) (frame_at c.side).start))
+  pub start_is : sum_z (claimed_totals c (frame_at c.side).start) (classes_in (lists_at c.side) (round_of (frame_at c.side) (frame_at c.side).start))
       ≡ start_sum (frame_at c.side) (spread (frame_at c.side) (lists_at c.side) (claimed c))
   start_is =
       let s = c.side in
       let f = frame_at s in
       let at = in_round f s.player (walked s) f.start (walked s).start_in in
-      sym (all_by_classes f (lists_at s) (form_classes s.form.now) (round_of f f.start) (claimed c f.start) (together c f.start)
+      sym (all_by_classes f (lists_at s) (form_classes s.form.now) (round_of f f.start) (claimed c f.start) (claimed_totals c f.start)
       at.0 at.1 (λ e le. sized f.start e (walked s).start_in le))
 
 -- a position that is not before the next point is not before the point
@@ -100,40 +100,40 @@ module _ (p : Spot) where
         ((walked s).point_in p.point p.inside) class_is
 
     -- what all members gain at the point is the size of the class times its number
-    pub here_is : together k (target_of p.here.to) e ≡ pos size *ℤ claimed k (at_point p.point) e
-    here_is = ap (λ t. together k t e) p.to_is
+    pub here_is : claimed_totals k (target_of p.here.to) e ≡ pos size *ℤ claimed k (at_point p.point) e
+    here_is = ap (λ t. claimed_totals k t e) p.to_is
 
     -- a move's worth to all members is the size of the class times its worth to each one
     pub worth_is : (m : ℕ) → m < move_count (frame_at k.side) p.point
-        → total_worth (frame_at k.side) (lists_at k.side) (together k) p.point m e
+        → total_worth (frame_at k.side) (lists_at k.side) (claimed_totals k) p.point m e
         ≡ pos size *ℤ class_worth (frame_at k.side) (lists_at k.side) (claimed k) p.point m e
     worth_is m lm =
         let s = k.side in
         let a = s.form.now in
-        worth_total (frame_at s) (form_in_range a) (lists_at s) (form_classes a) (form_lossless a) s.player (walked s) (claimed k) (together k) p.point m e
-        p.inside lm class_is
+        worth_total (frame_at s) (form_in_range a) (lists_at s) (form_classes a) (form_lossless a) s.player (walked s) (claimed k) (claimed_totals k) p.point
+        m e p.inside lm class_is
         (λ n ln. sized k (leads_to (frame_at s) p.point m) n ((walked s).inside p.point m p.inside lm) ln)
 
     -- and so it is of the sum of all worths
-    pub worths_are : sum_z (λ m. total_worth (frame_at k.side) (lists_at k.side) (together k) p.point m e) (choices_at (frame_at k.side) p.point)
+    pub worths_are : sum_z (λ m. total_worth (frame_at k.side) (lists_at k.side) (claimed_totals k) p.point m e) (choices_at (frame_at k.side) p.point)
         ≡ pos size *ℤ sum_z (λ m. class_worth (frame_at k.side) (lists_at k.side) (claimed k) p.point m e) (choices_at (frame_at k.side) p.point)
     worths_are =
         let f = frame_at k.side in
         let lists = lists_at k.side in
-        sum_same (λ m. total_worth f lists (together k) p.point m e) (λ m. pos size *ℤ class_worth f lists (claimed k) p.point m e) 0 (move_count f p.point)
-        (λ m lo hi. worth_is m (omega arith))
+        sum_same (λ m. total_worth f lists (claimed_totals k) p.point m e) (λ m. pos size *ℤ class_worth f lists (claimed k) p.point m e) 0
+        (move_count f p.point) (λ m lo hi. worth_is m (omega arith))
         ∙ sum_z-mul (pos size) (λ m. class_worth f lists (claimed k) p.point m e) (choices_at f p.point)
 
   -- what the classes below gain where a move leads is what the move is worth
   pub worth_at : (to : Way) → IsWay (frame_at k.side) (lists_at k.side) to → (m e : ℕ) → target_of to.to ≡ leads_to (frame_at k.side) p.point m
-      → gathered_below (frame_at k.side) (lists_at k.side) to.round p.here.round (together k (target_of to.to)) e
-      ≡ total_worth (frame_at k.side) (lists_at k.side) (together k) p.point m e
+      → gathered_below (frame_at k.side) (lists_at k.side) to.round p.here.round (claimed_totals k (target_of to.to)) e
+      ≡ total_worth (frame_at k.side) (lists_at k.side) (claimed_totals k) p.point m e
   worth_at to h m e leads =
       let f = frame_at k.side in
       let lists = lists_at k.side in
-      ap (λ t. gathered_below f lists to.round p.here.round (together k t) e) leads
-      ∙ ap (λ i. gathered_below f lists i p.here.round (together k (leads_to f p.point m)) e) (h.round_is ∙ ap (round_of f) leads)
-      ∙ ap (λ j. gathered_below f lists (round_of f (leads_to f p.point m)) j (together k (leads_to f p.point m)) e) p.round_is
+      ap (λ t. gathered_below f lists to.round p.here.round (claimed_totals k t) e) leads
+      ∙ ap (λ i. gathered_below f lists i p.here.round (claimed_totals k (leads_to f p.point m)) e) (h.round_is ∙ ap (round_of f) leads)
+      ∙ ap (λ j. gathered_below f lists (round_of f (leads_to f p.point m)) j (claimed_totals k (leads_to f p.point m)) e) p.round_is
 
   -- a move leads to the point's round or a later one
   pub onward : (to : Way) → IsWay (frame_at k.side) (lists_at k.side) to → (m : ℕ) → m < move_count (frame_at k.side) p.point

@@ -12,10 +12,10 @@ abbrev pub claimed : Claim → Values
 claimed c = table_of (frame_at c.side) (lists_at c.side) c.side.player (lifted (frame_at c.side) (lists_at c.side) c.side.other.now) c.numbers.now
 
 -- what all members of a class gain together: at a point the number times the size of the class, at an end what the end pays
-abbrev pub together : Claim → Values
-together c (at_point q) e = pos (class_size (lists_at c.side) (round_of (frame_at c.side) (at_point q)) e)
+abbrev pub claimed_totals : Claim → Values
+claimed_totals c (at_point q) e = pos (class_size (lists_at c.side) (round_of (frame_at c.side) (at_point q)) e)
     *ℤ get_or c.numbers.now (start_of (frame_at c.side) (lists_at c.side) q + (e - 1)) (pos 0)
-together c (at_end z) e = end_sum (frame_at c.side) (lists_at c.side) c.side.player (plan_at c.side) z e
+claimed_totals c (at_end z) e = end_sum (frame_at c.side) (lists_at c.side) c.side.player (plan_at c.side) z e
 
 -- the place of a point's first number, and 0 for an end
 abbrev pub first_place_of : Frame → ClassLists → Target → ℕ

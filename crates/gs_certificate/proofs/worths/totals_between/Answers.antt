@@ -10,7 +10,7 @@ use Rattle.gs_model.specs.Classes.{class_size}
 use Rattle.gs_model.proofs.Sparse.{abs_sum}
 use Rattle.gs_best.specs.Sides.{lists_at}
 use Rattle.gs_best.proofs.Ranges.{run_step}
-use Rattle.gs_certificate.specs.Claims.{together}
+use Rattle.gs_certificate.specs.Claims.{claimed_totals}
 use Rattle.gs_certificate.proofs.{Sizes.{sizes_few, sum_more}, Together.{size_few, way_round}}
 use Rattle.gs_certificate.proofs.worths.totals_between.Goals as goal
 
@@ -45,7 +45,7 @@ loop-class-preserved c =
     let more = ap (λ m. m * 2 ^ 90) sizes in
     record {
       sum_is = value ∙ ap (λ z. S +ℤ z) (to_z-of_z w128 c.total_at.result (record { sfits = c.total_at.type_inv }) ∙ c.total_at.ensures.value)
-          ∙ run_step (together k (target_of c.args.way.to)) first class S (omega arith) c.loop-class.invariant.sum_is;
+          ∙ run_step (claimed_totals k (target_of c.args.way.to)) first class S (omega arith) c.loop-class.invariant.sum_is;
       within = omega (arith, ap unsigned_abs value, s, small, c.total_at.ensures.small, c.loop-class.invariant.within, more);
     }
 

@@ -5,7 +5,7 @@ use Rattle.gs_model.specs.Frame.{leads_to, move_count}
 use Rattle.gs_seq.proofs.Signed.{read_back}
 use Rattle.gs_best.specs.Sides.{frame_at, lists_at}
 use Rattle.gs_best.proofs.Gathered.{gathered_run}
-use Rattle.gs_certificate.specs.{Claims.{IsWay, together}, declared.way.Way.{Way}}
+use Rattle.gs_certificate.specs.{Claims.{IsWay, claimed_totals}, declared.way.Way.{Way}}
 use Rattle.gs_certificate.proofs.{Together.{here_way, onward, way_round, worth_at}, worths.worth_below.Goals.{After-from}}
 use Rattle.gs_certificate.proofs.worths.worth_below.Goals as goal
 
@@ -47,7 +47,7 @@ returns-clause-value c =
     let s = p.claim.side in
     let run = c.classes_below-run.result in
     read_back c.totals_between.result _ (record { sfits = c.totals_between.type_inv }) c.totals_between.ensures.value
-    ∙ sym (gathered_run (frame_at s) (lists_at s) (to at).round p.here.round c.args.class run.first run.end (together p.claim (target_of (to at).to))
+    ∙ sym (gathered_run (frame_at s) (lists_at s) (to at).round p.here.round c.args.class run.first run.end (claimed_totals p.claim (target_of (to at).to))
     c.classes_below-run.ensures)
     ∙ worth_at p (to at) (way at) c.args.choice c.args.class (leads at)
 

@@ -6,7 +6,7 @@ use Rattle.gs_model.specs.{Classes.{IsClass}, Frame.{leads_to, move_count}}
 use Rattle.gs_seq.proofs.{Forms.{form_classes, form_in_range}, Signed.{read_back}}
 use Rattle.gs_best.specs.{ClassTotals.{gathered_below}, Sides.{frame_at, lists_at}}
 use Rattle.gs_best.proofs.Itself.{gathered_itself}
-use Rattle.gs_certificate.specs.{Claims.{IsWay, together}, declared.way.Way.{Way}}
+use Rattle.gs_certificate.specs.{Claims.{IsWay, claimed_totals}, declared.way.Way.{Way}}
 use Rattle.gs_certificate.proofs.{Together.{here_way, size_few, way_round, worth_at}, worths.worth_of.Goals.{After-from}}
 use Rattle.gs_certificate.proofs.worths.worth_of.Goals as goal
 
@@ -37,7 +37,7 @@ returns-then-spot-to-clause-value c =
     let p = c.args.spot.now in
     let s = p.claim.side in
     let r = way_round s p.here (here_way p) in
-    let v = together p.claim (target_of (to at).to) in
+    let v = claimed_totals p.claim (target_of (to at).to) in
     read_back c.total_at.result _ (record { sfits = c.total_at.type_inv }) c.total_at.ensures.value
     ∙ sym (gathered_itself (frame_at s) (form_in_range s.form.now) (lists_at s) (form_classes s.form.now) p.here.round c.args.class v r.0 r.1 c.requires.class)
     ∙ ap (λ i. gathered_below (frame_at s) (lists_at s) i p.here.round v c.args.class) c.if-spot-to.true

@@ -4,14 +4,14 @@ use Rattle.gs_model.specs.{Frame.{move_count}, Sums.{sum_z}}
 use Rattle.gs_model.proofs.Sparse.{abs_sum}
 use Rattle.gs_seq.proofs.{EndTotals.{range_begun}, Signed.{read_back}}
 use Rattle.gs_best.specs.{ClassTotals.{total_worth}, Sides.{frame_at, lists_at}}
-use Rattle.gs_certificate.specs.Claims.{together}
+use Rattle.gs_certificate.specs.Claims.{claimed_totals}
 use Rattle.gs_certificate.proofs.worths.worths_of.Goals as goal
 
 pub loop-choice-preserved : goal.loop-choice-preserved
 loop-choice-preserved c =
     let k = c.args.spot.now.claim in
     let m = c.loop-choice.choice in
-    let u = λ (m : ℕ). total_worth (frame_at k.side) (lists_at k.side) (together k) c.args.spot.now.point m c.args.class in
+    let u = λ (m : ℕ). total_worth (frame_at k.side) (lists_at k.side) (claimed_totals k) c.args.spot.now.point m c.args.class in
     let S = to_z w128 c.loop-choice.sum-bits in
     let v = to_z w128 (of_z w128 c.worth_of.result) in
     let worth : v ≡ u m = read_back c.worth_of.result _ (record { sfits = c.worth_of.type_inv }) c.worth_of.ensures.value in
@@ -29,5 +29,5 @@ returns c =
     let q = c.args.spot.now.point in
     let all : c.loop-choice.choice ≡ move_count (frame_at k.side) q =
     omega (arith, c.loop-choice-test.false, c.loop-choice.auto.choice-end, c.move_total-choice-end.ensures.value) in
-    c.loop-choice.invariant.sum_is ∙ ap (λ n. sum_z (λ m. total_worth (frame_at k.side) (lists_at k.side) (together k) q m c.args.class)
+    c.loop-choice.invariant.sum_is ∙ ap (λ n. sum_z (λ m. total_worth (frame_at k.side) (lists_at k.side) (claimed_totals k) q m c.args.class)
     (range_with_len 0 n)) all
