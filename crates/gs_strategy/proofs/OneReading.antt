@@ -12,11 +12,12 @@ use Rattle.gs_model.specs.{Classes.{ClassLists, list_of}, Frame.{Frame}, Numberi
 use Rattle.gs_seq.proofs.Kept.{plan_kept}
 use Rattle.gs_seq.specs.{Faults.{FlowsAt, IsFaultOf as IsPlanFaultOf, IsFirstLeak}, Slots.{plan_of}, declared.fault.PlanFault.{PlanFault}}
 use Rattle.gs_seq.specs.declared.fault.PlanFault.TheVariants as slot
-use Rattle.gs_strategy.specs.Checks.{AreClasses, After, IsCanonical, IsClassFault, IsPlanFault, Reads, ReadResult, ReadsClasses, ReadsNumbers, ReadsParts}
-use Rattle.gs_strategy.specs.Checks.{ReadsPlans, ReadsSecond, Unless}
-use Rattle.gs_strategy.specs.Faults.{Fault, classes, plan}
+use Rattle.serde_json.specs.Data.{Data}
+use Rattle.gs_strategy.specs.Checks.{AreClasses, After, Checked, IsCanonical, IsClassFault, IsPlanFault, Reads, ReadResult, ReadsClasses, ReadsParts, ReadsPlan}
+use Rattle.gs_strategy.specs.Faults.{Fault, classes, not_canonical, plan}
 use Rattle.gs_strategy.specs.Reading.{Whole, class_lists_at, stored_game_at, json_at, numbers_at, parts_at, stored_version_at, weights_at}
 use Rattle.gs_strategy.specs.{Texts.{strategy_text}, Values.{ArePlanWeights, Strategy, Weights, file_frame}}
+use Rattle.gs_strategy.specs.declared.fault.FilePart.{FilePart}
 use Rattle.gs_strategy.specs.declared.fault.FilePart.TheVariants as part
 
 -- neither is less
@@ -130,75 +131,54 @@ pub then_one : {A E R : Type 0} (r : Result A E) (next : A → Result R E → Ty
 then_one (Ok a) next x y h p q = h a p q
 then_one (Err why) next x y h p q = p ∙ sym q
 
-abbrev told_as : {F : Type 0} → (F → Fault) → F → ReadResult
+after_one : {A B : Type 0} (step : Result A Fault → Type 0) (next : A → Result B Fault → Type 0) (x y : Result B Fault)
+    → ((a b : Result A Fault) → step a → step b → a ≡ b) → ((a : A) → next a x → next a y → x ≡ y) → After step next x → After step next y → x ≡ y
+after_one step next x y one h p q = then_one p.0 next x y h p.2 (subst (λ r. Then r next y) (one q.0 p.0 q.1 p.1) q.2)
+
+abbrev told_as : {A F : Type 0} → (F → Fault) → F → Result A Fault
 told_as told v = Err (told v)
 
-unless_one : {F : Type 0} (rule : Type 0) (IsBroken : F → Type 0) (told : F → Fault) (next : ReadResult → Type 0) (x y : ReadResult)
-    → ((why : F) → rule → IsBroken why → ⊥) → ((v w : F) → IsBroken v → IsBroken w → v ≡ w) → (next x → next y → x ≡ y)
-    → Unless rule IsBroken told next x → Unless rule IsBroken told next y → x ≡ y
-unless_one rule IsBroken told next x y none one h (inl p) (inl q) = h p.1 q.1
-unless_one rule IsBroken told next x y none one h (inl p) (inr q) = absurd (none q.0 p.0 q.1)
-unless_one rule IsBroken told next x y none one h (inr p) (inl q) = absurd (none p.0 q.0 p.1)
-unless_one rule IsBroken told next x y none one h (inr p) (inr q) =
-    p.2 ∙ sym (q.2 ∙ ap (told_as told) (one q.0 p.0 q.1 p.1))
+checked_one : {A F : Type 0} (Keeps : A → Type 0) (Breaks : A → F → Type 0) (told : F → Fault) (a : A) (x y : Result A Fault)
+    → ((why : F) → Keeps a → Breaks a why → ⊥) → ((v w : F) → Breaks a v → Breaks a w → v ≡ w) → Checked Keeps Breaks told a x
+    → Checked Keeps Breaks told a y → x ≡ y
+checked_one Keeps Breaks told a x y none one (inl p) (inl q) = p.1 ∙ sym q.1
+checked_one Keeps Breaks told a x y none one (inl p) (inr q) = absurd (none q.0 p.0 q.1)
+checked_one Keeps Breaks told a x y none one (inr p) (inl q) = absurd (none p.0 q.0 p.1)
+checked_one Keeps Breaks told a x y none one (inr p) (inr q) = p.2 ∙ ap (told_as told) (one p.0 q.0 p.1 q.1) ∙ sym q.2
 
-plan_step : (g : FileGame) (lists : ClassLists) (player : ℕ) (w : Weights) (next : ReadResult → Type 0) (x y : ReadResult) → (next x → next y → x ≡ y)
-    → Unless (ArePlanWeights g lists player w) (IsPlanFault g lists player w) (plan player) next x
-    → Unless (ArePlanWeights g lists player w) (IsPlanFault g lists player w) (plan player) next y → x ≡ y
-plan_step g lists player w next x y h =
-    unless_one (ArePlanWeights g lists player w) (IsPlanFault g lists player w) (plan player) next x y
-    (λ why p f. plan_kept (file_frame g) lists player w.total w.weights why p f)
-    (λ v u p q. plan_fault_one (file_frame g) lists player w.total w.weights v u p q) h
-
-class_step : (g : FileGame) (lists : ClassLists) (next : ReadResult → Type 0) (x y : ReadResult) → (next x → next y → x ≡ y)
-    → Unless (AreClasses g lists) (IsClassFault g lists) classes next x → Unless (AreClasses g lists) (IsClassFault g lists) classes next y → x ≡ y
-class_step g lists next x y h =
-    unless_one (AreClasses g lists) (IsClassFault g lists) classes next x y
+classes_one : (g : FileGame) (d : Data) (x y : Result ClassLists Fault) → ReadsClasses g d x → ReadsClasses g d y → x ≡ y
+classes_one g d x y = then_one (class_lists_at d) (Checked (AreClasses g) (IsClassFault g) classes) x y
+    (λ lists. checked_one (AreClasses g) (IsClassFault g) classes lists x y
     (λ why p f. classes_kept (file_frame g).parents lists why p f.0 f.1)
-    (λ v u p q. class_fault_one (file_frame g).parents lists v u p.0 q.0 p.1 q.1) h
+    (λ v w p q. class_fault_one (file_frame g).parents lists v w p.0 q.0 p.1 q.1))
 
-numbers_read : (parts : Whole) (g : FileGame) (lists : ClassLists) (one two : Weights) (x y : ReadResult) → ReadsNumbers parts g lists one two x
-    → ReadsNumbers parts g lists one two y → x ≡ y
-numbers_read parts g lists one two x y = then_one (numbers_at parts) (λ numbers read.
-    read ≡ Ok (record { game = g; classes = lists; one = one; two = two; numbers = numbers })) x y (λ n p q. p ∙ sym q)
+plan_one : (g : FileGame) (lists : ClassLists) (player : ℕ) (of_player : FilePart) (d : Data) (x y : Result Weights Fault)
+    → ReadsPlan g lists player of_player d x → ReadsPlan g lists player of_player d y → x ≡ y
+plan_one g lists player of_player d x y =
+    then_one (weights_at of_player d) (Checked (ArePlanWeights g lists player) (IsPlanFault g lists player) (plan player)) x y
+    (λ w. checked_one (ArePlanWeights g lists player) (IsPlanFault g lists player) (plan player) w x y
+    (λ why p f. plan_kept (file_frame g) lists player w.total w.weights why p f)
+    (λ v u p q. plan_fault_one (file_frame g) lists player w.total w.weights v u p q))
 
-second_read : (parts : Whole) (g : FileGame) (lists : ClassLists) (one : Weights) (x y : ReadResult) → ReadsSecond parts g lists one x
-    → ReadsSecond parts g lists one y → x ≡ y
-second_read parts g lists one x y = then_one (weights_at part.Player2 parts.player2) (λ two.
-    Unless (ArePlanWeights g lists 2 two) (IsPlanFault g lists 2 two) (plan 2) (ReadsNumbers parts g lists one two)) x y
-    (λ two. plan_step g lists 2 two (ReadsNumbers parts g lists one two) x y (numbers_read parts g lists one two x y))
-
-plans_read : (parts : Whole) (g : FileGame) (lists : ClassLists) (x y : ReadResult) → ReadsPlans parts g lists x → ReadsPlans parts g lists y → x ≡ y
-plans_read parts g lists x y = then_one (weights_at part.Player1 parts.player1) (λ one.
-    Unless (ArePlanWeights g lists 1 one) (IsPlanFault g lists 1 one) (plan 1) (ReadsSecond parts g lists one)) x y
-    (λ one. plan_step g lists 1 one (ReadsSecond parts g lists one) x y (second_read parts g lists one x y))
-
-parts_read : (version : Version) (parts : Whole) (x y : ReadResult) → ReadsParts version parts x → ReadsParts version parts y → x ≡ y
-parts_read version parts x y = then_one (stored_game_at version parts.game) (λ g. Then (class_lists_at parts.classes) (λ lists. ReadsClasses parts g lists)) x y
-    (λ g. then_one (class_lists_at parts.classes) (λ lists. ReadsClasses parts g lists) x y
-    (λ lists. class_step g lists (ReadsPlans parts g lists) x y (plans_read parts g lists x y)))
+parts_one : (version : Version) (parts : Whole) (x y : ReadResult) → ReadsParts version parts x → ReadsParts version parts y → x ≡ y
+parts_one version parts x y =
+    then_one (stored_game_at version parts.game) _ x y (λ g.
+    after_one (ReadsClasses g parts.classes) _ x y (classes_one g parts.classes) (λ lists.
+    after_one (ReadsPlan g lists 1 part.Player1 parts.player1) _ x y (plan_one g lists 1 part.Player1 parts.player1) (λ one.
+    after_one (ReadsPlan g lists 2 part.Player2 parts.player2) _ x y (plan_one g lists 2 part.Player2 parts.player2) (λ two.
+    then_one (numbers_at parts) _ x y (λ numbers p q. p ∙ sym q)))))
 
 canonical_one : (version : Version) (bytes : List ℕ) (s : Strategy) (x y : ReadResult) → IsCanonical version bytes s x → IsCanonical version bytes s y → x ≡ y
-canonical_one version bytes s x y (inl p) (inl q) = p.1 ∙ sym q.1
-canonical_one version bytes s x y (inl p) (inr q) = absurd (q.1 p.0)
-canonical_one version bytes s x y (inr p) (inl q) = absurd (p.1 q.0)
-canonical_one version bytes s x y (inr p) (inr q) =
-    let e = difference_one bytes (strategy_text version s) p.0 q.0 p.2 q.2 in
-    let a = p.3 in
-    let b = q.3 in
-    cc
-
-after_one : (version : Version) (parts : Whole) (bytes : List ℕ) (x y : ReadResult) → After (ReadsParts version parts) (IsCanonical version bytes) x
-    → After (ReadsParts version parts) (IsCanonical version bytes) y → x ≡ y
-after_one version parts bytes x y h k =
-    let e = parts_read version parts k.0 h.0 k.1 h.1 in
-    then_one h.0 (IsCanonical version bytes) x y (λ s. canonical_one version bytes s x y) h.2
-    (subst (λ (r : ReadResult). Then r (IsCanonical version bytes) y) e k.2)
+canonical_one version bytes s x y =
+    let text = strategy_text version s in
+    checked_one (λ s. bytes ≡ strategy_text version s)
+    (λ s at. (bytes ≢ strategy_text version s) × IsFirstDifference bytes (strategy_text version s) at) not_canonical s x y (λ at e f. f.0 e)
+    (λ v w p q. difference_one bytes text v w p.1 q.1)
 
 -- bytes are read as one thing
 pub reads_one : (bytes : List ℕ) (x y : ReadResult) → Reads bytes x → Reads bytes y → x ≡ y
-reads_one bytes x y = then_one (json_at bytes) (λ d. Then (stored_version_at d) (λ version.
-    Then (parts_at d) (λ parts. After (ReadsParts version parts) (IsCanonical version bytes)))) x y
-    (λ d. then_one (stored_version_at d) (λ version. Then (parts_at d) (λ parts. After (ReadsParts version parts) (IsCanonical version bytes))) x y
-    (λ version. then_one (parts_at d) (λ parts. After (ReadsParts version parts) (IsCanonical version bytes)) x y
-    (λ parts. after_one version parts bytes x y)))
+reads_one bytes x y =
+    then_one (json_at bytes) _ x y (λ d.
+    then_one (stored_version_at d) _ x y (λ version.
+    then_one (parts_at d) _ x y (λ parts.
+    after_one (ReadsParts version parts) (IsCanonical version bytes) x y (parts_one version parts) (λ s. canonical_one version bytes s x y))))

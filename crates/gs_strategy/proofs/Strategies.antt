@@ -12,8 +12,7 @@ use Rattle.gs_json.specs.Steps.{Then, ◌>>=◌}
 use Rattle.gs_model.proofs.{Push.{le_greatest}, Ranges.{in_range}, Walked.{walked_one, walked_two}, Deviations.{lift_is_raw_plan}, Tables.{is_table}}
 use Rattle.gs_model.proofs.{Gather.{known_from, firsts_from, plan_by}, Alike.{keeps_from}}
 use Rattle.gs_model.specs.{Classes.{ClassLists, list_of}, Frame.{Frame, last_round}, FrameFacts.{InRange, IsWalked}, Game.{IsPlayable}, Plans.{IsRawPlan}}
-use Rattle.gs_strategy.specs.Checks.{AreClasses, After, IsCanonical, IsClassFault, IsPlanFault, Reads, ReadsClasses, ReadsNumbers, ReadsParts, ReadsPlans}
-use Rattle.gs_strategy.specs.Checks.{ReadsSecond, Unless}
+use Rattle.gs_strategy.specs.Checks.{AreClasses, After, Checked, IsCanonical, IsClassFault, IsPlanFault, Reads, ReadsClasses, ReadsParts, ReadsPlan}
 use Rattle.gs_strategy.specs.{Confirmed.{raw_plan}, Faults.{Fault, classes, fraction as no_fraction, plan, shape}}
 use Rattle.gs_strategy.specs.Laws.{AreWeights, IsStrategy}
 use Rattle.gs_strategy.specs.Reading.{Whole, class_lists_at, fraction_at, json_at, numbers_at, of_fraction, of_game, parts_at, stored_game_at}
@@ -22,6 +21,7 @@ use Rattle.gs_strategy.specs.Texts.{strategy_data, strategy_text}
 use Rattle.gs_strategy.specs.Values.{AreFractions, ArePlanWeights, FractionParts, IsFractionOf, Numbers, Strategy, Weights, file_frame}
 use Rattle.gs_strategy.specs.declared.fault.FilePart.{FilePart}
 use Rattle.gs_strategy.proofs.OneText.{classes_are, game_is, json_is, numbers_are, parts_are, parts_of, version_is, weights_are}
+use Rattle.gs_strategy.proofs.{Parts.{all_parts}, Steps.{then_is}}
 use Rattle.gs_strategy.specs.declared.fault.FilePart.TheVariants as part
 use Rattle.gs_strategy.specs.RawPlans.{AreRawPlans}
 use Rattle.gs_file.proofs.{Dealt.{few_signals, told_dealt, told_playable}, Told.{json_told}}
@@ -86,9 +86,15 @@ then_ok : {A : Type 0} (r : Result A Fault) (next : A → Result Strategy Fault 
 then_ok (Ok a) next s h = (a, refl, h)
 then_ok (Err why) next s h = absurd (clash s why h)
 
-unless_ok : {F : Type 0} (rule : Type 0) (IsBroken : F → Type 0) (told : F → Fault) (next : Result Strategy Fault → Type 0) (s : Strategy)
-    → Unless rule IsBroken told next (Ok s) → rule × next (Ok s)
-unless_ok rule IsBroken told next s h = elim h [ inl p ↦ p | inr q ↦ absurd (clash s (told q.0) q.2) ]
+after_ok : {A : Type 0} (step : Result A Fault → Type 0) (next : A → Result Strategy Fault → Type 0) (s : Strategy) → After step next (Ok s)
+    → (a : A) × step (Ok a) × next a (Ok s)
+after_ok step next s h = let (a, e, so) = then_ok h.0 next s h.2 in (a, subst step e h.1, so)
+
+checked_ok : {A F : Type 0} (Keeps : A → Type 0) (Breaks : A → F → Type 0) (told : F → Fault) (r : Result A Fault) (x : A)
+    → Then r (Checked Keeps Breaks told) (Ok x) → Keeps x
+checked_ok Keeps Breaks told (Ok y) x (inl p) = subst Keeps (sym (same x y p.1)) p.0
+checked_ok Keeps Breaks told (Ok y) x (inr q) = absurd (clash x (told q.0) q.2)
+checked_ok Keeps Breaks told (Err why) x h = absurd (clash x why h)
 
 game_ok : (r : Result FileGame GameFault) (g : FileGame) → of_game r ≡ Ok g → r ≡ Ok g
 game_ok (Ok h) g e = ap (λ (x : FileGame). Ok x) (same h g e)
@@ -122,27 +128,25 @@ numbers_ok parts n e =
 
 parts_read : (version : Version) (parts : Whole) (s : Strategy) → ReadsParts version parts (Ok s) → IsStrategy version s
 parts_read version parts s h =
-    let (g, eg, h1) = then_ok (stored_game_at version parts.game) (λ g. Then (class_lists_at parts.classes) (λ lists. ReadsClasses parts g lists)) s h in
-    let (lists, el, h2) = then_ok (class_lists_at parts.classes) (λ lists. ReadsClasses parts g lists) s h1 in
-    let (c, h3) = unless_ok (AreClasses g lists) (IsClassFault g lists) classes (ReadsPlans parts g lists) s h2 in
-    let (one, eo, h4) = then_ok (weights_at part.Player1 parts.player1) (λ one.
-    Unless (ArePlanWeights g lists 1 one) (IsPlanFault g lists 1 one) (plan 1) (ReadsSecond parts g lists one)) s h3 in
-    let (first, h5) = unless_ok (ArePlanWeights g lists 1 one) (IsPlanFault g lists 1 one) (plan 1) (ReadsSecond parts g lists one) s h4 in
-    let (two, et, h6) = then_ok (weights_at part.Player2 parts.player2) (λ two.
-    Unless (ArePlanWeights g lists 2 two) (IsPlanFault g lists 2 two) (plan 2) (ReadsNumbers parts g lists one two)) s h5 in
-    let (second, h7) = unless_ok (ArePlanWeights g lists 2 two) (IsPlanFault g lists 2 two) (plan 2) (ReadsNumbers parts g lists one two) s h6 in
-    let (n, en, h8) = then_ok (numbers_at parts) (λ numbers r. r ≡ Ok (record { game = g; classes = lists; one = one; two = two; numbers = numbers })) s h7 in
+    let (g, eg, h1) = then_ok (stored_game_at version parts.game) _ s h in
+    let (lists, c, h2) = after_ok (ReadsClasses g parts.classes) _ s h1 in
+    let (one, first, h3) = after_ok (ReadsPlan g lists 1 part.Player1 parts.player1) _ s h2 in
+    let (two, second, h4) = after_ok (ReadsPlan g lists 2 part.Player2 parts.player2) _ s h3 in
+    let (n, en, h5) = then_ok (numbers_at parts) _ s h4 in
     let t : Strategy = record { game = g; classes = lists; one = one; two = two; numbers = n } in
     let told = json_told version parts.game g (game_ok (json_game_at version parts.game) g eg) in
-    subst (IsStrategy version) {x = t} (sym {b = t} (same s t h8)) (strategy_is version t told c first second (numbers_ok parts n en))
+    let is = strategy_is version t told (checked_ok (AreClasses g) (IsClassFault g) classes (class_lists_at parts.classes) lists c)
+    (checked_ok (ArePlanWeights g lists 1) (IsPlanFault g lists 1) (plan 1) (weights_at part.Player1 parts.player1) one first)
+    (checked_ok (ArePlanWeights g lists 2) (IsPlanFault g lists 2) (plan 2) (weights_at part.Player2 parts.player2) two second)
+    (numbers_ok parts n en) in
+    subst (IsStrategy version) {x = t} (sym {b = t} (same s t h5)) is
 
 pub reads_strategy : (bytes : List ℕ) (s : Strategy) → Reads bytes (Ok s) → (version : Version) × IsStrategy version s × (bytes ≡ strategy_text version s)
 reads_strategy bytes s h =
     let (d, ed, h1) = then_ok (json_at bytes) _ s h in
     let (version, ev, h2) = then_ok (stored_version_at d) _ s h1 in
     let (parts, ep, h3) = then_ok (parts_at d) _ s h2 in
-    let (t, et, h4) = then_ok h3.0 (IsCanonical version bytes) s h3.2 in
-    let read : ReadsParts version parts (Ok t) = subst (ReadsParts version parts) et h3.1 in
+    let (t, read, h4) = after_ok (ReadsParts version parts) (IsCanonical version bytes) s h3 in
     by version t (parts_read version parts t read) h4
   where
     by : (version : Version) (t : Strategy) → IsStrategy version t → IsCanonical version bytes t (Ok s)
@@ -150,7 +154,7 @@ reads_strategy bytes s h =
     by version t is (inl p) =
         let e = same s t p.1 in
         (version, subst (IsStrategy version) (sym e) is, p.0 ∙ ap (strategy_text version) (sym e))
-    by version t is (inr q) = absurd (clash s _ q.3)
+    by version t is (inr q) = absurd (clash s _ q.2)
 
 -- ---- raw plans
 
@@ -184,38 +188,20 @@ read_raw first second one two h k e =
 
 -- ---- what is written is read
 
-then_is : {A : Type 0} (r : Result A Fault) (x : A) (next : A → Result Strategy Fault → Type 0) (read : Result Strategy Fault) → r ≡ Ok x → next x read
-    → Then r next read
-then_is r x next read e h = subst (λ q. Then q next read) (sym e) h
-
 pub text_is_read : (version : Version) (s : Strategy) → IsStrategy version s → Reads (strategy_text version s) (Ok s)
 text_is_read version s h =
-    let bytes = strategy_text version s in
     let d = strategy_data version s in
     let parts = parts_of version s in
-    let w = h.written in
-    let g = s.game in
     let lists = s.classes in
-    let read : Result Strategy Fault = Ok s in
-    let numbers : ReadsNumbers parts g lists s.one s.two read =
-    then_is (numbers_at parts) s.numbers (λ numbers r. r ≡ Ok (record { game = g; classes = lists; one = s.one; two = s.two; numbers = numbers })) read
-    (numbers_are version s w.numbers) refl in
-    let second : ReadsSecond parts g lists s.one read =
-    then_is (weights_at part.Player2 parts.player2) s.two (λ two.
-    Unless (ArePlanWeights g lists 2 two) (IsPlanFault g lists 2 two) (plan 2) (ReadsNumbers parts g lists s.one two)) read (weights_are part.Player2 s.two)
-    (inl (h.second, numbers)) in
-    let first : ReadsPlans parts g lists read =
-    then_is (weights_at part.Player1 parts.player1) s.one (λ one.
-    Unless (ArePlanWeights g lists 1 one) (IsPlanFault g lists 1 one) (plan 1) (ReadsSecond parts g lists one)) read (weights_are part.Player1 s.one)
-    (inl (h.first, second)) in
-    let classed : ReadsClasses parts g lists read = inl (h.classes, first) in
-    let all : ReadsParts version parts read =
-    then_is (stored_game_at version parts.game) g (λ g. Then (class_lists_at parts.classes) (λ lists. ReadsClasses parts g lists)) read (game_is version s w)
-    (then_is (class_lists_at parts.classes) lists (λ lists. ReadsClasses parts g lists) read (classes_are lists w.classes) classed) in
-    let canonical : IsCanonical version bytes s read = inl (refl, refl) in
-    then_is (json_at bytes) d (λ d. Then (stored_version_at d) (λ version. Then (parts_at d) (λ parts.
-    After (ReadsParts version parts) (IsCanonical version bytes))))
-    read (json_is version s w)
-    (then_is (stored_version_at d) version (λ version. Then (parts_at d) (λ parts. After (ReadsParts version parts) (IsCanonical version bytes))) read
-    (version_is version s)
-    (then_is (parts_at d) parts (λ parts. After (ReadsParts version parts) (IsCanonical version bytes)) read (parts_are version s) (read, all, canonical)))
+    let w = h.written in
+    let classed : ReadsClasses s.game parts.classes (Ok lists) =
+    then_is (class_lists_at parts.classes) lists _ (Ok lists) (classes_are lists w.classes) (inl (h.classes, refl)) in
+    let first : ReadsPlan s.game lists 1 part.Player1 parts.player1 (Ok s.one) =
+    then_is (weights_at part.Player1 parts.player1) s.one _ (Ok s.one) (weights_are part.Player1 s.one) (inl (h.first, refl)) in
+    let second : ReadsPlan s.game lists 2 part.Player2 parts.player2 (Ok s.two) =
+    then_is (weights_at part.Player2 parts.player2) s.two _ (Ok s.two) (weights_are part.Player2 s.two) (inl (h.second, refl)) in
+    let all : ReadsParts version parts (Ok s) =
+    all_parts version parts lists s.one s.two (game_is version s w) classed first second s.numbers (numbers_are version s w.numbers) in
+    then_is (json_at (strategy_text version s)) d _ (Ok s) (json_is version s w)
+    (then_is (stored_version_at d) version _ (Ok s) (version_is version s)
+    (then_is (parts_at d) parts _ (Ok s) (parts_are version s) (Ok s, all, inl (refl, refl))))
