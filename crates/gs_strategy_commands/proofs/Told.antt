@@ -1,5 +1,5 @@
 -- What the checks of a strategy find is what a command answers.
-use Rattle.std.proofs.Common.{◌≡◌, ℕ, List, Result, Ok, Vec, inl, inr, refl, sym, subst}
+use Rattle.std.proofs.Common.{◌≡◌, ℕ, Result, Vec, inl, inr, refl, sym, subst}
 use Rattle.std.specs.declared.alloc.Global.{Global}
 use Rattle.gs_best.specs.Judged.{parts}
 use Rattle.gs_file.specs.Views.{valid_view}
@@ -8,16 +8,16 @@ use Rattle.gs_frac.specs.declared.value.Verdict.{Verdict}
 use Rattle.gs_game.specs.declared.valid.ValidGame.{ValidGame}
 use Rattle.gs_lossless.specs.declared.checking.Lossless.{Lossless}
 use Rattle.gs_model.specs.{Lossless.{IsLossless}, Verdict.{IsVerdict}}
-use Rattle.gs_reply.proofs.{Held.{held}, Refused.{answers_more, stops_more}}
-use Rattle.gs_reply.specs.{Refusals.{Too_large, Unlike_pair, Wrong_number}, Replies.{Answers, Prints, Reply, StopsFor, Tells}, Troubles.{SaysLarge, SaysUnlike}}
+use Rattle.gs_reply.proofs.Refused.{answers_more, stops_more}
+use Rattle.gs_reply.specs.{Refusals.{Too_large, Unlike_pair, Wrong_number}, Replies.{Answers, Reply, StopsFor, Tells}, Troubles.{SaysLarge, SaysUnlike}}
 use Rattle.gs_reply.specs.{declared.refusals.Stop.{Stop}}
 use Rattle.gs_reply.specs.declared.refusals.Refusal.TheVariants as told
 use Rattle.gs_reply.specs.declared.refusals.WrongNumber.{WrongNumber}
 use Rattle.gs_seq.specs.{Games.{frame_in}, Plans.{lifted}, Stops.{IsSmall}}
-use Rattle.gs_strategy.specs.{Checks.{Reads}, Confirmed.{AreNumbersOf, IsConfirmed, strategy_frame}, Values.{Strategy}}
+use Rattle.gs_strategy.specs.{Confirmed.{AreNumbersOf, IsConfirmed, strategy_frame}, Values.{Strategy}}
 use Rattle.gs_strategy.specs.Views.{numbers_of, parts_of, stored_view}
 use Rattle.gs_strategy.specs.declared.stored.Stored.{Stored}
-use Rattle.gs_strategy_commands.specs.{Held.{HoldsStrategy}, Commands.{OfConfirmed, OfStrategy}}
+use Rattle.gs_strategy_commands.specs.{Held.{HoldsStrategy}, Commands.{OfConfirmed}}
 use Rattle.gs_strategy_commands.specs.Troubles.{IsFirstWrong, IsUnconfirmed, SaysTooLarge, SaysWrong}
 
 -- ---- refusals
@@ -49,18 +49,6 @@ large_told s l e held lossless h =
     let at_classes = subst (λ (x : Filter). StopsFor (SaysLarge (valid_view s.game) x.lists) e) held.classes at_game in
     stops_more (SaysLarge (valid_view s.game) s.classes.lists) (SaysTooLarge (stored_view s))
     (λ r said. (said.0, record { lossless = lossless; passed = said.1 }, said.2)) e at_classes
-
--- ---- files
-
--- the same of the file that holds the strategy
-pub file_refused : (says : Strategy → Reply → Type 0) (bytes : List ℕ) (s : Strategy) (e : Stop) → Reads bytes (Ok s) → StopsFor (IsUnconfirmed s) e
-    → StopsFor (OfStrategy (OfConfirmed says) bytes) e
-file_refused says bytes s e reads = stops_more (IsUnconfirmed s) (OfStrategy (OfConfirmed says) bytes)
-    (λ r said. record { read = Ok s; reads = reads; said = inr said }) e
-
-pub file_answered : (says : Strategy → Reply → Type 0) (bytes : List ℕ) (s : Strategy) (text : List ℕ) → Reads bytes (Ok s) → IsConfirmed s
-    → says s (Prints text) → OfStrategy (OfConfirmed says) bytes (Prints text)
-file_answered says bytes s text reads confirmed said = record { read = Ok s; reads = reads; said = inl (confirmed, said) }
 
 -- ---- numbers
 

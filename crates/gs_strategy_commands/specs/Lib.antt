@@ -4,3 +4,4 @@ pub mod Commands
 pub mod Held
 pub mod Certificates
 pub mod Verifying
+pub mod Wanted

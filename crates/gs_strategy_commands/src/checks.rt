@@ -75,14 +75,3 @@ pub fn confirmed_form<'a>(
     check_numbers(alloc, stored, &form)?;
     Ok(form)
 }
-
-/// Refuses a strategy that is not confirmed, with its first trouble: its classes are not lossless, its game is too large, or one of its numbers is wrong.
-pub(crate) fn confirm(alloc: Global, stored: &Stored) -> Result<(), Stop>
-    ensures confirmed { IfOk result (λ _. IsConfirmed (stored_view stored.now)) }
-    ensures refused { IfErr result (StopsFor (IsUnconfirmed (stored_view stored.now))) }
-{
-    let signals = Signals::of(alloc, &stored.game)?;
-    let lossless = lossless_of(alloc, stored, &signals)?;
-    let _form = confirmed_form(alloc, stored, &lossless)?;
-    Ok(())
-}

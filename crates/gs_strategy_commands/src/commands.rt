@@ -1,22 +1,36 @@
 //! The commands that read a strategy file.
 
 ghost use Rattle.std.specs.Prelude.{◌<◌, ◌≤◌};
-ghost use Rattle.gs_strategy_commands.specs.Commands.{Evaluates, Queries, Upgrades};
+ghost use Rattle.gs_strategy_commands.specs.{Certificates.{Certifies}, Commands.{Evaluates, Queries, Upgrades}, Verifying.{Verifies}};
 ghost use Rattle.gs_reply.specs.Replies.{Answers};
 
-use crate::checks::confirm;
-use crate::queries::{Query, queried};
-use gs_file::Version;
-use gs_reply::{Stop, Which, stored_strategy, verdict_text};
+use crate::answers::answer;
+use crate::queries::Query;
+use crate::verifying::verified;
+use crate::wanted::Wanted;
+use gs_json::first_line;
+use gs_reply::{Stop, Which, stored_strategy};
 use std::alloc::Global;
 
 /// Returns the value and the gaps that the strategy file states, if the strategy is confirmed; or the refusal.
 pub fn evaluate_answer(alloc: Global, bytes: &[u8]) -> Result<Vec<u8>, Stop>
     ensures { Answers (Evaluates bytes.now) result }
 {
-    let stored = stored_strategy(alloc, Which::Only, bytes)?;
-    confirm(alloc, &stored)?;
-    Ok(verdict_text(alloc, &stored.verdict)?)
+    answer(alloc, &Wanted::Numbers, bytes)
+}
+
+/// Returns the text in version 2 of the strategy, if it is confirmed; or the refusal.
+pub fn upgrade_answer(alloc: Global, bytes: &[u8]) -> Result<Vec<u8>, Stop>
+    ensures { Answers (Upgrades bytes.now) result }
+{
+    answer(alloc, &Wanted::Upgrade, bytes)
+}
+
+/// Returns the strategy's text in version 2 and its certificate, if the strategy is confirmed; or the refusal.
+pub fn certify_answer(alloc: Global, bytes: &[u8]) -> Result<Vec<u8>, Stop>
+    ensures { Answers (Certifies bytes.now) result }
+{
+    answer(alloc, &Wanted::Certificate, bytes)
 }
 
 /// Returns the mixture of a player at the point and the raw signal that the two texts name, and the player's gap; or the refusal of the file or of the
@@ -37,15 +51,15 @@ pub fn query_answer(
         line,
         signal,
     };
-    let stored = stored_strategy(alloc, Which::Only, bytes)?;
-    queried(alloc, &query, &stored)
+    answer(alloc, &Wanted::Mixture(query), bytes)
 }
 
-/// Returns the text in version 2 of the strategy, if it is confirmed; or the refusal.
-pub fn upgrade_answer(alloc: Global, bytes: &[u8]) -> Result<Vec<u8>, Stop>
-    ensures { Answers (Upgrades bytes.now) result }
+/// Returns the value of a strategy's plans and the bounds of its certificate, if the certificate is valid; or the refusal of the strategy or of the
+/// certificate. The strategy file ends with the first line feed, and the certificate follows.
+pub fn verify_answer(alloc: Global, bytes: &[u8]) -> Result<Vec<u8>, Stop>
+    ensures { Answers (Verifies bytes.now) result }
 {
-    let stored = stored_strategy(alloc, Which::Only, bytes)?;
-    confirm(alloc, &stored)?;
-    Ok(stored.text(alloc, Version::Two)?)
+    let (first, second) = first_line(bytes);
+    let stored = stored_strategy(alloc, Which::Only, first)?;
+    verified(alloc, &stored, second)
 }

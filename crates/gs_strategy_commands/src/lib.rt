@@ -2,7 +2,7 @@
 //! `verify` compute its numbers again. `verify` checks a strategy and its certificate without trusting who made them.
 #![tactic(auto)]
 
-mod certificates;
+mod answers;
 mod certifying;
 mod checks;
 mod commands;
@@ -11,8 +11,8 @@ mod numbers;
 mod queries;
 mod value;
 mod verifying;
+mod wanted;
 
-pub use certificates::{certify_answer, verify_answer};
 pub use checks::confirmed_form;
-pub use commands::{evaluate_answer, query_answer, upgrade_answer};
+pub use commands::{certify_answer, evaluate_answer, query_answer, upgrade_answer, verify_answer};
 pub use laws::printed_lines_are_verified;

@@ -1,18 +1,16 @@
 //! The query of a strategy.
 
 ghost use Rattle.std.specs.Prelude.{◌≡◌, ◌<◌, ◌≤◌, ◌==◌, IfOk, if◌then◌else◌};
-ghost use Rattle.gs_strategy_commands.specs.{Commands.{OfConfirmed, SaysQueried}, Held.{HoldsStrategy}, Queries.{IsToldAt}};
+ghost use Rattle.gs_strategy_commands.specs.{Commands.{SaysQueried}, Held.{HoldsStrategy}, Queries.{IsToldAt}};
 ghost use Rattle.gs_lift.specs.Queries.{IsQuerySpot, signals_of};
 ghost use Rattle.gs_reply.specs.Replies.{Answers};
 ghost use Rattle.gs_strategy.specs.Views.{stored_view};
 
-use crate::checks::{confirmed_form, lossless_of};
 use gs_frac::Fraction;
 use gs_lift::{Mixture, Spot, locate, mix};
 use gs_reply::{Refusal, Stop, mix_text};
 use gs_seq::{Abstract, Plan};
 use gs_strategy::Stored;
-use gs_tree::Signals;
 use std::alloc::{AllocError, Global};
 
 /// A query for the mixture of a player at a point with a raw signal. `line` is the text of the point's line, `signal` that of the raw signal.
@@ -65,8 +63,8 @@ fn told_at(
     mix_text(alloc, &mixture, gap_of(stored, query.player))
 }
 
-// Returns the text of the mixture and the gap that a query names in a confirmed strategy, or the refusal of a query that names none.
-fn located(
+/// Returns the text of the mixture and the gap that a query names in a confirmed strategy, or the refusal of a query that names none.
+pub(crate) fn located(
     alloc: Global,
     query: &Query<'_>,
     stored: &Stored,
@@ -79,14 +77,4 @@ fn located(
         Ok(spot) => Ok(told_at(alloc, query, stored, form, spot)?),
         Err(fault) => Err(Stop::Refused(Refusal::BadQuery(fault))),
     }
-}
-
-/// Returns the text of the mixture and the gap that a query names, if the strategy is confirmed; or the refusal of the strategy or of the query.
-pub(crate) fn queried(alloc: Global, query: &Query<'_>, stored: &Stored) -> Result<Vec<u8>, Stop>
-    ensures { Answers (OfConfirmed (SaysQueried query.now.player query.now.line.now query.now.signal.now) (stored_view stored.now)) result }
-{
-    let signals = Signals::of(alloc, &stored.game)?;
-    let lossless = lossless_of(alloc, stored, &signals)?;
-    let form = confirmed_form(alloc, stored, &lossless)?;
-    located(alloc, query, stored, &form)
 }

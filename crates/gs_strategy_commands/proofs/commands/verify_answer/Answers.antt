@@ -3,7 +3,7 @@ use Rattle.gs_reply.proofs.{Held.{held, not_held}, Refused.{exits}}
 use Rattle.gs_strategy_commands.specs.{Commands.{OfStrategy}, Verifying.{SaysVerified, Verifies}}
 use Rattle.gs_reply.specs.{Replies.{Answers, StopsFor}, declared.refusals.Which.TheVariants.{Only}}
 use Rattle.gs_strategy.specs.Views.{stored_view}
-use Rattle.gs_strategy_commands.proofs.certificates.verify_answer.Goals as goal
+use Rattle.gs_strategy_commands.proofs.commands.verify_answer.Goals as goal
 
 pub returns-in_err-stored : goal.returns-in_err-stored
 returns-in_err-stored c =
