@@ -3,7 +3,17 @@ use Rattle.std.proofs.Common.{◌≡◌, ℕ, ◌+◌, ◌<◌, ◌≤◌, ◌�
 use Rattle.std.proofs.Common.{ap, subst, ◌∙◌, arith, below_more}
 use Rattle.gs_simplex.proofs.{Ring.{ring, linear, times_pos, cancel, cancel_pos}, Circle.{cross_trans}, PairLists.{less_one, place_of, listed_at}}
 use Rattle.gs_simplex.specs.{declared.program.Program.{Program}, Program.{Listing, IsListed, IsFree}, Path.{NoneLeaves}, declared.choice.Ratio.{Ratio}}
-use Rattle.gs_simplex.specs.Choice.{Before, NotAfter, IsRatio, IsNoRatio, IsRatioAt, IsBetter, IsLeast, IsLeastSoFar, IsLeaving}
+use Rattle.gs_simplex.specs.Choice.{Before, NotAfter, IsRatio, IsNoRatio, IsRatioAt, IsBetter, IsLeaving}
+
+-- a is the ratio that leaves first among the first `count` places
+pub record IsLeast (p : Program) (l : Listing) (rows : ℕ → ℕ → ℤ) (e count : ℕ) (a : Ratio) : Type 0 where
+  pub here : (k : ℕ) × (k < count) × IsRatio p l rows e k a
+  pub others : (k : ℕ) → k < count → (IsNoRatio p l rows e k) ⊎ ((b : Ratio) × (IsRatio p l rows e k b) × NotAfter a b)
+
+-- the ratio that leaves first among the first `count` places, or none if no row there may leave
+abbrev pub IsLeastSoFar : Program → Listing → (ℕ → ℕ → ℤ) → ℕ → ℕ → Option Ratio → Type 0
+IsLeastSoFar p l rows e count None = (k : ℕ) → k < count → IsNoRatio p l rows e k
+IsLeastSoFar p l rows e count (Some a) = IsLeast p l rows e count a
 
 -- ---- the order of ratios
 -- x/y is not below c/d, and a/b is below c/d: then a/b is below x/y

@@ -1,11 +1,32 @@
 -- Rows that are 0 outside some places.
 use Rattle.std.proofs.Common.{◌≡◌, ◌≢◌, ℕ, ◌+◌, ◌<◌, ◌≤◌, ◌⊎◌, inl, inr, List, length, slice_index, slice_set, ℤ, pos, ◌-ℤ◌, ◌*ℤ◌, sym, ap, subst, ◌∙◌, arith}
-use Rattle.std.proofs.Common.{get_or-set_other, get_or-set_same}
+use Rattle.std.proofs.Common.{get_or-set_other, get_or-set_same, slice_index_or}
 use Rattle.std.proofs.{lemmas.Bool.{cases_eq, cases_lt, cases_order}, lemmas.List.{length-set}}
 use Rattle.gs_simplex.specs.{declared.program.Program.{Program}, Program.{Listing, IsListed, IsPairList, IsRowsOf}, Numbers.{at, cell, IsDivided}}
-use Rattle.gs_simplex.specs.{Table.{IsTable, IsKept}, Live.{IsOutside, AreColumnPlaces, AreFoundPlaces, IsSupport, IsChange, IsLive}}
+use Rattle.gs_simplex.specs.{Table.{IsTable, IsKept}, Live.{IsLiveRow, IsOutside, AreColumnPlaces, AreFoundPlaces, IsSupport, IsChange, IsLive}}
 use Rattle.gs_simplex.proofs.{Ring.{linear, one_times, times_zero, cancel_zero}, Solutions.{find_col}}
 use Rattle.gs_simplex.proofs.{PairLists.{pair_list_is_list, row_decided, column_decided}, Tables.{flipped_other}, Kept.{row_zero_kept, aim_zero_kept}}
+
+-- the columns below `count` that are looked at, in order
+pub record ArePlacesBelow (rows : List ℕ) (r : ℕ) (places : List ℕ) (found count : ℕ) : Type 0 where
+  pub some : 0 < found
+  pub few : found ≤ count + 1
+  pub below : (k : ℕ) → 0 < k → k < found → slice_index places k < count
+  pub rises : (k h : ℕ) → 0 < k → k < h → h < found → slice_index places k < slice_index places h
+  pub live : (k : ℕ) → 0 < k → k < found → IsLiveRow r (slice_index rows (slice_index places k))
+  pub all : (j : ℕ) → j < count → IsOutside places found j → IsLiveRow r (slice_index rows j) → ⊥
+
+-- `owns` has the column of each row of the first `count` pairs; the other numbers are those of `old`
+pub record AreOwns (l : Listing) (old owns : List ℕ) (count : ℕ) : Type 0 where
+  pub listed : (k i j : ℕ) → k < count → slice_index_or l k (0, 0) ≡ (i + 1, j + 1) → slice_index owns i ≡ j
+  pub unlisted : (i : ℕ) → ((k : ℕ) → k < count → (slice_index_or l k (0, 0)).0 ≡ i + 1 → ⊥) → slice_index owns i ≡ slice_index old i
+
+-- columns below `below` in rising order; in each other column below `below` the row is 0
+pub record AreFilled (row : ℕ → ℤ) (filled : List ℕ) (count below : ℕ) : Type 0 where
+  pub few : count ≤ below
+  pub under : (k : ℕ) → k < count → slice_index filled k < below
+  pub rises : (k h : ℕ) → k < h → h < count → slice_index filled k < slice_index filled h
+  pub all : (j : ℕ) → j < below → ((k : ℕ) → k < count → slice_index filled k ≢ j) → row j ≡ pos 0
 
 -- a column at one of the places, or at none
 pub place_or_none : (places : List ℕ) (found j : ℕ) → ((k : ℕ) × (k < found) × (slice_index places k ≡ j)) ⊎ ((k : ℕ) → k < found → slice_index places k ≢ j)

@@ -1,6 +1,7 @@
 -- Lists of basic pairs: what stands in them, their rows, that a pivot keeps them regular, and that the aim's last number is its value.
-use Rattle.std.proofs.Common.{◌≡◌, ℕ, suc, ◌+◌, ◌<◌, ◌≤◌, ◌⊎◌, inl, inr, length, slice_index_or, slice_set, ℤ, pos, ◌-ℤ◌, ◌*ℤ◌, neg_ℤ, sym, ap, subst, ◌∙◌}
-use Rattle.std.proofs.Common.{arith, get_or-set_other, get_or-set_same}
+use Rattle.std.proofs.Common.{◌≡◌, ℕ, suc, ◌+◌, ◌<◌, ◌≤◌, ◌⊎◌, inl, inr, length, slice_index, slice_index_or, slice_set, ℤ, pos, ◌-ℤ◌, ◌*ℤ◌, neg_ℤ, sym, ap}
+use Rattle.std.proofs.Common.{subst, ◌∙◌}
+use Rattle.std.proofs.Common.{List, arith, get_or-set_other, get_or-set_same}
 use Rattle.std.proofs.{lemmas.Bool.{cases_eq}, lemmas.List.{length-set}, Math.Seq.{take-length}}
 use Rattle.gs_simplex.specs.{declared.program.Program.{Program}, Sums.{sum_to}}
 use Rattle.gs_simplex.specs.Program.{aim_of, Listing, IsListed, RowListed, ColListed, IsPairList, IsRowsOf, IsRegularList, IsTakenInTurn, IsSolution}
@@ -8,6 +9,11 @@ use Rattle.gs_simplex.specs.Path.{IsPivot}
 use Rattle.gs_simplex.proofs.{Ring.{ring, linear, times_zero, zero_times}, Sums.{sum_same, sum_zero}, Steps.{IsList, rows_same}}
 use Rattle.gs_simplex.proofs.{Pivots.{IsOnce, IsPlace, any_default, turn_is_list, turn_is_once, turn_is_regular}, Solutions.{find_col, aim_dot}}
 use Rattle.gs_simplex.proofs.{Opening.{IsOpened, opened, solution_killed}, Exists.{rows_exist}}
+
+-- `rows` has the row of each column of the first `count` pairs, counted from 1; the other numbers are those of `old`
+pub record IsMarked (l : Listing) (old rows : List ℕ) (count : ℕ) : Type 0 where
+  pub listed : (k i j : ℕ) → k < count → slice_index_or l k (0, 0) ≡ (i + 1, j + 1) → slice_index rows j ≡ i + 1
+  pub unlisted : (j : ℕ) → ((k : ℕ) → k < count → (slice_index_or l k (0, 0)).1 ≡ j + 1 → ⊥) → slice_index rows j ≡ slice_index old j
 
 -- the pair at the place where row i and column j stand
 pub place_of : (l : Listing) (i j : ℕ) (h : IsListed l i j) → slice_index_or l h.0 (0, 0) ≡ (i + 1, j + 1)

@@ -7,9 +7,15 @@ use Rattle.gs_frac.specs.declared.value.Fraction.{Fraction}
 use Rattle.gs_simplex.specs.{declared.program.Program.{Program}, Program.{Listing, ColListed, IsPairList, IsOpening}}
 use Rattle.gs_simplex.specs.{Path.{States, IsPath, NoneEnters, ends, Stops, PathStops}, declared.answer.Turn.{Turn}, declared.answer.PathTrace.{PathTrace}}
 use Rattle.gs_simplex.specs.{Table.{table_aim, IsTable}, State.{IsSoFar, IsTurnAt}, Answer.{IsSmallTable}}
-use Rattle.gs_simplex.specs.Trace.{IsBasis, IsBasisBelow, IsBasisAt, IsAimValue, IsTurnOf, IsTrace, IsNoted}
+use Rattle.gs_simplex.specs.Trace.{IsBasis, IsBasisAt, IsAimValue, IsTurnOf, IsTrace, IsNoted}
 use Rattle.gs_simplex.proofs.{Opening.{path_trail, bases_differ}, PairLists.{pair_list_is_list}, Agree.{Agree, lists_same, paths_agree}}
 use Rattle.gs_simplex.proofs.{Multiples.{down_fraction}, Paths.{turn_same_as, ends_stops}}
+
+-- the listed columns among the first `count`, counted from 1, in rising order
+pub record IsBasisBelow (l : Listing) (count : ℕ) (columns : List ℕ) : Type 0 where
+  pub rises : (k h : ℕ) → k < h → h < length columns → slice_index columns k < slice_index columns h
+  pub listed : (k : ℕ) → k < length columns → (j : ℕ) × (slice_index columns k ≡ j + 1) × (j < count) × ColListed l j
+  pub all : (j : ℕ) → j < count → ColListed l j → Contains columns (j + 1)
 
 -- what holds of each element after a push
 pub holds_push : {X : Type 0} (P : ℕ → X → Type 0) (xs : List X) (x : X) (n : ℕ) → length xs ≡ n → ((k : ℕ) → k < n → HoldsAt (P k) xs k) → P n x → (k : ℕ)

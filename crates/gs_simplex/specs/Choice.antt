@@ -44,16 +44,6 @@ IsBetter None next found = found ≡ next
 IsBetter (Some b) None found = found ≡ Some b
 IsBetter (Some b) (Some n) found = ((found ≡ Some n) × Before n b) ⊎ ((found ≡ Some b) × NotAfter b n)
 
--- a is the ratio that leaves first among the first `count` places
-pub record IsLeast (p : Program) (l : Listing) (rows : ℕ → ℕ → ℤ) (e count : ℕ) (a : Ratio) : Type 0 where
-  pub here : (k : ℕ) × (k < count) × IsRatio p l rows e k a
-  pub others : (k : ℕ) → k < count → (IsNoRatio p l rows e k) ⊎ ((b : Ratio) × (IsRatio p l rows e k b) × NotAfter a b)
-
--- the ratio that leaves first among the first `count` places, or none if no row there may leave
-abbrev pub IsLeastSoFar : Program → Listing → (ℕ → ℕ → ℤ) → ℕ → ℕ → Option Ratio → Type 0
-IsLeastSoFar p l rows e count None = (k : ℕ) → k < count → IsNoRatio p l rows e k
-IsLeastSoFar p l rows e count (Some a) = IsLeast p l rows e count a
-
 -- the place of the row that leaves, or none if no row bounds the entering column
 abbrev pub IsLeaving : Program → Listing → (ℕ → ℕ → ℤ) → ℕ → Option ℕ → Type 0
 IsLeaving p l rows e None = NoneLeaves p l rows e

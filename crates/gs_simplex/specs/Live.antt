@@ -1,5 +1,5 @@
 -- The columns that a pivot looks at. Place 0 is for the own column of the row at hand, which changes from row to row.
-use Rattle.std.specs.Prelude.{◌≡◌, ◌≢◌, ℕ, ◌+◌, ◌<◌, ◌≤◌, ◌⊎◌, List, length, slice_index, slice_index_or, vec_len, ℤ, pos, ◌-ℤ◌, ◌*ℤ◌}
+use Rattle.std.specs.Prelude.{◌≡◌, ◌≢◌, ℕ, ◌+◌, ◌<◌, ◌≤◌, ◌⊎◌, List, length, slice_index, vec_len, ℤ, pos, ◌-ℤ◌, ◌*ℤ◌}
 use Rattle.gs_simplex.specs.{declared.program.Program.{Program}, Program.{Listing, IsListed, RowListed}, declared.live.Live.{Live}}
 
 -- there is room for each column and row of a program, and for a row's own column
@@ -17,15 +17,6 @@ IsLiveRow r row = (row ≡ 0) ⊎ (row ≡ r + 1)
 abbrev pub IsOutside : List ℕ → ℕ → ℕ → Type 0
 IsOutside places found j = (k : ℕ) → 0 < k → k < found → slice_index places k ≢ j
 
--- the columns below `count` that are looked at, in order
-pub record ArePlacesBelow (rows : List ℕ) (r : ℕ) (places : List ℕ) (found count : ℕ) : Type 0 where
-  pub some : 0 < found
-  pub few : found ≤ count + 1
-  pub below : (k : ℕ) → 0 < k → k < found → slice_index places k < count
-  pub rises : (k h : ℕ) → 0 < k → k < h → h < found → slice_index places k < slice_index places h
-  pub live : (k : ℕ) → 0 < k → k < found → IsLiveRow r (slice_index rows (slice_index places k))
-  pub all : (j : ℕ) → j < count → IsOutside places found j → IsLiveRow r (slice_index rows j) → ⊥
-
 -- the columns that are looked at, in order, and then the right side
 pub record AreColumnPlaces (cols : ℕ) (rows : List ℕ) (r : ℕ) (places : List ℕ) (found : ℕ) : Type 0 where
   pub some : 1 < found
@@ -35,11 +26,6 @@ pub record AreColumnPlaces (cols : ℕ) (rows : List ℕ) (r : ℕ) (places : Li
   pub live : (k : ℕ) → 0 < k → k < found → slice_index places k < cols → IsLiveRow r (slice_index rows (slice_index places k))
   pub all : (j : ℕ) → j < cols → IsOutside places found j → IsLiveRow r (slice_index rows j) → ⊥
   pub side : IsOutside places found cols → ⊥
-
--- `owns` has the column of each row of the first `count` pairs; the other numbers are those of `old`
-pub record AreOwns (l : Listing) (old owns : List ℕ) (count : ℕ) : Type 0 where
-  pub listed : (k i j : ℕ) → k < count → slice_index_or l k (0, 0) ≡ (i + 1, j + 1) → slice_index owns i ≡ j
-  pub unlisted : (i : ℕ) → ((k : ℕ) → k < count → (slice_index_or l k (0, 0)).0 ≡ i + 1 → ⊥) → slice_index owns i ≡ slice_index old i
 
 -- The columns to look at when row r is taken after the list l, and each row's own column. The own column of an unlisted row is the further place.
 pub record AreFoundPlaces (p : Program) (l : Listing) (r : ℕ) (places owns : List ℕ) (found : ℕ) : Type 0 where
@@ -79,10 +65,3 @@ pub record IsChange (places : List ℕ) (found width : ℕ) (row lead : ℕ → 
   pub inside : (k : ℕ) → k < found → slice_index places k < width
   pub differ : (k h : ℕ) → k < found → h < found → slice_index places k ≡ slice_index places h → k ≡ h
   pub outside : (j : ℕ) → j < width → ((k : ℕ) → k < found → slice_index places k ≢ j) → own *ℤ row j -ℤ far *ℤ lead j ≡ row j
-
--- columns below `below` in rising order; in each other column below `below` the row is 0
-pub record AreFilled (row : ℕ → ℤ) (filled : List ℕ) (count below : ℕ) : Type 0 where
-  pub few : count ≤ below
-  pub under : (k : ℕ) → k < count → slice_index filled k < below
-  pub rises : (k h : ℕ) → k < h → h < count → slice_index filled k < slice_index filled h
-  pub all : (j : ℕ) → j < below → ((k : ℕ) → k < count → slice_index filled k ≢ j) → row j ≡ pos 0

@@ -12,10 +12,6 @@ at xs j = slice_index_or xs j (pos 0)
 abbrev pub AreNarrowNumbers : List ℤ → Type 0
 AreNarrowNumbers xs = (j : ℕ) → j < length xs → IsNarrow (at xs j)
 
--- each number is at most 2^125 in size
-abbrev pub AllWithin : List ℤ → Type 0
-AllWithin xs = (j : ℕ) → j < length xs → unsigned_abs (at xs j) ≤ 2 ^ 125
-
 -- the first `width` numbers of a row are at most `most` in size
 abbrev pub IsAtMost : ℕ → (ℕ → ℤ) → ℕ → Type 0
 IsAtMost width row most = (j : ℕ) → j < width → unsigned_abs (row j) ≤ most

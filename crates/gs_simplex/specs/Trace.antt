@@ -12,12 +12,6 @@ pub record IsBasis (l : Listing) (columns : List ℕ) : Type 0 where
   pub listed : (k : ℕ) → k < length columns → (j : ℕ) × (slice_index columns k ≡ j + 1) × ColListed l j
   pub all : (j : ℕ) → ColListed l j → Contains columns (j + 1)
 
--- the listed columns among the first `count`, counted from 1, in rising order
-pub record IsBasisBelow (l : Listing) (count : ℕ) (columns : List ℕ) : Type 0 where
-  pub rises : (k h : ℕ) → k < h → h < length columns → slice_index columns k < slice_index columns h
-  pub listed : (k : ℕ) → k < length columns → (j : ℕ) × (slice_index columns k ≡ j + 1) × (j < count) × ColListed l j
-  pub all : (j : ℕ) → j < count → ColListed l j → Contains columns (j + 1)
-
 -- the aim's value as the aim's row gives it: the last number over the multiple
 abbrev pub IsAimValue : Program → (ℕ → ℤ) → Fraction → Type 0
 IsAimValue p aim f = f.num *ℤ aim (p.cols + 1) ≡ aim p.cols *ℤ f.den

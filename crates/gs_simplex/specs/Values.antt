@@ -1,5 +1,5 @@
 -- Values column by column.
-use Rattle.std.specs.Prelude.{◌≡◌, ℕ, ◌+◌, ◌<◌, List, length, slice_index, slice_index_or, ℤ, pos, ◌*ℤ◌, ◌<ℤ◌}
+use Rattle.std.specs.Prelude.{◌≡◌, ℕ, ◌+◌, ◌<◌, List, length, slice_index, ℤ, pos, ◌*ℤ◌, ◌<ℤ◌}
 use Rattle.gs_simplex.specs.{declared.program.Program.{Program}, Program.{Listing, IsListed, ColListed}}
 use Rattle.gs_frac.specs.declared.value.Fraction.{Fraction}
 
@@ -8,11 +8,6 @@ pub record IsRowIndex (p : Program) (l : Listing) (rows : List ℕ) : Type 0 whe
   pub long : length rows ≡ p.cols
   pub listed : (i j : ℕ) → IsListed l i j → slice_index rows j ≡ i + 1
   pub unlisted : (j : ℕ) → ¬ ColListed l j → slice_index rows j ≡ 0
-
--- `rows` has the row of each column of the first `count` pairs, counted from 1; the other numbers are those of `old`
-pub record IsMarked (l : Listing) (old rows : List ℕ) (count : ℕ) : Type 0 where
-  pub listed : (k i j : ℕ) → k < count → slice_index_or l k (0, 0) ≡ (i + 1, j + 1) → slice_index rows j ≡ i + 1
-  pub unlisted : (j : ℕ) → ((k : ℕ) → k < count → (slice_index_or l k (0, 0)).1 ≡ j + 1 → ⊥) → slice_index rows j ≡ slice_index old j
 
 -- `row` is 0, or a row counted from 1 that has a number above 0 in column j
 pub record CanValue (p : Program) (rows : ℕ → ℕ → ℤ) (row j : ℕ) : Type 0 where

@@ -73,8 +73,8 @@ pub fn trace(
     } = begin(alloc, p, opening)?;
     let start = aim_value(p, &table.numbers);
     let mut log = Log::start(alloc, p, opening, &basis)?;
-    // the log has their number
-    let _pivots = log.follow(alloc, p, opening, limit, &mut basis, &mut table)?;
+    // the log has the number of pivots, which this call returns
+    log.follow(alloc, p, opening, limit, &mut basis, &mut table)?;
     let aim = aim_value(p, &table.numbers);
     let Log { turns, bases } = log;
     Ok(PathTrace {

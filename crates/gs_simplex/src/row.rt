@@ -6,7 +6,7 @@ ghost use Rattle.std.specs.Prelude.{length, slice_index, unsigned_abs};
 ghost use Prim.Native.Nat.{◌∣◌};
 ghost use Rattle.std.specs.Int.{IsGcd};
 ghost use Rattle.gs_simplex.specs.Rows.{IsNarrow};
-ghost use Rattle.gs_simplex.specs.Numbers.{at, AreNarrowNumbers, AllWithin, AllAtMost, IsDivisor, IsShared, IsQuotient, IsWideQuotient, IsMultiple, IsDivided};
+ghost use Rattle.gs_simplex.specs.Numbers.{at, AreNarrowNumbers, AllAtMost, IsDivisor, IsShared, IsQuotient, IsWideQuotient, IsMultiple, IsDivided};
 ghost use Rattle.gs_simplex.specs.{Numbers.{IsMixed, IsReducedTo}, Live.{IsSupport, IsChange}};
 
 use crate::exact::{Divisor, short_gcd};
@@ -202,7 +202,7 @@ fn mix(lead: &[i64], row: &[i64], own: i64, far: i64, mixed: &mut [i128])
     requires narrow_own { IsNarrow own }
     requires narrow_far { IsNarrow far }
     ensures mixed { (j : ℕ) → j < length row.now → at mixed.new j ≡ own *ℤ at row.now j -ℤ far *ℤ at lead.now j }
-    ensures within { AllWithin mixed.new }
+    ensures within { AllAtMost mixed.new (2 ^ 125) }
 {
     for j in 0..row.len() {
         mixed[j] = mixed_number(own, row[j], far, lead[j]);
@@ -225,7 +225,7 @@ fn common_divisor(found: u128, number: u128) -> u128
 
 // Returns the greatest common divisor of `mixed`, 0 where all are 0.
 fn divisor(mixed: &[i128]) -> u128
-    requires { AllWithin mixed.now }
+    requires { AllAtMost mixed.now (2 ^ 125) }
     ensures { IsDivisor (length mixed.now) (at mixed.now) result }
 {
     let mut found: u128 = 0;
@@ -281,7 +281,7 @@ fn narrow_into(mixed: &[i128], by: u128, row: &mut [i64]) -> Option<WideNumber>
     requires room { length mixed.now ≡ length row.old }
     requires some { 0 < by }
     requires small { by ≤ 2 ^ 125 }
-    requires within { AllWithin mixed.now }
+    requires within { AllAtMost mixed.now (2 ^ 125) }
     requires divides { (j : ℕ) → j < length mixed.now → by ∣ unsigned_abs (at mixed.now j) }
     ensures { MatchOption result (IsQuotient by mixed.now row.new (length mixed.now)) (λ w. IsWideQuotient by mixed.now w.column w.number) }
 {

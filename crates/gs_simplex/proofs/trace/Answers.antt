@@ -29,14 +29,14 @@ aim_value-start-requires-clause-multiple c =
 
 pub aim_value-aim-requires-clause-multiple : goal.aim_value-aim-requires-clause-multiple
 aim_value-aim-requires-clause-multiple c =
-    let p = c.args.p.now in let o = c.args.opening.now in let n = c.in_ok-_pivots._pivots in let l = c.follow.new.basis in let xs = c.deref-3.result.now in
+    let p = c.args.p.now in let o = c.args.opening.now in let n = c.in_ok-follow.field-0 in let l = c.follow.new.basis in let xs = c.deref-3.result.now in
     multiple_of p o (length o + n) l xs (same_so_far p o (length o + n) l c.follow.new.table.numbers.items xs c.deref-3.ensures.value
-    c.in_ok-_pivots.ensures.0.state.so_far)
+    c.in_ok-follow.ensures.0.state.so_far)
 
 pub returns : goal.returns
 returns c =
-    let p = c.args.p.now in let o = c.args.opening.now in let n = c.in_ok-_pivots._pivots in let l = c.follow.new.basis in
-    let at = c.in_ok-basis.field-0 in let held = c.follow.new.table in let end = c.in_ok-_pivots.ensures.0 in
+    let p = c.args.p.now in let o = c.args.opening.now in let n = c.in_ok-follow.field-0 in let l = c.follow.new.basis in
+    let at = c.in_ok-basis.field-0 in let held = c.follow.new.table in let end = c.in_ok-follow.ensures.0 in
     let xs0 = c.deref.result.now in let xs = c.deref-3.result.now in
     let T : List ℤ → Type 0 = λ x. IsTable p x in let N : List ℤ → Type 0 = λ x. NoneEnters p l (table_aim p x) in
     trace_of p o c.args.limit n (record {
@@ -50,4 +50,4 @@ returns c =
     c.in_ok-basis.ensures.state.so_far) c.aim_value-start.ensures
     (same_so_far p o (length o + n) l held.numbers.items xs c.deref-3.ensures.value end.state.so_far) (subst T (sym c.deref-3.ensures.value) end.state.table)
     end.within (subst N (sym c.deref-3.ensures.value) end.none)
-    c.aim_value-aim.ensures c.in_ok-_pivots.ensures.1
+    c.aim_value-aim.ensures c.in_ok-follow.ensures.1

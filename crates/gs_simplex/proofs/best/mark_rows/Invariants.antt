@@ -1,4 +1,4 @@
-use Rattle.gs_simplex.specs.Values.{IsMarked}
+use Rattle.gs_simplex.proofs.PairLists.{IsMarked}
 use Rattle.gs_simplex.proofs.best.mark_rows.Given as goal
 
 abbrev pub invariant-loop-place : goal.invariant-loop-place

@@ -1,6 +1,6 @@
 use Rattle.std.proofs.Common.{◌≡◌, ℕ, Option, Some, None, length, sym, subst, arith}
-use Rattle.gs_simplex.specs.{declared.choice.Ratio.{Ratio}, Table.{table_rows}, Choice.{IsLeastSoFar, IsLeaving}}
-use Rattle.gs_simplex.proofs.Choosing.{one_more, none_leaves_from, leaves_from}
+use Rattle.gs_simplex.specs.{declared.choice.Ratio.{Ratio}, Table.{table_rows}, Choice.{IsLeaving}}
+use Rattle.gs_simplex.proofs.Choosing.{IsLeastSoFar, one_more, none_leaves_from, leaves_from}
 use Rattle.gs_simplex.proofs.choice.leaving.Goals as goal
 
 pub loop-place-preserved : goal.loop-place-preserved

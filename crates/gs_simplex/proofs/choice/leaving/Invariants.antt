@@ -1,4 +1,5 @@
-use Rattle.gs_simplex.specs.{Table.{table_rows}, Choice.{IsLeastSoFar}}
+use Rattle.gs_simplex.specs.Table.{table_rows}
+use Rattle.gs_simplex.proofs.Choosing.{IsLeastSoFar}
 use Rattle.gs_simplex.proofs.choice.leaving.Given as goal
 
 abbrev pub invariant-loop-place : goal.invariant-loop-place

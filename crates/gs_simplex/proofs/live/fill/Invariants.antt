@@ -1,4 +1,5 @@
-use Rattle.gs_simplex.specs.{Numbers.{at}, Live.{AreFilled}}
+use Rattle.gs_simplex.specs.Numbers.{at}
+use Rattle.gs_simplex.proofs.Lives.{AreFilled}
 use Rattle.gs_simplex.proofs.live.fill.Given as goal
 
 abbrev pub invariant-loop-j : goal.invariant-loop-j

@@ -1,7 +1,8 @@
 use Rattle.std.proofs.Common.{◌≡◌, inl, inr, ℕ, ◌+◌, ◌<◌, List, length, slice_index, slice_set, refl, sym, subst, ◌∙◌, arith, get_or-set_other, get_or-set_same}
 use Rattle.std.proofs.lemmas.Bool.{cases_eq, cases_lt}
-use Rattle.gs_simplex.specs.Live.{IsLiveRow, IsOutside, ArePlacesBelow, AreColumnPlaces}
+use Rattle.gs_simplex.specs.Live.{IsLiveRow, IsOutside, AreColumnPlaces}
 use Rattle.gs_simplex.proofs.live.find_places.Goals.{then-is_live, else-is_live}
+use Rattle.gs_simplex.proofs.Lives.{ArePlacesBelow}
 use Rattle.gs_simplex.proofs.live.find_places.Goals as goal
 
 skipped : (rows : List ℕ) (r : ℕ) (places : List ℕ) (found j : ℕ) → ArePlacesBelow rows r places found j → (IsLiveRow r (slice_index rows j) → ⊥)

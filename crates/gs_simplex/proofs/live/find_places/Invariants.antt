@@ -1,4 +1,4 @@
-use Rattle.gs_simplex.specs.Live.{ArePlacesBelow}
+use Rattle.gs_simplex.proofs.Lives.{ArePlacesBelow}
 use Rattle.gs_simplex.proofs.live.find_places.Given as goal
 
 abbrev pub invariant-loop-j : goal.invariant-loop-j

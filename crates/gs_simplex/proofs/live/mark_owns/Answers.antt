@@ -2,7 +2,8 @@ use Rattle.std.proofs.Common.{◌≡◌, ◌≢◌, inl, inr, ℕ, ◌+◌, ◌<
 use Rattle.std.proofs.Common.{get_or-set_same}
 use Rattle.std.proofs.lemmas.Bool.{cases_eq}
 use Rattle.gs_simplex.proofs.PairLists.{less_one, no_row, place_of}
-use Rattle.gs_simplex.specs.{declared.program.Program.{Program}, Program.{Listing, IsPairList}, Live.{AreOwns}}
+use Rattle.gs_simplex.specs.{declared.program.Program.{Program}, Program.{Listing, IsPairList}}
+use Rattle.gs_simplex.proofs.Lives.{AreOwns}
 use Rattle.gs_simplex.proofs.live.mark_owns.Goals as goal
 
 -- one more pair noted

@@ -1,4 +1,4 @@
-use Rattle.gs_simplex.specs.Live.{AreOwns}
+use Rattle.gs_simplex.proofs.Lives.{AreOwns}
 use Rattle.gs_simplex.proofs.live.mark_owns.Given as goal
 
 abbrev pub invariant-loop-place : goal.invariant-loop-place

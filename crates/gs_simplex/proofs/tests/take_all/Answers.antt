@@ -1,4 +1,4 @@
-use Rattle.std.proofs.Common.{◌≡◌, ℕ, ◌+◌, ◌-◌, ◌<◌, List, ℤ, length, take, slice_index_or, refl, ap, subst, arith}
+use Rattle.std.proofs.Common.{◌≡◌, ℕ, ◌+◌, ◌-◌, ◌<◌, List, ℤ, length, slice_index_or, refl, ap, subst, arith}
 use Rattle.gs_simplex.specs.{declared.program.Program.{Program}, Program.{Listing}, Table.{table_rows, HasTops, IsTableAfter, IsWideAfter}}
 use Rattle.gs_simplex.specs.Conditions.{CanTakeAt, IsTaken}
 use Rattle.gs_simplex.proofs.{PairLists.{opened_pair_list}, Paths.{none_of, if_none}, Checks.{front_opened, taken_more}}

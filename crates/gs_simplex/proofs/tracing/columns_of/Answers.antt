@@ -1,6 +1,5 @@
 use Rattle.std.proofs.Common.{ℕ, ◌+◌, List, inl, inr, sym, subst, arith}
-use Rattle.gs_simplex.specs.Trace.{IsBasisBelow}
-use Rattle.gs_simplex.proofs.{PairLists.{column_decided}, Traces.{basis_skip, basis_push, basis_whole}}
+use Rattle.gs_simplex.proofs.{PairLists.{column_decided}, Traces.{IsBasisBelow, basis_skip, basis_push, basis_whole}}
 use Rattle.gs_simplex.proofs.tracing.columns_of.Goals as goal
 
 pub loop-j-preserved-then-rows-j-eq0 : goal.loop-j-preserved-then-rows-j-eq0

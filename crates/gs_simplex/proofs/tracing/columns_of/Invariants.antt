@@ -1,4 +1,4 @@
-use Rattle.gs_simplex.specs.Trace.{IsBasisBelow}
+use Rattle.gs_simplex.proofs.Traces.{IsBasisBelow}
 use Rattle.gs_simplex.proofs.tracing.columns_of.Given as goal
 
 abbrev pub invariant-loop-j : goal.invariant-loop-j
