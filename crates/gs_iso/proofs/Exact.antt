@@ -2,10 +2,19 @@
 use Rattle.std.proofs.Common.{◌≡◌, ◌<◌, ◌+◌, ◌*◌, Bool, ℕ, suc, ℤ, pos, negsuc, refl, sym, ap, ◌∙◌, false, true≢false, arith, le-ltb}
 use Rattle.std.proofs.{lemmas.Bool.Decides.{Decides-and, Decides-eqb, Decides-int_eq, Decides-like}, lemmas.Cmp.{nat_cmp_total, ranked}}
 use Rattle.std.proofs.lemmas.List.MinMax.{ranks_by}
-use Rattle.std.specs.{Prelude.{if◌then◌else◌, int_lt, unsigned_abs}, Bool.{Decides}, Cmp.{IsStrictWeakOrder}, Ordering.{is_lt, nat_cmp, ordering_reverse}}
+use Rattle.std.specs.{Prelude.{◌==◌, ◌&&◌, if◌then◌else◌, int_lt, unsigned_abs}, Bool.{Decides}, Cmp.{IsStrictWeakOrder}}
+use Rattle.std.specs.Ordering.{int_eq, is_lt, nat_cmp, ordering_reverse}
 use Rattle.std.specs.{declared.cmp.Ordering.{Ordering}, declared.cmp.Ordering.TheVariants.{Less, Equal, Greater}}
 use Rattle.gs_model.specs.Signatures.{IsExactOrder}
-use Rattle.gs_iso.specs.Orders.{child_eq, leaf_eq, leaf_mark, mark_lt}
+use Rattle.gs_iso.specs.Orders.{leaf_mark, mark_lt}
+
+-- whether two leaves are the same
+abbrev pub leaf_eq : ℕ × ℤ → ℕ × ℤ → Bool
+leaf_eq x y = (x.0 == y.0) && int_eq x.1 y.1
+
+-- whether two children are the same
+abbrev pub child_eq : ℕ × ℕ → ℕ × ℕ → Bool
+child_eq x y = (x.0 == y.0) && (x.1 == y.1)
 
 -- two pairs with equal parts
 pub pairs : {Y : Type 0} (p q : ℕ × Y) → p.0 ≡ q.0 → p.1 ≡ q.1 → p ≡ q

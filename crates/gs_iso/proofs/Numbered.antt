@@ -1,4 +1,4 @@
--- Numbers by first sight: equal numbers are equal keys.
+-- Numbers in order of first occurrence: equal numbers are equal keys.
 use Rattle.std.proofs.Common.{◌≡◌, ◌↔◌, ℕ, zero, suc, ◌+◌, ◌-◌, ◌<◌, ◌≤◌, List, [], ◌∷◌, ◌++◌, length, get_or, refl, sym, ap, ◌∙◌, subst, arith, Bool, true}
 use Rattle.std.proofs.Common.{false, cond, true≢false, Some, Vec, Global, ⊎_elim, length-append}
 use Rattle.std.proofs.{lemmas.Bool.{cases_eq}, lemmas.Slice.Eq.{slice_eq-Decides}, lemmas.Map.Keys.{IsDistinct-head, IsDistinct-tail}, lemmas.Grind.{elements}}
@@ -6,7 +6,18 @@ use Rattle.std.proofs.lemmas.List.{get_or_read}
 use Rattle.std.specs.{List.{AllByRecursion, IsDistinct, find, list_any, slice_get}, Bool.{Decides}}
 use lib.Pointwise.{pointwise}
 use Rattle.indexmap.specs.IndexSet.{insert_key}
-use Rattle.gs_iso.specs.KeyNumbers.{HasKey, IsNumberOf, LeadToKeys, StayIn, same_parts}
+use Rattle.gs_iso.specs.KeyNumbers.{IsNumberOf, StayIn, same_parts}
+
+-- the key with number `n` is a key of item `i`
+pub record HasKey {X : Type 0} (sign : ℕ → List X → Type 0) (keys : List (Vec X Global)) (i n : ℕ) : Type 0 where
+  pub some : 0 < n
+  pub key : Vec X Global
+  pub stands : slice_get keys (n - 1) ≡ Some key
+  pub signs : sign i key.items
+
+-- each number stands for a key of its item
+abbrev pub LeadToKeys : {X : Type 0} → (ℕ → List X → Type 0) → List (Vec X Global) → List ℕ → Type 0
+LeadToKeys sign keys numbers = (i : ℕ) → i < length numbers → HasKey sign keys i (get_or numbers i 0)
 
 pub at_new : (xs : List ℕ) (n : ℕ) → get_or (xs ++ n ∷ []) (length xs) 0 ≡ n
 at_new xs n = grind (arith, elements)

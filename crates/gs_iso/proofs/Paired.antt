@@ -8,9 +8,9 @@ use Rattle.gs_game.specs.Limits.{IsWithinLimits}
 use Rattle.gs_model.specs.{Deals.{Deal, deals, path_weight}, Game.{Game, Round, round_at, round_count}, Isomorphism.{IsomorphicFor, Matched}}
 use Rattle.gs_model.specs.{Signals.{Signal, child_count, children, first_child, last_edge, signal_at, signals}, ViewTree.{leaves}}
 use Rattle.gs_model.proofs.{Children.{children-run}, Facing.{leaves_are_deals}, Basics.{drop-all}, SingleCards.{rounds_after, children_within}}
-use Rattle.gs_iso.specs.{Numbers.{IsNumbering, child_part}, Orders.{child_eq, leaf_eq}}
+use Rattle.gs_iso.specs.Numbers.{IsNumbering, child_part}
 use Rattle.gs_iso.specs.Pairings.{IsPaired, IsPairedFor, IsPairingAnswer, IsPairingFor, IsPairingOf}
-use Rattle.gs_iso.proofs.{Exact.{child_exact, leaf_exact, pairs}, Pairs.{matched_from_pairing, pairing_from_matched, pairing_like}}
+use Rattle.gs_iso.proofs.{Exact.{leaf_eq, child_eq, child_exact, leaf_exact, pairs}, Pairs.{matched_from_pairing, pairing_from_matched, pairing_like}}
 
 -- a bijection with its places, or none
 abbrev Answers : {Y : Type 0} → (Y → Y → Type 0) → List Y → List Y → Option (List ℕ) → Type 0

@@ -18,17 +18,6 @@ pub record IsNumberOf {X : Type 0} (eq : X → X → Bool) (keys : List (Vec X G
   pub stands : slice_get keys (n - 1) ≡ Some key
   pub same : pointwise eq parts key.items ≡ true
 
--- the key with number `n` is a key of item `i`
-pub record HasKey {X : Type 0} (sign : ℕ → List X → Type 0) (keys : List (Vec X Global)) (i n : ℕ) : Type 0 where
-  pub some : 0 < n
-  pub key : Vec X Global
-  pub stands : slice_get keys (n - 1) ≡ Some key
-  pub signs : sign i key.items
-
--- each number stands for a key of its item
-abbrev pub LeadToKeys : {X : Type 0} → (ℕ → List X → Type 0) → List (Vec X Global) → List ℕ → Type 0
-LeadToKeys sign keys numbers = (i : ℕ) → i < length numbers → HasKey sign keys i (get_or numbers i 0)
-
 -- some item has the key `k` and the class `class`
 pub record HasClassOf {K : Type 0} (key : ℕ → K) (classes : List ℕ) (k : K) (class : ℕ) : Type 0 where
   pub item : ℕ

@@ -1,5 +1,5 @@
 -- Leaves and children as parts of signatures, and the order of their marks.
-use Rattle.std.specs.{Prelude.{ℕ, ℤ, pos, ◌+◌, ◌*◌, ◌/◌, ◌==◌, ◌&&◌, Bool, if◌then◌else◌, int_lt, unsigned_abs}, Ordering.{int_eq, is_lt, nat_cmp}}
+use Rattle.std.specs.{Prelude.{ℕ, ℤ, pos, ◌+◌, ◌*◌, ◌/◌, Bool, if◌then◌else◌, int_lt, unsigned_abs}, Ordering.{is_lt, nat_cmp}}
 use Rattle.gs_model.specs.Deals.{Deal}
 
 -- whether a mark is smaller than another
@@ -13,11 +13,3 @@ leaf_of path d = (d.weight / path, d.outcome)
 -- a leaf as one number: its ways times 512, plus 256 if the outcome is a loss, plus the size of the outcome
 abbrev pub leaf_mark : ℕ × ℤ → ℕ
 leaf_mark l = l.0 * 512 + (if int_lt l.1 (pos 0) then 256 else 0) + unsigned_abs l.1
-
--- whether two leaves are the same
-abbrev pub leaf_eq : ℕ × ℤ → ℕ × ℤ → Bool
-leaf_eq x y = (x.0 == y.0) && int_eq x.1 y.1
-
--- whether two children are the same
-abbrev pub child_eq : ℕ × ℕ → ℕ × ℕ → Bool
-child_eq x y = (x.0 == y.0) && (x.1 == y.1)

@@ -12,4 +12,4 @@ mod signal_classes;
 
 pub use numbers::{number_of, number_of_list};
 pub use pairings::pairing;
-pub use signal_classes::shrink;
+pub use signal_classes::{last_classes, shrink};

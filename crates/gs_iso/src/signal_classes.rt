@@ -28,7 +28,7 @@ pub(crate) fn node_numbers(alloc: Global, signals: &Signals) -> Result<Vec<Vec<u
 }
 
 /// Returns the last of some class lists. If there is none, returns the list of the root alone, which has class 1.
-fn last_classes<'a>(lists: &'a [Vec<u32>]) -> &'a [u32]
+pub fn last_classes<'a>(lists: &'a [Vec<u32>]) -> &'a [u32]
     ensures { result.now ≡ classes_above (rows lists.now) }
 {
     match lists.last() {

@@ -2,7 +2,7 @@
 use Rattle.std.proofs.Common.{◌≡◌, ◌↔◌, ℕ, ℤ, pos, ◌-◌, ◌<◌, ◌≤◌, Bool, true, false, true≢false, cond, List, [], length, get_or, refl, sym, ap, ◌∙◌, subst}
 use Rattle.std.proofs.Common.{arith}
 use Rattle.std.proofs.lemmas.Bool.Decides.{Decides-and, Decides-eqb, Decides-like}
-use Rattle.std.specs.{Prelude.{◌==◌}, Bool.{Decides}, Ordering.{int_eq}}
+use Rattle.std.specs.{Prelude.{◌==◌, ◌&&◌}, Bool.{Decides}, Ordering.{int_eq}}
 use Rattle.gs_model.specs.{Classes.{ClassLists, class_of, first_member}, Frame.{Frame, frame_of, last_round}, Game.{Game, round_count}}
 use Rattle.gs_model.specs.{Lossless.{weight_against, weight_with}, Signals.{signals}}
 use Rattle.gs_model.proofs.Ranges.{signal_count_is}
@@ -10,7 +10,20 @@ use Rattle.gs_lossless.specs.{Amounts.{HaveEqualAmounts, AgreesWithFirst, AreAmo
 use Rattle.gs_lossless.specs.declared.sides.Side.{Side}
 use Rattle.gs_lossless.specs.declared.sides.Side.TheVariants.{Deals, Children}
 use Rattle.gs_lossless.proofs.Settled.{agree_if_same, same_if_agree}
-use Rattle.gs_split.specs.Turns.{AreClassSums, AreSettled, AreSideNumbers, AreTurnNumbers, HaveSameSums, IsSettled, key_eq}
+use Rattle.gs_split.specs.Turns.{AreSettled, AreSideNumbers, AreTurnNumbers, HaveSameSums, IsSettled}
+
+-- the sums of a signal on one side, or no sums if its class is settled
+pub record AreClassSums (f : Frame) (lists : ClassLists) (side : Side) (round : ℕ) (settled : List Bool) (s : ℕ) (sums : List Part) : Type 0 where
+  pub none : IsSettled lists round settled s → sums ≡ []
+  pub made : (IsSettled lists round settled s → ⊥) → AreAmounts f lists side round s sums
+
+-- whether two sums are the same
+abbrev pub part_eq : Part → Part → Bool
+part_eq p q = (p.class == q.class) && (int_eq p.outcome q.outcome && (p.weight == q.weight))
+
+-- whether two such keys are the same
+abbrev pub key_eq : ℕ × ℕ × ℕ → ℕ × ℕ × ℕ → Bool
+key_eq x y = (x.0 == y.0) && ((x.1 == y.1) && (x.2 == y.2))
 
 module _ (f : Frame) (lists : ClassLists) (round : ℕ) where
   -- members of a settled class agree with its first member

@@ -1,5 +1,6 @@
 -- From the keys of a round to the new classes of all rounds, and to a turn.
-use Rattle.std.proofs.Common.{◌≡◌, ◌↔◌, ℕ, suc, ◌+◌, ◌-◌, ◌<◌, ◌≤◌, List, [], ◌∷◌, ◌++◌, length, map, get_or, sym, ap, ◌∙◌, subst, arith, ⊎_elim, length-append}
+use Rattle.std.proofs.Common.{◌≡◌, ◌↔◌, ℕ, suc, ◌+◌, ◌-◌, ◌<◌, ◌≤◌, List, [], ◌∷◌, ◌++◌, length, map, get_or, sym, ap, ◌∙◌, subst, arith, ⊎_elim}
+use Rattle.std.proofs.Common.{length-append}
 use Rattle.std.proofs.Common.{Vec, Global, Result, Ok, Err}
 use Rattle.std.proofs.{lemmas.Bool.{cases_eq, cases_lt}, lemmas.List.{get_or_append_left, get_or_default, get_or_push}}
 use Rattle.std.proofs.lemmas.List.Elements.{All-from_recursion}
@@ -11,9 +12,9 @@ use Rattle.gs_model.proofs.Ranges.{in_range, parents_at}
 use Rattle.gs_filter.proofs.RowLaws.{length-rows, row_read}
 use Rattle.gs_tree.specs.{Trees.{rules_of}, declared.signals.Signals.{Signals}}
 use Rattle.gs_lossless.proofs.Descent.{playable}
-use Rattle.gs_iso.specs.KeyNumbers.{IsKeyClasses}
+use Rattle.gs_iso.specs.{KeyNumbers.{IsKeyClasses}, Numbers.{classes_above}}
 use Rattle.gs_iso.proofs.FirstSeen.{classes_like}
-use Rattle.gs_split.specs.Turns.{AreExact, AreParted, AreTurnNumbers, HaveNumbers, IsRoundParted, StayInRound, last_class_list, turn_key}
+use Rattle.gs_split.specs.Turns.{AreExact, AreParted, AreTurnNumbers, HaveNumbers, IsRoundParted, StayInRound, turn_key}
 use Rattle.gs_split.proofs.Agreed.{triples}
 
 -- ---- parents
@@ -113,19 +114,24 @@ both_ok (Err e) P Q R h p q = p
 
 -- ---- rounds so far
 
-pub above_some : (new : ClassLists) → length new ≡ 0 → 0 < length (last_class_list new)
+pub above_some : (new : ClassLists) → length new ≡ 0 → 0 < length (classes_above new)
 above_some [] e = omega arith
 above_some (x ∷ xs) e = absurd (omega (arith, e))
+
+-- below a round the classes above are its own
+above_last : (new : ClassLists) → 0 < length new → classes_above new ≡ get_or new (length new - 1) []
+above_last [] some = absurd (omega (arith, some))
+above_last (x ∷ xs) some = let e : length xs ≡ length (x ∷ xs) - 1 = omega arith in ap (λ k. get_or (x ∷ xs) k []) e
 
 -- the first rounds are parted
 abbrev pub ArePartedTo : Frame → ClassLists → ClassLists → ClassLists → Type 0
 ArePartedTo f old numbers new = (k : ℕ) → k < length new → IsRoundParted f old (list_of new k) (list_of numbers (suc k)) (suc k) (get_or new k [])
 
 pub above_long : (f : Frame) (old numbers new : ClassLists) → ArePartedTo f old numbers new → 0 < length new
-    → length (last_class_list new) ≡ signal_count f (length new)
+    → length (classes_above new) ≡ signal_count f (length new)
 above_long f old numbers new each some =
     let e : suc (length new - 1) ≡ length new = omega (arith, some) in
-    ap (λ (l : List ℕ). length l) (get_or_default new (length new - 1) (1 ∷ []) [] (omega (arith, some))) ∙ (each (length new - 1) (omega (arith, some))).long
+    ap (λ (l : List ℕ). length l) (above_last new some) ∙ (each (length new - 1) (omega (arith, some))).long
     ∙ ap (signal_count f) e
 
 -- above round 1 any classes do
@@ -142,13 +148,13 @@ turn_like f old above other numbers round list e h = record {
       h.classes;
 }
 
-pub turned_more : (f : Frame) (old numbers new : ClassLists) (above x : List ℕ) → above ≡ last_class_list new → ArePartedTo f old numbers new
+pub turned_more : (f : Frame) (old numbers new : ClassLists) (above x : List ℕ) → above ≡ classes_above new → ArePartedTo f old numbers new
     → IsRoundParted f old above (list_of numbers (suc (length new))) (suc (length new)) x → ArePartedTo f old numbers (new ++ x ∷ [])
 turned_more f old numbers new above x is each here k l = ⊎_elim
     (λ e.
     let at : get_or (new ++ x ∷ []) k [] ≡ x = get_or_push new x [] k (sym e) in
     let up : 1 < suc k → above ≡ list_of (new ++ x ∷ []) k = λ more.
-    is ∙ get_or_default new (length new - 1) (1 ∷ []) [] (omega (arith, e, more)) ∙ ap (λ j. get_or new (j - 1) []) (sym e)
+    is ∙ above_last new (omega (arith, e, more)) ∙ ap (λ j. get_or new (j - 1) []) (sym e)
     ∙ sym (get_or_append_left new (x ∷ []) [] (k - 1) (omega (arith, e, more))) in
     let r = subst (λ j. IsRoundParted f old above (list_of numbers (suc j)) (suc j) x) (sym e) here in
     subst (λ y. IsRoundParted f old (list_of (new ++ x ∷ []) k) (list_of numbers (suc k)) (suc k) y) (sym at)

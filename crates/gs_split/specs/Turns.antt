@@ -1,8 +1,8 @@
 -- What a turn of the refinement compares, round by round.
-use Rattle.std.specs.{Prelude.{ℕ, ◌-◌, ◌<◌, ◌≤◌, ◌≡◌, ◌↔◌, ◌==◌, ◌&&◌, ℤ, Bool, true, false, List, [], ◌∷◌, get_or, length}, Ordering.{int_eq}}
+use Rattle.std.specs.Prelude.{ℕ, ◌-◌, ◌<◌, ◌≤◌, ◌≡◌, ◌↔◌, ℤ, Bool, true, false, List, get_or, length}
 use Rattle.gs_model.specs.{Classes.{ClassLists, InOneClass, class_count, class_of, first_member, list_of}, Frame.{Frame, last_round, parents_of, signal_count}}
 use Rattle.gs_model.specs.{Lossless.{children_in, weight_with}, Numbering.{IsClassesOf}}
-use Rattle.gs_lossless.specs.{Amounts.{HaveEqualAmounts, AreAmounts}, declared.parts.Part.{Part}, declared.sides.Side.{Side}}
+use Rattle.gs_lossless.specs.{Amounts.{HaveEqualAmounts}, declared.sides.Side.{Side}}
 
 -- ---- sums
 
@@ -14,11 +14,6 @@ IsSettled lists round settled s = get_or settled (class_of lists round s - 1) fa
 pub record AreSettled (lists : ClassLists) (round : ℕ) (firsts : List ℕ) (settled : List Bool) : Type 0 where
   pub long : length settled ≡ class_count lists round
   pub first : (s : ℕ) → s < length firsts → IsSettled lists round settled s → get_or firsts s 0 ≡ first_member lists round (class_of lists round s)
-
--- the sums of a signal on one side, or no sums if its class is settled
-pub record AreClassSums (f : Frame) (lists : ClassLists) (side : Side) (round : ℕ) (settled : List Bool) (s : ℕ) (sums : List Part) : Type 0 where
-  pub none : IsSettled lists round settled s → sums ≡ []
-  pub made : (IsSettled lists round settled s → ⊥) → AreAmounts f lists side round s sums
 
 -- numbers of the signals of a round: within a class equal exactly where the signals agree on one side
 pub record AreSideNumbers (f : Frame) (lists : ClassLists) (side : Side) (round : ℕ) (numbers : List ℕ) : Type 0 where
@@ -43,25 +38,13 @@ pub record AreKnown (f : Frame) (lists : ClassLists) (known : List Bool) : Type 
   pub same : (round s t : ℕ) → 0 < round → round ≤ last_round f → get_or known (round - 1) false ≡ true → InOneClass f lists round s t
       → HaveSameSums f lists round s t
 
--- whether two sums are the same
-abbrev pub part_eq : Part → Part → Bool
-part_eq p q = (p.class == q.class) && (int_eq p.outcome q.outcome && (p.weight == q.weight))
-
 -- ---- keys
 
 -- the key that decides a signal's new class: its old class, the new class of its parent, and the number of its sums
 abbrev pub turn_key : List ℕ → List ℕ → List ℕ → List ℕ → ℕ → ℕ × ℕ × ℕ
 turn_key before above parents numbers i = (get_or before i 0, get_or above (get_or parents i 0) 0, get_or numbers i 0)
 
--- whether two such keys are the same
-abbrev pub key_eq : ℕ × ℕ × ℕ → ℕ × ℕ × ℕ → Bool
-key_eq x y = (x.0 == y.0) && ((x.1 == y.1) && (x.2 == y.2))
-
 -- ---- rounds
-
--- the last of some class lists; if there is none, the list of one signal, which has class 1
-abbrev pub last_class_list : List (List ℕ) → List ℕ
-last_class_list lists = get_or lists (length lists - 1) (1 ∷ [])
 
 -- two signals of a round stay together: they have the same old class, the same number and, from round 2 on, the same new class of the parent.
 -- `above` has the new classes of the round before

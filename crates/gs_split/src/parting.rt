@@ -3,22 +3,13 @@
 ghost use Rattle.std.specs.Prelude.{◌≡◌, ◌-◌, ◌<◌, ◌≤◌, IfOk, length};
 ghost use Rattle.gs_model.specs.{Rows.{rows}, Frame.{frame_of, last_round, signal_count}};
 ghost use Rattle.gs_tree.specs.Trees.{rules_of};
-ghost use Rattle.gs_split.specs.Turns.{AreParted, HaveNumbers, IsRoundParted, last_class_list};
+ghost use Rattle.gs_split.specs.Turns.{AreParted, HaveNumbers, IsRoundParted};
 
 use crate::rounds::{TurnKeys, round_classes};
 use gs_filter::Classes;
+use gs_iso::last_classes;
 use gs_lossless::Grouped;
 use std::alloc::{AllocError, Global};
-
-/// Returns the last of some class lists. If there is none, returns the list of one signal, which has class 1.
-fn last_classes(lists: &[Vec<u32>]) -> &[u32]
-    ensures { result.now ≡ last_class_list (rows lists.entry.now) }
-{
-    match lists.len() {
-        0 => [1].as_slice(),
-        rounds => &lists[rounds - 1],
-    }
-}
 
 /// Returns the new classes of a round, from a number for each signal. `above` has the new classes of the round before.
 fn round_parted(

@@ -1,7 +1,7 @@
 use Rattle.std.proofs.Common.{ℕ, ap, arith, get_or, sym}
 use Rattle.gs_tree.specs.Trees.{rules_of}
-use Rattle.gs_iso.specs.{Numbers.{child_part}, Orders.{child_eq}}
-use Rattle.gs_iso.proofs.{FirstSeen.{seen_more}, Below.{marks_light}, Exact.{child_exact}}
+use Rattle.gs_iso.specs.Numbers.{child_part}
+use Rattle.gs_iso.proofs.{FirstSeen.{seen_more}, Below.{marks_light}, Exact.{child_eq, child_exact}}
 use Rattle.gs_iso.proofs.children.edge_marks.Goals as goal
 
 pub loop-signal-preserved : goal.loop-signal-preserved

@@ -1,6 +1,6 @@
 use Rattle.gs_tree.specs.Trees.{rules_of}
-use Rattle.gs_iso.specs.{Numbers.{child_part}, Orders.{child_eq}}
-use Rattle.gs_iso.proofs.{FirstSeen.{AreSeen}, Exact.{child_exact}}
+use Rattle.gs_iso.specs.Numbers.{child_part}
+use Rattle.gs_iso.proofs.{FirstSeen.{AreSeen}, Exact.{child_eq, child_exact}}
 use Rattle.gs_iso.proofs.children.edge_marks.Given as goal
 
 abbrev pub invariant-loop-signal : goal.invariant-loop-signal

@@ -1,6 +1,6 @@
 use Rattle.std.proofs.Common.{ℕ, List, subst, sym}
-use Rattle.gs_iso.specs.{KeyNumbers.{HasClassOf}, Numbers.{class_key}, Orders.{child_eq}}
-use Rattle.gs_iso.proofs.{FirstSeen.{seen_again, seen_more, seen_none}, Exact.{child_exact}}
+use Rattle.gs_iso.specs.{KeyNumbers.{HasClassOf}, Numbers.{class_key}}
+use Rattle.gs_iso.proofs.{FirstSeen.{seen_again, seen_more, seen_none}, Exact.{child_eq, child_exact}}
 use Rattle.gs_iso.proofs.classes.classes_each.Goals as goal
 
 pub loop-at-init : goal.loop-at-init

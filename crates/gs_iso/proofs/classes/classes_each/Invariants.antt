@@ -1,5 +1,5 @@
-use Rattle.gs_iso.specs.{Numbers.{class_key}, Orders.{child_eq}}
-use Rattle.gs_iso.proofs.{FirstSeen.{AreSeen}, Exact.{child_exact}}
+use Rattle.gs_iso.specs.Numbers.{class_key}
+use Rattle.gs_iso.proofs.{FirstSeen.{AreSeen}, Exact.{child_eq, child_exact}}
 use Rattle.gs_iso.proofs.classes.classes_each.Given as goal
 
 abbrev pub invariant-loop-at : goal.invariant-loop-at

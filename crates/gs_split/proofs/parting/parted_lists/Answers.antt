@@ -4,7 +4,8 @@ use Rattle.gs_model.specs.{Classes.{ClassLists, list_of}, Frame.{frame_of, last_
 use Rattle.gs_model.proofs.Walked.{last_round_of}
 use Rattle.gs_filter.proofs.RowLaws.{length-rows, round_read}
 use Rattle.gs_tree.specs.Trees.{rules_of}
-use Rattle.gs_split.specs.Turns.{IsRoundParted, last_class_list}
+use Rattle.gs_iso.specs.Numbers.{classes_above}
+use Rattle.gs_split.specs.Turns.{IsRoundParted}
 use Rattle.gs_split.proofs.Turned.{ArePartedTo, above_long, above_some, all_turned, turned_more}
 use Rattle.gs_split.proofs.parting.parted_lists.Goals as goal
 
@@ -24,7 +25,7 @@ round_parted-requires-clause-top c = omega (
 
 pub round_parted-requires-clause-any : goal.round_parted-requires-clause-any
 round_parted-requires-clause-any c = λ one.
-    let is = c.last_classes-above.ensures ∙ ap (λ (vs : List (Vec ℕ Global)). last_class_list (rows vs)) c.deref.ensures.value in
+    let is = c.last_classes-above.ensures ∙ ap (λ (vs : List (Vec ℕ Global)). classes_above (rows vs)) c.deref.ensures.value in
     let s = above_some (rows c.loop-done.lists.items) (omega (arith, one, c.loop-done.invariant.long)) in
     omega (arith, s, ap (λ (l : List ℕ). length l) is)
 
@@ -32,7 +33,7 @@ pub round_parted-requires-clause-above : goal.round_parted-requires-clause-above
 round_parted-requires-clause-above c = λ more.
     let f = frame_of (rules_of c.args.grouped.now.signals.now) in
     let new = rows c.loop-done.lists.items in
-    let is = c.last_classes-above.ensures ∙ ap (λ (vs : List (Vec ℕ Global)). last_class_list (rows vs)) c.deref.ensures.value in
+    let is = c.last_classes-above.ensures ∙ ap (λ (vs : List (Vec ℕ Global)). classes_above (rows vs)) c.deref.ensures.value in
     let n : length new ≡ c.loop-done.done + 1 - 1 = omega (arith, c.loop-done.invariant.long) in
     ap (λ (l : List ℕ). length l) is ∙ above_long f c.args.grouped.now.classes.now.lists (rows c.args.numbers.now) new c.loop-done.invariant.each
     (omega (arith, more, c.loop-done.invariant.long)) ∙ ap (signal_count f) n
@@ -57,7 +58,7 @@ loop-done-preserved c =
     let above = c.last_classes-above.result.now in
     let lt : c.loop-done.done + 1 ≤ last_round f = omega
     (arith, c.loop-done-test.true, c.rounds-done-end.ensures.value, last_round_of (rules_of c.args.grouped.now.signals.now)) in
-    let is = c.last_classes-above.ensures ∙ ap (λ (vs : List (Vec ℕ Global)). last_class_list (rows vs)) c.deref.ensures.value in
+    let is = c.last_classes-above.ensures ∙ ap (λ (vs : List (Vec ℕ Global)). classes_above (rows vs)) c.deref.ensures.value in
     let at = c.deref-in-loop-done.ensures.value ∙ round_read c.args.numbers.now c.from-in-loop-done.result c.index-numbers-from.result
     (omega (arith, c.from-in-loop-done.ensures, c.requires.rounds, length-rows c.args.numbers.now, lt)) c.index-numbers-from.is
     ∙ ap (λ k. list_of numbers (k + 1)) c.from-in-loop-done.ensures in

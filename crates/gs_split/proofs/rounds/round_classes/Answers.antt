@@ -1,8 +1,8 @@
 use Rattle.std.proofs.Common.{ℕ, List, subst, sym}
 use Rattle.gs_iso.specs.KeyNumbers.{HasClassOf}
 use Rattle.gs_iso.proofs.FirstSeen.{seen_again, seen_more, seen_none}
-use Rattle.gs_split.specs.Turns.{key_eq, turn_key}
-use Rattle.gs_split.proofs.Agreed.{key_exact}
+use Rattle.gs_split.specs.Turns.{turn_key}
+use Rattle.gs_split.proofs.Agreed.{key_eq, key_exact}
 use Rattle.gs_split.proofs.rounds.round_classes.Goals as goal
 
 pub loop-at-init : goal.loop-at-init

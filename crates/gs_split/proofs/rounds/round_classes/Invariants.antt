@@ -1,6 +1,6 @@
 use Rattle.gs_iso.proofs.FirstSeen.{AreSeen}
-use Rattle.gs_split.specs.Turns.{key_eq, turn_key}
-use Rattle.gs_split.proofs.Agreed.{key_exact}
+use Rattle.gs_split.specs.Turns.{turn_key}
+use Rattle.gs_split.proofs.Agreed.{key_eq, key_exact}
 use Rattle.gs_split.proofs.rounds.round_classes.Given as goal
 
 abbrev pub invariant-loop-at : goal.invariant-loop-at

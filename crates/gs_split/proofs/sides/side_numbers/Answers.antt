@@ -4,8 +4,8 @@ use Rattle.gs_iso.proofs.Numbered.{numbered_again, numbered_more, numbers_are}
 use Rattle.gs_tree.specs.Trees.{rules_of}
 use Rattle.gs_lossless.specs.{Amounts.{HaveEqualAmounts, AreAmounts, AreSideFirsts, key_count}, declared.parts.Part.{Part}}
 use Rattle.gs_lossless.proofs.{Descent.{keys_long, playable}, Merge.{part_decides}, Scanned.{side_classes, side_signals, side_top}}
-use Rattle.gs_split.specs.Turns.{AreClassSums, AreSettled, part_eq}
-use Rattle.gs_split.proofs.Agreed.{sums_again, sums_law, sums_made, sums_none}
+use Rattle.gs_split.specs.Turns.{AreSettled}
+use Rattle.gs_split.proofs.Agreed.{AreClassSums, part_eq, sums_again, sums_law, sums_made, sums_none}
 use Rattle.gs_split.proofs.sides.side_numbers.Goals.{In_ok-firsts, In_ok-keys, In_ok-settled, Joined-index, else-index+in_ok-sums, then-index}
 use Rattle.gs_split.proofs.sides.side_numbers.Goals as goal
 
