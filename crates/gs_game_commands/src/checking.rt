@@ -23,7 +23,7 @@ fn checked(
 {
     let signals = Signals::of(alloc, game)?;
     let classes = classes_of(alloc, &signals, grouping)?;
-    let _lossless = lossless_of(alloc, &signals, &classes, grouping)?;
+    lossless_of(alloc, &signals, &classes, grouping)?;
     Ok(told(alloc, &signals, &classes, summary)?)
 }
 

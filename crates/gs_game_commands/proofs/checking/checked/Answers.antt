@@ -8,14 +8,14 @@ use Rattle.gs_game_commands.specs.Checking.{ChecksGame, SaysNotLossless}
 use Rattle.gs_game_commands.proofs.Checked.{check_refuses, is_checked, lists_of}
 use Rattle.gs_game_commands.proofs.checking.checked.Goals as goal
 
-pub returns-in_err-_lossless : goal.returns-in_err-_lossless
-returns-in_err-_lossless c =
+pub returns-in_err-lossless_of : goal.returns-in_err-lossless_of
+returns-in_err-lossless_of c =
     let s = c.in_ok-signals.signals in
     let says = ChecksGame c.args.grouping c.args.summary in
-    exits (says (valid_view c.args.game.now)) _ _ c.from_residual-in_err-_lossless.ensures.1
-    (subst (λ (w : ValidGame). StopsFor (says (valid_view w)) c.in_err-_lossless.field-0.0) c.in_ok-signals.ensures
+    exits (says (valid_view c.args.game.now)) _ _ c.from_residual-in_err-lossless_of.ensures.1
+    (subst (λ (w : ValidGame). StopsFor (says (valid_view w)) c.in_err-lossless_of.field-0.0) c.in_ok-signals.ensures
     (stops_more (SaysNotLossless c.args.grouping (valid_view s.game.now)) (says (valid_view s.game.now))
-    (check_refuses c.args.grouping c.args.summary (valid_view s.game.now)) _ c.in_err-_lossless.ensures.unlike))
+    (check_refuses c.args.grouping c.args.summary (valid_view s.game.now)) _ c.in_err-lossless_of.ensures.unlike))
 
 pub told-requires : goal.told-requires
 told-requires c = lists_of (rules_of c.in_ok-signals.signals) c.in_ok-classes.classes.parents c.in_ok-classes.classes.lists c.in_ok-classes.ensures.parents
@@ -26,4 +26,4 @@ returns c =
     let s = c.in_ok-signals.signals in
     is_checked c.args.grouping c.args.summary (valid_view c.args.game.now) (rules_of s) (deck_of s) c.in_ok-classes.classes.lists c.in_ok-told.field-0.items
     (ap (λ v. game_of v.game) c.in_ok-signals.ensures) (ap (λ v. v.game.deck) c.in_ok-signals.ensures) c.in_ok-classes.ensures.grouping
-    c.in_ok-_lossless.ensures.lossless c.in_ok-told.ensures
+    c.in_ok-lossless_of.ensures.lossless c.in_ok-told.ensures
