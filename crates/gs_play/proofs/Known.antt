@@ -1,57 +1,93 @@
--- What holds of a player's class totals: they are small.
-use Rattle.std.proofs.Common.{ℕ, ◌+◌, ◌*◌, ◌^◌, ◌<◌, ◌≤◌, cond, List, refl, arith}
-use Rattle.std.specs.{Prelude.{◌==◌, ℤ, pos, unsigned_abs}, List.{range_with_len}}
-use Rattle.gs_model.specs.{BestAnswers.{Values}, Classes.{IsClass, class_count}, Frame.{leads_to, move_count, point_count, round_of}, Positions.{at_point}}
+-- What is settled behind a point bounds what the moves of the point are worth, so that their lines can be read.
+use Rattle.std.proofs.Common.{◌≡◌, ◌≢◌, ℕ, ◌+◌, ◌*◌, ◌^◌, ◌<◌, ◌≤◌, List, refl, ap, ◌∙◌, subst, arith}
+use Rattle.std.specs.Prelude.{ℤ, pos, ◌+ℤ◌, ◌-ℤ◌, ◌*ℤ◌, unsigned_abs}
+use Rattle.std.proofs.Math.Nat.{mul-le-mul_left}
+use Rattle.std.proofs.lemmas.Int.{ints, unsigned_abs-mul}
+use borrow.Author.Differences.{abs_is}
+use Rattle.gs_model.specs.BestAnswers.{Values}
+use Rattle.gs_model.specs.Classes.{ClassLists, IsClass}
+use Rattle.gs_model.specs.Frame.{Frame, choices_at, end_count, move_count, player_at, point_count, round_of}
+use Rattle.gs_model.specs.FrameFacts.{IsWalked}
+use Rattle.gs_model.specs.Positions.{at_end, at_point}
 use Rattle.gs_model.specs.Sums.{sum_z}
-use Rattle.gs_model.proofs.Basics.{product_le}
-use Rattle.gs_seq.specs.declared.plan.Plan.{Plan}
-use Rattle.gs_seq.proofs.Forms.{form_class_few, form_classes, form_in_range, form_moves}
-use Rattle.gs_best.specs.{ClassTotals.{earlier_class, total_worth}, LaterRows.{AreModestFrom}, Places.{IsFollowedFrom}}
-use Rattle.gs_best.proofs.{Chips.{form_modest}, Gathered.{tested_small}, Modest.{figures}, Players.{apart, either_player}, Ranges.{range_abs}}
-use Rattle.gs_best.proofs.TotalBounds.{totals_few}
-use Rattle.gs_play.specs.{Roles.{IsOthers, role_frame, role_lists, role_plan, totals_in}, declared.role.Role.{Role}}
-use Rattle.gs_play.proofs.Sides.{other_walked, walked}
+use Rattle.gs_model.proofs.Total.{sum_z-add, sum_z-mul, sum_z-same}
+use Rattle.gs_best.specs.ClassTotals.{total_worth}
+use Rattle.gs_play.specs.Jumps.{line}
+use Rattle.gs_best.specs.Places.{IsFollowedFrom}
+use Rattle.gs_play.proofs.JumpLaws.{tables_after, worth_line}
+use Rattle.gs_play.specs.Tables.{AreSettledUntil}
+use Rattle.gs_play.specs.Tallies.{AreSmallAtEnds, slopes_of, zeros_of}
+use Rattle.gs_play.specs.declared.line.Line.{Line}
+use Rattle.gs_play.proofs.Settled.{other_value, own_value}
+use Rattle.gs_play.proofs.Sums.{sum_few}
 
-module _ (k : Role) where
-  pub known_modest : (other : Plan) → IsOthers k other → (values : List ℤ) (move : ℕ → ℕ → ℕ) (from : ℕ)
-      → IsFollowedFrom (role_frame k) (role_lists k) k.player (totals_in k other values) move from
-      → AreModestFrom (role_frame k) (role_lists k) (totals_in k other values) from
-  known_modest other his values move from h g c i a lc =
-      let m = form_modest k.form.now in
-      let plan = his.plan.plan in
-      let b =
-      totals_few (role_frame k) (form_in_range k.form.now) (role_lists k) (form_classes k.form.now) k.player (walked k) (other_walked k)
-      (apart k.player k.some k.two) (role_plan k other) plan 4096
-      (λ z n e lz ln. m.pays k.player z n e lz ln) (totals_in k other values) move from (λ z e lz le. refl) h
-      (λ q. either_player k.form.now k.player q k.some k.two) g c i a lc in
-      omega (arith, b, figures (role_plan k other).total _ plan.total_in.1 m.weight)
+-- where a slope and the value of now are small, so is the line in turn 0
+pub line_few : (at slope : ℤ) (now : ℕ) → unsigned_abs slope ≤ 2 ^ 38 → unsigned_abs (line at slope now) ≤ 2 ^ 58 → now ≤ 2 ^ 20 → unsigned_abs at ≤ 2 ^ 59
+line_few at slope now s v few =
+    let n : now * unsigned_abs slope ≤ now * 2 ^ 38 = mul-le-mul_left now s in
+    let r = unsigned_abs-mul (pos now) slope in
+    omega (arith, ints, r, abs_is (pos now), abs_is at, abs_is (pos now *ℤ slope), abs_is (line at slope now), n, v, few)
 
-  -- what a move is worth, where all later totals are small
-  pub worth_modest : (v : Values) (q m c : ℕ) → AreModestFrom (role_frame k) (role_lists k) v (q + 1) → q < point_count (role_frame k)
-      → m < move_count (role_frame k) q → IsClass (role_lists k) (round_of (role_frame k) (at_point q)) c
-      → unsigned_abs (total_worth (role_frame k) (role_lists k) v q m c) ≤ 200000 * 2 ^ 90
-  worth_modest v q m c h lq lm lc =
-      let f = role_frame k in
-      let w = walked k in
-      let g = leads_to f q m in
-      let i = round_of f g in
-      let j = round_of f (at_point q) in
-      let some = w.some_round q lq in
-      let onward = w.onward q m lq lm in
-      let few = form_class_few k.form.now i (omega (arith, some, onward)) (w.within q m lq lm) in
-      let all = range_abs (λ n. cond (earlier_class f (role_lists k) i j n == c) (v g n) (pos 0)) 1 (class_count (role_lists k) i) (2 ^ 90)
-      (λ n lo hi. tested_small (earlier_class f (role_lists k) i j n == c) (v g n) (2 ^ 90)
-      (let a = h g n (w.inside q m lq lm) (w.later q m lq lm) (omega arith, omega arith) in omega (arith, a))) in
-      let up = product_le (class_count (role_lists k) i) (2 ^ 90) 200000 (2 ^ 90) few (omega arith) in
-      omega (arith, all, up)
+back : (x s : ℤ) (now : ℕ) → line (x -ℤ pos now *ℤ s) s now ≡ x
+back x s now = omega (arith, ints)
 
-  -- and the worths of the first moves, added up
-  pub worths_modest : (v : Values) (q c n : ℕ) → AreModestFrom (role_frame k) (role_lists k) v (q + 1) → q < point_count (role_frame k)
-      → n ≤ move_count (role_frame k) q → IsClass (role_lists k) (round_of (role_frame k) (at_point q)) c
-      → unsigned_abs (sum_z (λ m. total_worth (role_frame k) (role_lists k) v q m c) (range_with_len 0 n)) ≤ 26 * (200000 * 2 ^ 90)
-  worths_modest v q c n h lq ln lc =
-      let all = range_abs (λ m. total_worth (role_frame k) (role_lists k) v q m c) 0 n (200000 * 2 ^ 90)
-      (λ m lo hi. worth_modest v q m c h lq (omega (arith, hi, ln)) lc) in
-      let few = (form_moves k.form.now q lq).few in
-      let up = product_le n (200000 * 2 ^ 90) 26 (200000 * 2 ^ 90) (omega (arith, ln, few)) (omega arith) in
-      omega (arith, all, up)
+module _ (f : Frame) (lists : ClassLists) (player : ℕ) (pays rise : ℕ → ℕ → ℤ) (now : ℕ) (soon : now ≤ 2 ^ 20) (few : AreSmallAtEnds f lists player pays rise)
+    (totals : List Line) (pick due : ℕ → ℕ → ℕ) (q : ℕ) (lq : q < point_count f) where
+  abbrev Z : Values
+  Z = zeros_of f lists pays rise now totals
+
+  abbrev S : Values
+  S = slopes_of f lists rise totals
+
+  abbrev T : Values
+  T = tables_after Z S now
+
+  module _ (all : AreSettledUntil f lists player Z S pick due now)
+      (late : (p c : ℕ) → q < p → p < point_count f → IsClass lists (round_of f (at_point p)) c → now < due p c) where
+    slopes_from : IsFollowedFrom f lists player S pick (q + 1)
+    slopes_from = record {
+      in_range = λ p c lo lp own lc. ((all p c lp lc (late p c (omega (arith, lo)) lp lc)).own own).in_range;
+      reached = λ p c lo lp own lc. ((all p c lp lc (late p c (omega (arith, lo)) lp lc)).own own).slope_is;
+      at_others = λ p c lo lp other lc. ((all p c lp lc (late p c (omega (arith, lo)) lp lc)).others other).slope_is;
+    }
+
+    values_from : IsFollowedFrom f lists player T pick (q + 1)
+    values_from = record {
+      in_range = λ p c lo lp own lc. ((all p c lp lc (late p c (omega (arith, lo)) lp lc)).own own).in_range;
+      reached = λ p c lo lp own lc. (let l = late p c (omega (arith, lo)) lp lc in own_value f lists Z S p c (pick p c) now (due p c)
+          ((all p c lp lc l).own own) now);
+      at_others = λ p c lo lp other lc. (let l = late p c (omega (arith, lo)) lp lc in other_value f lists Z S p c ((all p c lp lc l).others other) now);
+    }
+
+    ends_now : (z e : ℕ) → z < end_count f → IsClass lists (round_of f (at_end z)) e → T (at_end z) e ≡ pays z e
+    ends_now z e lz le = back (pays z e) (rise z e) now
+
+    pub slope_few : (m c : ℕ) → m < move_count f q → IsClass lists (round_of f (at_point q)) c → unsigned_abs (total_worth f lists S q m c) ≤ 2 ^ 38
+    slope_few m c lm lc = few.slopes.worths S pick (q + 1) (λ z e lz le. refl) slopes_from q m c lq (omega arith) lm lc
+
+    pub zero_few : (m c : ℕ) → m < move_count f q → IsClass lists (round_of f (at_point q)) c → unsigned_abs (total_worth f lists Z q m c) ≤ 2 ^ 59
+    zero_few m c lm lc =
+        let v = few.values.worths T pick (q + 1) ends_now values_from q m c lq (omega arith) lm lc in
+        let told : unsigned_abs (line (total_worth f lists Z q m c) (total_worth f lists S q m c) now) ≤ 2 ^ 58 =
+        subst (λ x. unsigned_abs x ≤ 2 ^ 58) (worth_line f lists Z S now q m c) v in
+        line_few (total_worth f lists Z q m c) (total_worth f lists S q m c) now (slope_few m c lm lc) told soon
+
+    module _ (walked : IsWalked f player) (other : player_at f q ≢ player) (c : ℕ) (lc : IsClass lists (round_of f (at_point q)) c) where
+      abbrev all_of : Values → ℤ
+      all_of v = sum_z (λ m. total_worth f lists v q m c) (choices_at f q)
+
+      pub slopes_few : unsigned_abs (all_of S) ≤ 2 ^ 38
+      slopes_few = sum_few f lists player walked S pick q lq other slopes_from rise (2 ^ 38) few.slopes (λ z e lz le. refl) c lc
+
+      sum_line : all_of T ≡ line (all_of Z) (all_of S) now
+      sum_line =
+          let a = λ (m : ℕ). total_worth f lists Z q m c in
+          let s = λ (m : ℕ). total_worth f lists S q m c in
+          sum_z-same (λ m. total_worth f lists T q m c) (λ m. a m +ℤ pos now *ℤ s m) (λ m. worth_line f lists Z S now q m c) (choices_at f q)
+          ∙ sum_z-add a (λ m. pos now *ℤ s m) (choices_at f q)
+          ∙ ap (λ x. sum_z a (choices_at f q) +ℤ x) (sum_z-mul (pos now) s (choices_at f q))
+
+      pub zeros_few : unsigned_abs (all_of Z) ≤ 2 ^ 59
+      zeros_few =
+          let v = sum_few f lists player walked T pick q lq other values_from pays (2 ^ 58) few.values ends_now c lc in
+          line_few (all_of Z) (all_of S) now slopes_few (subst (λ x. unsigned_abs x ≤ 2 ^ 58) sum_line v) soon

@@ -8,7 +8,19 @@ use Rattle.gs_model.proofs.{Gather.{class_in, known_from, member_in}, Total.{mul
 use Rattle.gs_seq.specs.Payoffs.{end_sum}
 use Rattle.gs_best.specs.ClassTotals.{earlier_class}
 use Rattle.gs_best.proofs.Ranges.{sum_same}
-use Rattle.gs_play.specs.PlanSums.{ArePlansAlike, plus_times}
+use Rattle.gs_play.specs.PlanSums.{ArePlansAlike}
+use Rattle.gs_model.specs.BestAnswers.{Values}
+use Rattle.gs_play.specs.Jumps.{line}
+
+-- plan x plus k times plan b
+abbrev pub plus_times : Plan → ℕ → Plan → Plan
+plus_times x k b = record { total = x.total + k * b.total; number = λ q c m. x.number q c m + k * b.number q c m }
+
+-- at ends the lines are, in the turn `now`, what ends pay against the other's plan y, and each turn from then on adds what they pay against b
+pub record ArePaid (f : Frame) (lists : ClassLists) (player : ℕ) (y b : Plan) (at slope : Values) (now : ℕ) : Type 0 where
+  pub so_far : (z c : ℕ) → z < end_count f → IsClass lists (round_of f (at_end z)) c
+      → line (at (at_end z) c) (slope (at_end z) c) now ≡ end_sum f lists player y z c
+  pub each : (z c : ℕ) → z < end_count f → IsClass lists (round_of f (at_end z)) c → slope (at_end z) c ≡ end_sum f lists player b z c
 
 -- ---- the sums
 

@@ -1,97 +1,155 @@
--- For how many turns an answer stays, as long as the best totals choose it; and what ends pay after so many turns.
-use Rattle.std.proofs.{Common.{◌≡◌, ℕ, ◌+◌, ◌-◌, ◌<◌, ◌≤◌, List, get_or, sym, ap, ◌∙◌, subst, arith}, Math.Nat.{le-min, min-le_left, min-le_right}}
-use Rattle.std.specs.Prelude.{◌==◌, min, ℤ, pos, ◌+ℤ◌, ◌*ℤ◌, if◌then◌else◌}
-use Rattle.gs_model.specs.{BestAnswers.{Values}, Classes.{ClassLists, IsClass, IsClasses, first_member}}
-use Rattle.gs_model.specs.Frame.{Frame, last_step, move_count, other_player, payoff_to, player_at, point_count, round_of}
-use Rattle.gs_model.specs.{FrameFacts.{InRange, IsInside, IsWalked}, Lossless.{IsLossless}, Plans.{Plan, lift, number_before}}
+-- The line of one class at an end turns, and the worth that it counts for changes as much: all that is kept of a player is right with the new numbers at ends.
+use Rattle.std.proofs.Common.{◌≡◌, ℕ, ◌<◌, Bool, true, false, cond, refl, sym, ap, ◌∙◌, subst, arith, Vec, length, get_or-set_same}
+use Rattle.std.specs.Prelude.{◌==◌, ℤ, pos, ◌+ℤ◌, ◌-ℤ◌, ◌*ℤ◌}
+use Rattle.std.specs.declared.alloc.Global.{Global}
+use Rattle.std.proofs.lemmas.Bool.Decides.{Decides-eqb}
+use Rattle.std.proofs.lemmas.Int.{ints}
+use Rattle.std.proofs.Math.IntN.{*ℤ_comm}
+use Rattle.std.proofs.Math.Path.{fun_ext}
+use Rattle.gs_model.specs.BestAnswers.{Values}
+use Rattle.gs_model.specs.Classes.{ClassLists, IsClass}
+use Rattle.gs_model.specs.Frame.{Frame, end_count, round_of}
+use Rattle.gs_model.specs.FrameFacts.{IsInside, IsWalked}
 use Rattle.gs_model.specs.Positions.{Target, at_end, at_point}
-use Rattle.gs_seq.specs.{Payoffs.{end_sum}, Slots.{plan_of, slot_of}}
-use Rattle.gs_best.specs.{ClassTotals.{AreBestTotals, IsFollowed}, Places.{AreEndSums, end_start, totals_of}, Puts.{ArePutBefore}}
-use Rattle.gs_play.specs.{Jumps.{AreBeforeChange, tables_after}, PlanSums.{ArePlansAlike, plus_times}, Places.{AreEndLines, ArePointLines}}
-use Rattle.gs_play.specs.Staying.{AnswerStays}
-use Rattle.gs_play.proofs.{JumpLaws.{best_alike, best_same, choices_stay}, SumLaws.{end_plus, kept_alike}, Jumps.{answer_stays, answer_stays_once}}
+use Rattle.gs_model.proofs.Total.{mul-add_right}
+use Rattle.gs_best.specs.ClassTotals.{earlier_class}
+use Rattle.gs_best.specs.Tables.{moves_of}
+use Rattle.gs_play.specs.Lines.{wrapped}
+use Rattle.gs_play.specs.Plots.{LeadsTo, cell_place, worth_place}
+use Rattle.gs_play.specs.Tables.{AreSettledUntil}
+use Rattle.gs_play.specs.Tallies.{FeedsAbove, HasTallyRoom, HasWorths, IsFed, IsTally, at_part, risen, slope_part, slopes_of, up_of, zeros_of}
+use Rattle.gs_play.specs.declared.line.Line.{Line}
+use Rattle.gs_play.specs.declared.plot.Way.{Way}
+use Rattle.gs_play.specs.declared.tally.Tally.{Tally}
+use Rattle.gs_play.proofs.Feeds.{feeds_at, up_in}
+use Rattle.gs_play.proofs.Lists.{cell_inside, other_cell, worth_inside, worths_fed}
+use Rattle.gs_play.proofs.OneWay.{one_way}
+use Rattle.gs_play.proofs.Settling.{IsChanged, settled_turn}
+use Rattle.gs_play.proofs.Wrapped.{wrapped_twice}
 
--- the lesser of two numbers
-pub record IsLeast (a b least : ℕ) : Type 0 where
-  pub first : least ≤ a
-  pub second : least ≤ b
-  pub some : 0 < a → 0 < b → 0 < least
+-- nothing more
+pub risen_none : (rise : ℕ → ℕ → ℤ) (z k : ℕ) → risen rise z k (pos 0) ≡ rise
+risen_none rise z k = fun_ext (λ y. fun_ext (λ c. none (y == z) (k == c) (rise y c)))
+  where
+    none : (a b : Bool) (x : ℤ) → x +ℤ cond a (cond b (pos 0) (pos 0)) (pos 0) ≡ x
+    none true true x = omega (arith, ints)
+    none true false x = omega (arith, ints)
+    none false b x = omega (arith, ints)
 
-pub least_of : (a b least : ℕ) → least ≡ min a b → IsLeast a b least
-least_of a b least e = record {
-  first = omega (arith, e, min-le_left a b);
-  second = omega (arith, e, min-le_right a b);
-  some = λ la lb. omega (arith, e, le-min {k = 1} {a = a} {b = b} la lb);
-}
+module _ (f : Frame) (lists : ClassLists) (player : ℕ) (walked : IsWalked f player) (pays rise : ℕ → ℕ → ℤ) (now z k : ℕ) (more : ℤ) (lz : z < end_count f)
+    (lk : IsClass lists (round_of f (at_end z)) k) (t : Tally) (h : IsTally f lists player pays rise now t) where
+  abbrev rise' : ℕ → ℕ → ℤ
+  rise' = risen rise z k more
 
--- for fewer turns it stays too
-pub stays_less : (f : Frame) (lists : ClassLists) (player : ℕ) (y more answer : Plan) (times less : ℕ) → less ≤ times
-    → AnswerStays f lists player y more answer times → AnswerStays f lists player y more answer less
-stays_less f lists player y more answer times less l s = λ k z soon alike. s k z (omega arith) alike
+  abbrev Z : (ℕ → ℕ → ℤ) → Values
+  Z r = zeros_of f lists pays r now t.totals.items
 
--- the plan that puts all on the chosen moves, by its number at each of them
-at_moves : (f : Frame) (lists : ClassLists) (player total : ℕ) (weights : List ℕ) (move : ℕ → ℕ → ℕ) → total ≡ 1
-    → ArePutBefore f lists player move weights (point_count f)
-    → (q c m : ℕ) → q < point_count f → player_at f q ≡ player → IsClass lists (round_of f (at_point q)) c → m < move_count f q
-    → get_or weights (slot_of f lists q c m) 0 ≡ (if m == move q c then number_before f (lift f lists (plan_of f lists total weights))
-    (last_step f player (at_point q)) (round_of f (at_point q)) (first_member lists (round_of f (at_point q)) c) else 0)
-at_moves f lists player total weights move one puts q c m lq own lc lm =
-    subst (λ t. get_or weights (slot_of f lists q c m) 0 ≡ (if m == move q c
-    then number_before f (lift f lists (plan_of f lists t weights)) (last_step f player (at_point q)) (round_of f (at_point q))
-    (first_member lists (round_of f (at_point q)) c) else 0))
-    (sym one) (puts q c lq own lc m lm)
+  abbrev S : (ℕ → ℕ → ℤ) → Values
+  S r = slopes_of f lists r t.totals.items
 
--- the answer with all on the chosen moves stays
-pub put_stays : (f : Frame) → InRange f → (lists : ClassLists) → IsClasses f.parents lists → IsLossless f lists → (player : ℕ) → IsWalked f player
-    → IsWalked f (other_player player) → (y more : Plan) (total : ℕ) (weights : List ℕ) (v d : Values) (move : ℕ → ℕ → ℕ) (times : ℕ)
-    → AreBestTotals f lists player y v move → IsFollowed f lists player more d move → AreBeforeChange f lists player v d move times → total ≡ 1
-    → ArePutBefore f lists player move weights (point_count f)
-    → AnswerStays f lists player y more (plan_of f lists total weights) times
-put_stays f r lists k lossless player w other y more total weights v d move times best rise within one puts =
-    answer_stays f r lists k lossless player w other y more (plan_of f lists total weights) v d move times best rise within one
-    (at_moves f lists player total weights move one puts)
+  here : rise' z k ≡ rise z k +ℤ more
+  here = ap (λ b. rise z k +ℤ cond b (cond (k == k) more (pos 0)) (pos 0)) ((Decides-eqb z z).1 refl)
+      ∙ ap (λ b. rise z k +ℤ cond b more (pos 0)) ((Decides-eqb k k).1 refl)
 
--- and for one turn as it is
-pub put_stays_once : (f : Frame) → InRange f → (lists : ClassLists) → IsClasses f.parents lists → IsLossless f lists → (player : ℕ) → IsWalked f player
-    → IsWalked f (other_player player) → (y more : Plan) (total : ℕ) (weights : List ℕ) (v : Values) (move : ℕ → ℕ → ℕ)
-    → AreBestTotals f lists player y v move → total ≡ 1 → ArePutBefore f lists player move weights (point_count f)
-    → AnswerStays f lists player y more (plan_of f lists total weights) 1
-put_stays_once f r lists k lossless player w other y more total weights v move best one puts =
-    answer_stays_once f r lists k lossless player w other y more (plan_of f lists total weights) v move best one
-    (at_moves f lists player total weights move one puts)
+  apart : (y c : ℕ) → (y ≡ z → c ≡ k → ⊥) → rise' y c ≡ rise y c
+  apart y c n = by (y == z) (k == c) refl refl
+    where
+      by : (a b : Bool) → (y == z) ≡ a → (k == c) ≡ b → rise y c +ℤ cond a (cond b more (pos 0)) (pos 0) ≡ rise y c
+      by true true ea eb = absurd (n ((Decides-eqb y z).0 ea) (sym ((Decides-eqb k c).0 eb)))
+      by true false ea eb = omega (arith, ints)
+      by false b ea eb = omega (arith, ints)
 
--- what ends pay against the other's new plan
-pub paid_on : (f : Frame) → InRange f → (lists : ClassLists) → IsClasses f.parents lists → (player : ℕ) → IsWalked f (other_player player)
-    → (y b z : Plan) (times : ℕ) (old steps new : List ℤ)
-    → AreEndSums f lists player y old → AreEndSums f lists player b steps → ArePlansAlike f lists (other_player player) z (plus_times y times b)
-    → AreEndLines f lists old steps times new → AreEndSums f lists player z new
-paid_on f r lists k player w y b z times old steps new paid added alike lines e c le lc =
-    let at = end_start f lists e + (c - 1) in
-    lines e c le lc
-    ∙ ap (λ x. x +ℤ pos times *ℤ get_or steps at (pos 0)) (paid e c le lc)
-    ∙ ap (λ x. end_sum f lists player y e c +ℤ pos times *ℤ x) (added e c le lc)
-    ∙ sym (end_plus f lists player y b times e c)
-    ∙ sym (kept_alike f r lists k (other_player player) w (payoff_to f player e) z (plus_times y times b) alike e c le)
+  slopes_changed : IsChanged f lists (S rise) (S rise') (at_end z) k more
+  slopes_changed = record { here = here; elsewhere = other }
+    where
+      other : (g : Target) (c : ℕ) → IsInside f g → IsClass lists (round_of f g) c → (g ≡ at_end z → c ≡ k → ⊥) → S rise' g c ≡ S rise g c
+      other (at_point q) c i lc n = refl
+      other (at_end y) c i lc n = apart y c (λ e. n (ap at_end e))
 
--- class totals that have moved on with the turns, position by position
-moved : (f : Frame) (lists : ClassLists) (player : ℕ) (y b z : Plan) (times : ℕ) (old steps new : List ℤ) (move : ℕ → ℕ → ℕ)
-    → AreBestTotals f lists player z (tables_after (totals_of f lists player y old) (totals_of f lists player b steps) times) move
-    → ArePointLines f lists old steps times new → (t : Target) (c : ℕ) → IsInside f t → IsClass lists (round_of f t) c
-    → totals_of f lists player z new t c ≡ tables_after (totals_of f lists player y old) (totals_of f lists player b steps) times t c
-moved f lists player y b z times old steps new move later lines (at_point q) c inside lc = lines q c inside lc
-moved f lists player y b z times old steps new move later lines (at_end e) c inside lc = sym (later.followed.at_ends e c inside lc)
+  zeros_changed : IsChanged f lists (Z rise) (Z rise') (at_end z) k (pos 0 -ℤ more *ℤ pos now)
+  zeros_changed = record { here = zero_here; elsewhere = other }
+    where
+      zero_here : pays z k -ℤ pos now *ℤ rise' z k ≡ (pays z k -ℤ pos now *ℤ rise z k) +ℤ (pos 0 -ℤ more *ℤ pos now)
+      zero_here =
+          let e = ap (λ x. pos now *ℤ x) here in
+          let d = mul-add_right (pos now) (rise z k) more in
+          let s = *ℤ_comm (pos now) more in
+          omega (arith, ints, e, d, s)
 
--- they are best against the other's new plan, where the choices last for more turns than are taken
-pub best_on : (f : Frame) → InRange f → (lists : ClassLists) → IsClasses f.parents lists → (player : ℕ) → IsWalked f player → IsWalked f (other_player player)
-    → (y b z : Plan) (times lasts : ℕ) (old steps new : List ℤ) (move : ℕ → ℕ → ℕ)
-    → AreBestTotals f lists player y (totals_of f lists player y old) move → IsFollowed f lists player b (totals_of f lists player b steps) move
-    → AreBeforeChange f lists player (totals_of f lists player y old) (totals_of f lists player b steps) move lasts → times < lasts
-    → ArePlansAlike f lists (other_player player) z (plus_times y times b) → ArePointLines f lists old steps times new
-    → AreBestTotals f lists player z (totals_of f lists player z new) move
-best_on f r lists k player w other y b z times lasts old steps new move best rise within soon alike lines =
-    let v = totals_of f lists player y old in
-    let d = totals_of f lists player b steps in
-    let later = best_alike f r lists k player other z (plus_times y times b) alike (tables_after v d times) move
-    (choices_stay f lists player y b v d move lasts times best rise within soon) in
-    best_same f lists player w (tables_after v d times) (totals_of f lists player z new)
-    (moved f lists player y b z times old steps new move later lines) z move later
+      other : (g : Target) (c : ℕ) → IsInside f g → IsClass lists (round_of f g) c → (g ≡ at_end z → c ≡ k → ⊥) → Z rise' g c ≡ Z rise g c
+      other (at_point q) c i lc n = refl
+      other (at_end y) c i lc n = ap (λ x. pays y c -ℤ pos now *ℤ x) (apart y c (λ e. n (ap at_end e)))
+
+  module _ (room : HasTallyRoom f lists t) (way : Way) (leads : LeadsTo f lists (at_end z) way) (by : Line) (by_at : by.at ≡ wrapped (pos 0 -ℤ more *ℤ pos now))
+      (by_slope : by.slope ≡ more) (new : Tally) where
+    abbrev point : ℕ
+    point = way.row.point
+
+    -- the class above, whose worth changes
+    abbrev up : ℕ
+    up = earlier_class f lists (round_of f (at_end z)) (round_of f (at_point point)) k
+
+    abbrev Feeds : Type 0
+    Feeds = IsFed (worth_place f lists point up way.choice) (cell_place f lists point up) by t new
+
+    module _ (lup : IsClass lists (round_of f (at_point point)) up) (fed : Feeds) where
+      abbrev due : Tally → ℕ → ℕ → ℕ
+      due x = moves_of f lists x.dues.turns.items
+
+      same_totals : new.totals.items ≡ t.totals.items
+      same_totals = ap (λ (v : Vec Line Global). v.items) fed.totals
+
+      same_picks : moves_of f lists new.picks.items ≡ moves_of f lists t.picks.items
+      same_picks = ap (λ (v : Vec ℕ Global). moves_of f lists v.items) fed.picks
+
+      due_same : (p e : ℕ) → IsClass lists (round_of f (at_point p)) e → (p ≡ point → e ≡ up → ⊥) → due new p e ≡ due t p e
+      due_same p e le n = other_cell f lists t.dues.turns.items new.dues.turns.items point up 0 p e fed.dues lup le n
+
+      due_fed : due new point up ≡ 0
+      due_fed = ap (λ xs. moves_of f lists xs point up) fed.dues
+          ∙ get_or-set_same t.dues.turns.items (cell_place f lists point up) 0 0 (cell_inside f lists point up t leads.way.row.inside lup room.turns)
+
+      place_in : worth_place f lists point up way.choice < length t.worths.items
+      place_in = worth_inside f lists point up way.choice t leads.way.row.inside lup leads.way.choice room
+
+      zeros_fed : HasWorths f lists at_part (Z rise') new.worths.items
+      zeros_fed = subst (HasWorths f lists at_part (Z rise')) (sym fed.worths)
+          (worths_fed f lists player walked at_part (Z rise) (Z rise') (at_end z) k _ lz lk zeros_changed t.worths.items h.zeros point way.choice
+          leads.way.row.inside leads.way.choice leads.leads lup place_in fed.worth by.at
+          (ap wrapped by_at ∙ wrapped_twice (pos 0 -ℤ more *ℤ pos now)) fed.at_is)
+
+      slopes_fed : HasWorths f lists slope_part (S rise') new.worths.items
+      slopes_fed = subst (HasWorths f lists slope_part (S rise')) (sym fed.worths)
+          (worths_fed f lists player walked slope_part (S rise) (S rise') (at_end z) k _ lz lk slopes_changed t.worths.items h.slopes point way.choice
+          leads.way.row.inside leads.way.choice leads.leads lup place_in fed.worth by.slope (ap wrapped by_slope) fed.slope_is)
+
+      settled_fed : AreSettledUntil f lists player (Z rise') (S rise') (moves_of f lists t.picks.items) (due new) now
+      settled_fed =
+          settled_turn f lists player walked (Z rise) (S rise) (Z rise') (S rise') (moves_of f lists t.picks.items) (due t) (due new) now z k _ _
+          zeros_changed slopes_changed
+          (λ p e lp le later.
+          let not : p ≡ point → e ≡ up → ⊥ = λ s i.
+          (let none : due new p e ≡ 0 = ap (λ a. due new a e) s ∙ ap (due new point) i ∙ due_fed in omega (arith, later, none)) in (
+            due_same p e le not,
+            λ m lm to above.
+                let same = one_way f player walked p m point way.choice lp leads.way.row.inside lm leads.way.choice (to ∙ sym leads.leads) in
+                not same.point (sym above ∙ ap (λ i. earlier_class f lists (round_of f (at_end z)) (round_of f (at_point i)) k) same.point),
+          ))
+          h.settled
+
+      fed_tally : IsTally f lists player pays rise' now new
+      fed_tally =
+          let zs : zeros_of f lists pays rise' now new.totals.items ≡ Z rise' = ap (zeros_of f lists pays rise' now) same_totals in
+          let ss : slopes_of f lists rise' new.totals.items ≡ S rise' = ap (slopes_of f lists rise') same_totals in
+          record {
+            zeros = subst (λ v. HasWorths f lists at_part v new.worths.items) (sym zs) zeros_fed;
+            slopes = subst (λ v. HasWorths f lists slope_part v new.worths.items) (sym ss) slopes_fed;
+            settled = subst (λ v. AreSettledUntil f lists player v (slopes_of f lists rise' new.totals.items) (moves_of f lists new.picks.items) (due new) now)
+                (sym zs)
+                (subst (λ v. AreSettledUntil f lists player (Z rise') v (moves_of f lists new.picks.items) (due new) now) (sym ss)
+                (subst (λ p. AreSettledUntil f lists player (Z rise') (S rise') p (due new) now) (sym same_picks) settled_fed));
+          }
+
+    -- what the move that leads there is worth changes as much
+    pub turned_fed : IsClass lists way.row.round (up_of f lists way k) → FeedsAbove f lists way k by t new → IsTally f lists player pays rise' now new
+    turned_fed class feeds = fed_tally (up_in f lists (at_end z) way leads k class) (feeds_at f lists (at_end z) way leads k by t new feeds)

@@ -1,10 +1,6 @@
--- Plans that are added up from turn to turn, and plans that are alike.
-use Rattle.std.specs.Prelude.{ℕ, ◌+◌, ◌*◌, ◌<◌, ◌≡◌}
+-- Plans that are alike.
+use Rattle.std.specs.Prelude.{ℕ, ◌<◌, ◌≡◌}
 use Rattle.gs_model.specs.{Classes.{ClassLists, IsClass}, Frame.{Frame, move_count, player_at, point_count, round_of}, Plans.{Plan}, Positions.{at_point}}
-
--- plan x plus k times plan b
-abbrev pub plus_times : Plan → ℕ → Plan → Plan
-plus_times x k b = record { total = x.total + k * b.total; number = λ q c m. x.number q c m + k * b.number q c m }
 
 -- two plans have the same total, and the same numbers wherever the player chooses
 pub record ArePlansAlike (f : Frame) (lists : ClassLists) (player : ℕ) (x y : Plan) : Type 0 where

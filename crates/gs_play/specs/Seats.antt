@@ -1,48 +1,44 @@
--- What a player holds from turn to turn. For private functions.
-use Rattle.std.specs.Prelude.{ℕ, ◌-◌, ◌≤◌, ◌≡◌, IsTrue, false, List, length}
-use Rattle.gs_model.specs.{Classes.{ClassLists}, Frame.{Frame, point_count}, Plans.{Plan as ModelPlan}, Play.{IsFictitiousPlay, IsFirstMoves}}
-use Rattle.gs_seq.specs.{Plans.{IsPlanOf, class_plan}, Slots.{slot_count}}
-use Rattle.gs_best.specs.{Tables.{moves_of, start_of}, ClassTotals.{AreBestTotals, IsFollowed}, Places.{AreEndSums, totals_of}, Puts.{ArePutBefore}}
-use Rattle.gs_play.specs.{Room.{HasRows}, declared.places.Totals.{Totals}, declared.seats.Seat.{Seat}}
+-- What a player holds from turn to turn: an answer, and class totals against the other player's plan so far.
+use Rattle.std.specs.Prelude.{ℕ, pos, ◌+◌, ◌-◌, ◌<◌, ◌≤◌, List, length, slice_index}
+use Rattle.gs_model.specs.{Classes.{ClassLists}, Frame.{Frame, other_player, point_count}, Plans.{IsClassPlan, Plan}, Play.{IsFictitiousPlay, IsFirstMoves}}
+use Rattle.gs_seq.specs.Payoffs.{end_sum}
+use Rattle.gs_best.specs.Tables.{moves_of}
+use Rattle.gs_play.specs.Answers.{AreRight, HasAnswer, answer_plan, plan_after}
+use Rattle.gs_play.specs.Tallies.{HasMoved, HasTallyRoom, IsTally}
+use Rattle.gs_play.specs.declared.seat.Seat.{Seat}
 
--- there is room for a player's totals and choices, and the player has an answer of total 1
-pub record HasSeatRoom (f : Frame) (lists : ClassLists) (player : ℕ) (s : Seat) : Type 0 where
-  pub answer : IsPlanOf f lists player s.answer
-  pub one : s.answer.total ≡ 1
-  pub next : length s.next.items ≡ slot_count f lists player
-  pub rows : HasRows f lists s.totals
-  pub picks : start_of f lists (point_count f) ≤ length s.picks.items
+-- there is room for a player's answer and class totals in the turn `now`; the answer is a plan, and what it takes is right by the player's choices, of
+-- which none has changed since
+pub record IsSeat (f : Frame) (lists : ClassLists) (player now : ℕ) (s : Seat) : Type 0 where
+  pub answer : HasAnswer f lists player now s.answer
+  pub room : HasTallyRoom f lists s.tally
+  pub plan : IsClassPlan f lists player (answer_plan f lists s.answer)
+  pub right : AreRight f lists player (moves_of f lists s.answer.taken.items) (moves_of f lists s.tally.picks.items)
+  pub still : (q : ℕ) → q < point_count f → HasMoved s.tally q → ⊥
 
--- what a player holds before the first turn: the plan takes the first move everywhere, and no answer is known
+-- a player's class totals are those against the other's plan in the turn `now`, to which each turn adds the other's answer
+abbrev pub Faces : Frame → ClassLists → ℕ → ℕ → Seat → Seat → Type 0
+Faces f lists player now s other =
+    IsTally f lists player (end_sum f lists player (plan_after f lists other.answer now))
+    (end_sum f lists player (answer_plan f lists other.answer)) now s.tally
+
+-- both players hold their plans of the turn `now`, which come from one turn of fictitious play less, with class totals against each other
+pub record ArePlaying (f : Frame) (lists : ClassLists) (now : ℕ) (one two : Seat) : Type 0 where
+  pub some : 0 < now
+  pub seat_one : IsSeat f lists 1 now one
+  pub seat_two : IsSeat f lists 2 now two
+  pub faces_one : Faces f lists 1 now one two
+  pub faces_two : Faces f lists 2 now two one
+  pub played : IsFictitiousPlay f lists (now - 1) (plan_after f lists one.answer now) (plan_after f lists two.answer now)
+
+-- what a player holds at the start: the answer is the first plan, which takes the first move everywhere, and class totals are 0 in turn 0; each turn adds
+-- those against the other's first plan
 pub record IsAtStart (f : Frame) (lists : ClassLists) (player : ℕ) (s : Seat) : Type 0 where
-  pub room : HasSeatRoom f lists player s
-  pub plan : IsPlanOf f lists player s.plan
-  pub first : IsFirstMoves f lists player (class_plan f lists s.plan)
-  pub unanswered : s.is_answered ≡ false
+  pub seat : IsSeat f lists player 0 s
+  pub first : IsFirstMoves f lists player (answer_plan f lists s.answer)
+  pub faces : (other : Plan) → IsFirstMoves f lists (other_player player) other
+      → IsTally f lists player (λ z c. pos 0) (end_sum f lists player other) 0 s.tally
 
--- there is room, and the totals have what ends pay a player against the other's plan y
-pub record IsSeat (f : Frame) (lists : ClassLists) (player : ℕ) (y : ModelPlan) (s : Seat) : Type 0 where
-  pub room : HasSeatRoom f lists player s
-  pub paid : AreEndSums f lists player y s.totals.ends.items
-
--- the seat has the player's best totals against y, and the answer that puts all weight on the moves that they choose
-pub record HasAnswered (f : Frame) (lists : ClassLists) (player : ℕ) (y : ModelPlan) (s : Seat) : Type 0 where
-  pub best : AreBestTotals f lists player y (totals_of f lists player y s.totals.points.items) (moves_of f lists s.picks.items)
-  pub puts : ArePutBefore f lists player (moves_of f lists s.picks.items) s.answer.weights.items (point_count f)
-
--- `steps` has what the other's answer b adds to the player's totals each turn
-pub record HasRises (f : Frame) (lists : ClassLists) (player : ℕ) (b : ModelPlan) (picks : List ℕ) (steps : Totals) : Type 0 where
-  pub paid : AreEndSums f lists player b steps.ends.items
-  pub followed : IsFollowed f lists player b (totals_of f lists player b steps.points.items) (moves_of f lists picks)
-
--- Both players hold their plans after some turns of fictitious play; the number of turns is the plan's total less one. If `is_answered`, a player's answer
--- to the other's plan is known.
-pub record ArePlaying (f : Frame) (lists : ClassLists) (one two : Seat) : Type 0 where
-  pub plan_one : IsPlanOf f lists 1 one.plan
-  pub plan_two : IsPlanOf f lists 2 two.plan
-  pub seat_one : IsSeat f lists 1 (class_plan f lists two.plan) one
-  pub seat_two : IsSeat f lists 2 (class_plan f lists one.plan) two
-  pub known_one : IsTrue one.is_answered → HasAnswered f lists 1 (class_plan f lists two.plan) one
-  pub known_two : IsTrue two.is_answered → HasAnswered f lists 2 (class_plan f lists one.plan) two
-  pub total : two.plan.total ≡ one.plan.total
-  pub played : IsFictitiousPlay f lists (one.plan.total - 1) (class_plan f lists one.plan) (class_plan f lists two.plan)
+-- a turn comes after `now`, and unless it follows at once no place is due before it
+abbrev pub IsNextDue : List ℕ → ℕ → ℕ → Type 0
+IsNextDue turns now next = now + 1 < next → (k : ℕ) → k < length turns → next ≤ slice_index turns k

@@ -1,0 +1,35 @@
+use Rattle.std.proofs.Common.{ℕ, ◌<◌, Bool, List, false, set, refl, sym, ◌∙◌, subst, arith, get_or-set_other}
+use Rattle.gs_model.specs.Frame.{Frame, player_at, point_count}
+use Rattle.gs_model.specs.FrameFacts.{IsWalked}
+use Rattle.gs_seq.specs.Abstracts.{game_in}
+use Rattle.gs_seq.proofs.Points.{walked_at}
+use Rattle.gs_play.specs.Answers.{IsStill}
+use Rattle.gs_play.specs.Sides.{side_frame, side_lists}
+use Rattle.gs_play.proofs.PlotRows.{row_at, row_player}
+use Rattle.gs_play.proofs.answers.renew_at.Goals.{else-index-side-via-then-index-side+else-is_loose, else-index-side-via-else-index-side}
+use Rattle.gs_play.proofs.answers.renew_at.Goals as goal
+
+-- what is said of the point itself does not tell whether anything before it has changed
+still_before : (f : Frame) (q : ℕ) → IsWalked f (player_at f q) → q < point_count f → (moved turned : List Bool) → IsStill f q moved (set turned q false)
+    → IsStill f q moved turned
+still_before f q w lq moved turned h = record {
+  own = h.own;
+  gate = λ u is.
+      (let before = w.earlier q u lq is in sym (get_or-set_other turned q u.point false false (λ same. absurd (omega (arith, before, same)))) ∙ h.gate u is);
+}
+
+pub returns-else-index-side-clause-right : goal.returns-else-index-side-clause-right
+returns-else-index-side-clause-right c = λ own e le.
+    let s = c.args.side.now in
+    let f = side_frame s in
+    let q = c.args.point in
+    let turned = c.args.answer.now.turned.items in
+    elim c.else-index-side.branch [
+      | else-index-side-via-then-index-side+else-is_loose o ↦
+          c.requires.right own
+          (still_before f q (walked_at (game_in s.form.now) (player_at f q) q c.requires.point refl) c.requires.point c.args.own.now.moved.items turned
+          (subst (λ xs. IsStill f q xs (set turned q false)) o.deref.ensures.value (o.is_loose.ensures o.if-is_loose.false))) e le
+      | else-index-side-via-else-index-side o ↦ absurd
+          (let row = row_at f (side_lists s) s.plot.now s.plotted q c.requires.point c.index.result.now c.index.ensures in
+          o.if-index-side.false (row_player f (side_lists s) q c.index.result.now row ∙ own))
+    ]

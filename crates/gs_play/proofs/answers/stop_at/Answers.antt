@@ -1,0 +1,53 @@
+use Rattle.std.proofs.Common.{◌≡◌, ap, ◌∙◌, arith, ⊎_elim}
+use Rattle.std.proofs.lemmas.Bool.{cases_eq}
+use Rattle.gs_model.specs.{Classes.{IsClass, class_count}, Frame.{round_of}, Positions.{at_point}}
+use Rattle.gs_best.specs.Tables.{moves_of}
+use Rattle.gs_play.specs.Answers.{plan_after}
+use Rattle.gs_play.specs.Sides.{side_frame, side_lists}
+use Rattle.gs_play.proofs.PlansAlike.{alike_on}
+use Rattle.gs_play.proofs.answers.stop_at.Goals.{In-loop-class}
+use Rattle.gs_play.proofs.answers.stop_at.Goals as goal
+
+-- the class of the turn is one of the point
+class : (c : In-loop-class) → IsClass (side_lists c.args.side.now) (round_of (side_frame c.args.side.now) (at_point c.args.point)) c.loop-class.class
+class c = (
+  omega (arith, c.loop-class.auto.class),
+  omega (arith, c.loop-class-test.true, c.class_total-class-end.ensures.value, ap (class_count (side_lists c.args.side.now)) c.round_at.ensures.value),
+)
+
+pub turn-requires-clause-class : goal.turn-requires-clause-class
+turn-requires-clause-class c = class (goal.at.turn-requires-clause-class c).In-loop-class
+
+pub loop-class-preserved : goal.loop-class-preserved
+loop-class-preserved c =
+    let s = c.args.side.now in
+    let f = side_frame s in
+    let lists = side_lists s in
+    let q = c.args.point in
+    let n = c.loop-class.class in
+    let done = c.loop-class.invariant in
+    let e = c.turn.ensures in
+    let a = c.loop-class.answer in
+    let b = c.turn.new.answer in
+    record {
+      answer = e.answer;
+      none = λ d ld l. ⊎_elim
+          (λ (same : d ≡ n). ap (moves_of f lists b.taken.items q) same ∙ e.here)
+          (λ (other : d ≡ n → ⊥). e.elsewhere.taken q d c.requires.point ld (λ _ same. other same) ∙ done.none d ld (omega (arith, l, other)))
+          (cases_eq d n);
+      elsewhere = λ p d lp ld other. e.elsewhere.taken p d lp ld (λ same _. other same) ∙ done.elsewhere p d lp ld other;
+      plan = alike_on f lists s.player (plan_after f lists b c.args.last) (plan_after f lists a c.args.last)
+          (plan_after f lists c.args.answer.now c.args.last) e.plan
+          done.plan;
+    }
+
+pub returns-clause-none : goal.returns-clause-none
+returns-clause-none c = λ d ld. c.loop-class.invariant.none d ld
+    (omega (
+      arith,
+      ld.1,
+      c.loop-class-test.false,
+      c.class_total-class-end.ensures.value,
+      ap (class_count (side_lists c.args.side.now))
+          c.round_at.ensures.value,
+    ))

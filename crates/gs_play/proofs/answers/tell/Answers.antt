@@ -1,0 +1,49 @@
+use Rattle.std.proofs.Common.{ℕ, ◌<◌, ◌≤◌, arith}
+use Rattle.gs_model.specs.Frame.{move_count, other_player, point_count}
+use Rattle.gs_model.specs.FrameFacts.{IsWalked}
+use Rattle.gs_seq.specs.Payoffs.{end_sum}
+use Rattle.gs_seq.proofs.Forms.{form_classes, form_in_range, form_moves, form_walked}
+use Rattle.gs_play.specs.Answers.{taken_plan}
+use Rattle.gs_play.specs.Sides.{side_frame, side_lists}
+use Rattle.gs_play.specs.declared.side.Side.{Side}
+use Rattle.gs_play.proofs.Told.{plan_without, told_off, told_on, told_only_off, told_only_on}
+use Rattle.gs_play.proofs.answers.tell.Goals as goal
+
+-- the positions hang together for the player who takes the move, seen from the other side
+back : (s : Side) → IsWalked (side_frame s) (other_player (other_player s.player))
+back s = form_walked s.form.now (other_player (other_player s.player)) (omega (arith, s.some, s.two)) (omega (arith, s.some, s.two))
+
+few : (s : Side) (q n : ℕ) → q < point_count (side_frame s) → 255 ≤ n → move_count (side_frame s) q ≤ n
+few s q n lq none = (let m = (form_moves s.form.now q lq).few in omega (arith, m, none))
+
+pub returns-then-old-eq-NONE-clause-told : goal.returns-then-old-eq-NONE-clause-told
+returns-then-old-eq-NONE-clause-told c = λ from to h pays tally.
+    let s = c.args.side.now in
+    let f = side_frame s in
+    let lists = side_lists s in
+    let o = other_player s.player in
+    c.push.ensures.pushed pays (end_sum f lists o (taken_plan from)) (end_sum f lists o (taken_plan to))
+    (told_only_on f (form_in_range s.form.now) lists (form_classes s.form.now) o (back s) c.args.point c.args.class c.args.old c.args.new from to h
+    (few s c.args.point c.args.old c.requires.point (omega (arith, c.if-old-eq-NONE.true)))) tally
+
+pub returns-then-new-ne-NONE-clause-told : goal.returns-then-new-ne-NONE-clause-told
+returns-then-new-ne-NONE-clause-told c = λ from to h pays tally.
+    let s = c.args.side.now in
+    let f = side_frame s in
+    let lists = side_lists s in
+    let o = other_player s.player in
+    let without = plan_without c.args.point c.args.class from in
+    c.push-then-new-ne-NONE.ensures.pushed pays (end_sum f lists o without) (end_sum f lists o (taken_plan to))
+    (told_on f (form_in_range s.form.now) lists (form_classes s.form.now) o (back s) c.args.point c.args.class c.args.old c.args.new from to h)
+    (c.push-2.ensures.pushed pays (end_sum f lists o (taken_plan from)) (end_sum f lists o without)
+    (told_off f (form_in_range s.form.now) lists (form_classes s.form.now) o (back s) c.args.point c.args.class c.args.old c.args.new from to h) tally)
+
+pub returns-else-new-ne-NONE-clause-told : goal.returns-else-new-ne-NONE-clause-told
+returns-else-new-ne-NONE-clause-told c = λ from to h pays tally.
+    let s = c.args.side.now in
+    let f = side_frame s in
+    let lists = side_lists s in
+    let o = other_player s.player in
+    c.push-2.ensures.pushed pays (end_sum f lists o (taken_plan from)) (end_sum f lists o (taken_plan to))
+    (told_only_off f (form_in_range s.form.now) lists (form_classes s.form.now) o (back s) c.args.point c.args.class c.args.old c.args.new from to h
+    (few s c.args.point c.args.new c.requires.point (omega (arith, c.if-new-ne-NONE.false)))) tally

@@ -1,0 +1,9 @@
+use Rattle.std.proofs.Common.{rules}
+use Rattle.std.proofs.lemmas.Int.{wraps}
+use Rattle.gs_play.proofs.line.sum.Goals as goal
+
+pub returns-clause-at : goal.returns-clause-at
+returns-clause-at c = search (rules, wraps)
+
+pub returns-clause-slope : goal.returns-clause-slope
+returns-clause-slope c = search (rules, wraps)

@@ -1,8 +1,0 @@
-use Rattle.std.proofs.Common.{◌<◌}
-use Rattle.gs_best.specs.{Rows.{AreGreatest}, ClassTotals.{total_worth}}
-use Rattle.gs_play.specs.{Roles.{role_frame, role_lists}, PointRows.{row_totals}}
-use Rattle.gs_play.proofs.merging.best_moves.Given as goal
-
-abbrev pub invariant-loop-choice : goal.invariant-loop-choice
-invariant-loop-choice l = 0 < l.choice → AreGreatest (role_frame l.at.ledger.role) (role_lists l.at.ledger.role)
-    (total_worth (role_frame l.at.ledger.role) (role_lists l.at.ledger.role) (row_totals l.at)) l.at.point l.choice l.best l.moves

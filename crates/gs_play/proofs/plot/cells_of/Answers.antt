@@ -1,0 +1,25 @@
+use Rattle.std.proofs.Common.{◌≡◌, List, ℕ, length, replicate, sym, ap, ◌∙◌, subst, arith, length-append}
+use Rattle.std.proofs.lemmas.List.{length-replicate}
+use Rattle.gs_model.specs.Classes.{class_count}
+use Rattle.gs_seq.specs.Abstracts.{abstract_frame, lists_of}
+use Rattle.gs_best.specs.Tables.{classes_at}
+use Rattle.gs_best.proofs.PointStarts.{starts_more}
+use Rattle.gs_play.specs.Plots.{AreCells}
+use Rattle.gs_play.proofs.PlotLaws.{cells_more}
+use Rattle.gs_play.proofs.plot.cells_of.Goals as goal
+
+pub loop-point-preserved : goal.loop-point-preserved
+loop-point-preserved c =
+    let f = abstract_frame c.args.form.now in
+    let lists = lists_of c.args.form.now in
+    let q = c.loop-point.point in
+    let n = c.class_total.result in
+    let points = c.loop-point.points.items in
+    let wide : n ≡ classes_at f lists q = c.class_total.ensures.value ∙ ap (class_count lists) c.round_at.ensures.value in
+    let longer = ap (λ (l : List ℕ). length l) c.in_ok-add_cells.ensures in
+    record {
+      long = omega (arith, longer, length-append points (replicate n q), length-replicate n q, wide, starts_more f lists q, c.loop-point.invariant.long);
+      cells = subst (AreCells f lists) (sym c.in_ok-add_cells.ensures)
+          (cells_more f lists points q n (omega (arith, c.loop-point-test.true, c.point_total-point-end.ensures)) c.loop-point.invariant.long wide
+          c.loop-point.invariant.cells);
+    }

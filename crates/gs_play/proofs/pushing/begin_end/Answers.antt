@@ -1,0 +1,88 @@
+use Rattle.std.proofs.Common.{◌≡◌, ◌-◌, ◌<◌, ◌^◌, ℕ, get_or, of_z, to_z, to_z-of_z, refl, ap, ◌∙◌, subst, arith}
+use Rattle.std.specs.Prelude.{ℤ, pos, unsigned_abs}
+use Rattle.std.proofs.lemmas.Int.{fits_signed_from_abs}
+use mir.Syntax.{w128, w64}
+use Rattle.gs_model.specs.Classes.{IsClass, class_count}
+use Rattle.gs_model.specs.Frame.{round_of}
+use Rattle.gs_model.specs.Positions.{at_end}
+use Rattle.gs_play.specs.Sides.{side_frame, side_lists}
+use Rattle.gs_play.specs.Tallies.{IsTally, risen_at}
+use Rattle.gs_play.proofs.Pushed.{walked}
+use Rattle.gs_play.proofs.Risen.{adds_below, below_all, below_begun, below_more, risen_nowhere}
+use Rattle.gs_play.proofs.pushing.begin_end.Goals.{In-Some}
+use Rattle.gs_play.proofs.pushing.begin_end.Goals as goal
+
+-- the round of the way is that of the end
+round : (c : In-Some) → c.in-Some.way.round ≡ round_of (side_frame c.args.side.now) (at_end c.args.end)
+round c = let to = c.in-Some.ensures in to.way.round ∙ ap (round_of (side_frame c.args.side.now)) to.leads
+
+pub class_total-class-end-requires-clause-some : goal.class_total-class-end-requires-clause-some
+class_total-class-end-requires-clause-some c =
+    omega (arith, round (goal.at.class_total-class-end-requires-clause-some c).In-Some, (walked c.args.side.now).end_round c.args.end c.requires.end)
+
+pub class_total-class-end-requires-clause-top : goal.class_total-class-end-requires-clause-top
+class_total-class-end-requires-clause-top c =
+    omega (arith, round (goal.at.class_total-class-end-requires-clause-top c).In-Some, (walked c.args.side.now).end_in c.args.end c.requires.end)
+
+pub returns-in_default-clause-begun : goal.returns-in_default-clause-begun
+returns-in_default-clause-begun c =
+    let side = c.args.side.now in
+    λ pays rise.
+    risen_nowhere (side_frame side) (side_lists side) side.player pays rise 0 c.args.end (λ k. get_or c.args.sums.now (k - 1) (pos 0)) c.args.tally.now
+    c.in_default.ensures
+
+pub loop-class-init : goal.loop-class-init
+loop-class-init c =
+    let side = c.args.side.now in
+    record {
+      room = c.requires.room;
+      moved = refl;
+      picks = refl;
+      begun = λ pays rise h.
+          below_begun (side_frame side) (side_lists side) side.player (walked side) pays rise 0 c.args.end (λ k. get_or c.args.sums.now (k - 1) (pos 0))
+          c.args.tally.now h;
+    }
+
+-- a small number that is read and cast stays what it is
+cast : (x : ℤ) → unsigned_abs x < 2 ^ 63 → to_z w64 (of_z w64 (to_z w128 (of_z w128 x))) ≡ x
+cast x l =
+    let wide : unsigned_abs x < 2 ^ 127 = omega (arith, l) in
+    ap (λ y. to_z w64 (of_z w64 y)) (to_z-of_z {w = w128} (fits_signed_from_abs w128 x wide)) ∙ to_z-of_z {w = w64} (fits_signed_from_abs w64 x l)
+
+pub loop-class-preserved : goal.loop-class-preserved
+loop-class-preserved c =
+    let side = c.args.side.now in
+    let more : ℕ → ℤ = λ k. get_or c.args.sums.now (k - 1) (pos 0) in
+    let class = c.loop-class.class in
+    let of_end : IsClass (side_lists side) (round_of (side_frame side) (at_end c.args.end)) class = (
+      omega (arith, c.loop-class.auto.class),
+      omega (
+        arith,
+        c.loop-class-test.true,
+        c.class_total-class-end.ensures.value,
+        ap (class_count (side_lists side)) (round (goal.at.loop-class-preserved c).In-Some),
+      ),
+    ) in
+    record {
+      room = c.turn_end.ensures.room;
+      moved = c.turn_end.ensures.moved ∙ c.loop-class.invariant.moved;
+      picks = c.turn_end.ensures.picks ∙ c.loop-class.invariant.picks;
+      begun = λ pays rise h. subst (λ r. IsTally (side_frame side) (side_lists side) side.player pays r 0 c.turn_end.new.tally)
+          (below_more rise c.args.end more class _ (cast (more class) (c.requires.few class of_end)))
+          (c.turn_end.ensures.turned c.args.end pays (risen_at rise c.args.end (adds_below more class)) c.requires.end c.in-Some.ensures.leads
+          (c.loop-class.invariant.begun pays rise h));
+    }
+
+pub returns-clause-begun : goal.returns-clause-begun
+returns-clause-begun c =
+    let side = c.args.side.now in
+    let all : class_count (side_lists side) (round_of (side_frame side) (at_end c.args.end)) < c.loop-class.class =
+    omega (
+      arith,
+      c.loop-class-test.false,
+      c.class_total-class-end.ensures.value,
+      ap (class_count (side_lists side)) (round (goal.at.returns-clause-begun c).In-Some),
+    ) in
+    λ pays rise h.
+    below_all (side_frame side) (side_lists side) side.player (walked side) pays rise 0 c.args.end (λ k. get_or c.args.sums.now (k - 1) (pos 0))
+    c.loop-class.tally c.loop-class.class all (c.loop-class.invariant.begun pays rise h)

@@ -1,0 +1,127 @@
+use Rattle.std.proofs.Common.{◌≡◌, ◌+◌, ◌-◌, ◌*◌, ◌^◌, ◌<◌, ℕ, [], get_or, refl, ap, sym, ◌∙◌, arith}
+use Rattle.std.specs.Prelude.{ℤ, pos, ◌+ℤ◌, unsigned_abs}
+use Rattle.std.proofs.lemmas.Int.{ints}
+use Rattle.std.proofs.lemmas.List.Sums.{sum_by-cons}
+use Rattle.gs_model.specs.Frame.{end_count, other_player, round_of}
+use Rattle.gs_model.specs.Plans.{IsClassPlan, Plan}
+use Rattle.gs_model.specs.Positions.{at_end}
+use Rattle.gs_model.proofs.Tables.{is_table}
+use Rattle.gs_seq.specs.Payoffs.{end_sum}
+use Rattle.gs_seq.specs.Plans.{class_plan}
+use Rattle.gs_seq.proofs.EndTotals.{worth_few}
+use Rattle.gs_seq.proofs.Forms.{given_in, one_or_two}
+use Rattle.gs_seq.proofs.RowFacts.{class_weight, classes_weigh}
+use Rattle.gs_play.specs.Sides.{side_frame, side_lists}
+use Rattle.gs_play.specs.declared.side.Side.{Side}
+use Rattle.gs_play.proofs.Pushed.{other_walked, walked}
+use Rattle.gs_play.proofs.Risen.{renewed_all, renewed_before, renewed_begun, renewed_more}
+use Rattle.gs_play.proofs.pushing.begin_ends.Goals.{In-loop-end}
+use Rattle.gs_play.proofs.pushing.begin_ends.Goals as goal
+
+-- what an end pays a class against a plan of total 1 is small
+few : (s : Side) (y : Plan) (z c : ℕ) → z < end_count (side_frame s) → IsClassPlan (side_frame s) (side_lists s) (other_player s.player) y → y.total ≡ 1
+    → unsigned_abs (end_sum (side_frame s) (side_lists s) s.player y z c) < 2 ^ 63
+few s y z c l plan one =
+    let f = side_frame s in
+    let lists = side_lists s in
+    let g = given_in s.form.now in
+    let w = walked s in
+    let round = round_of f (at_end z) in
+    let weight : ℕ → ℕ = class_weight f (is_table f g.in_range) lists g.classes round (w.end_round z l) (w.end_in z l) in
+    let size = worth_few f g.in_range lists g.classes g.modest s.player (one_or_two s.player s.some s.two) w (other_walked s) y plan z c l in
+    let of_one : (36864 * y.total) * weight c ≡ 36864 * weight c = ap (λ t. (36864 * t) * weight c) one in
+    omega (
+      arith,
+      size,
+      of_one,
+      classes_weigh f (is_table f g.in_range) lists g.classes round (w.end_round z l) (w.end_in z l) c 1,
+      sum_by-cons weight c [],
+      g.modest.weight,
+    )
+
+-- the end is one of the game, and its round is not too wide
+inside : (c : In-loop-end) → c.loop-end.end < end_count (side_frame c.args.side.now)
+inside c = omega (arith, c.loop-end-test.true, c.end_total-end-end.ensures)
+
+pub loop-end-init : goal.loop-end-init
+loop-end-init c =
+    let side = c.args.side.now in
+    let none : ℕ → ℕ → ℤ = λ z k. pos 0 in
+    record {
+      room = c.requires.room;
+      moved = refl;
+      picks = refl;
+      begun = renewed_begun (side_frame side) (side_lists side) side.player (walked side) none none
+          (end_sum (side_frame side) (side_lists side) side.player (class_plan (side_frame side) (side_lists side) c.args.other.now)) 0 0 c.args.tally.now
+          (λ z k lt lz lk. absurd (omega (arith, lt)));
+    }
+
+pub end_sums-requires-clause-wide : goal.end_sums-requires-clause-wide
+end_sums-requires-clause-wide c =
+    let w = walked c.args.side.now in
+    let z = c.loop-end.end in
+    let l = inside (goal.at.end_sums-requires-clause-wide c).In-loop-end in
+    omega (arith, c.requires.numbers (round_of (side_frame c.args.side.now) (at_end z)) (w.end_round z l) (w.end_in z l), c.loop-end.auto.numbers)
+
+pub end_sums-requires-clause-room : goal.end_sums-requires-clause-room
+end_sums-requires-clause-room c =
+    let w = walked c.args.side.now in
+    let z = c.loop-end.end in
+    let l = inside (goal.at.end_sums-requires-clause-room c).In-loop-end in
+    omega (arith, c.requires.sums (round_of (side_frame c.args.side.now) (at_end z)) (w.end_round z l) (w.end_in z l), c.loop-end.auto.sums)
+
+pub begin_end-requires-clause-long : goal.begin_end-requires-clause-long
+begin_end-requires-clause-long c =
+    let w = walked c.args.side.now in
+    let z = c.loop-end.end in
+    let l = inside (goal.at.begin_end-requires-clause-long c).In-loop-end in
+    omega (
+      arith,
+      c.requires.sums (round_of (side_frame c.args.side.now) (at_end z)) (w.end_round z l) (w.end_in z l),
+      c.loop-end.auto.sums,
+      c.end_sums.auto.sums,
+    )
+
+pub begin_end-requires-clause-few : goal.begin_end-requires-clause-few
+begin_end-requires-clause-few c =
+    let side = c.args.side.now in
+    let y = class_plan (side_frame side) (side_lists side) c.args.other.now in
+    let l = inside (goal.at.begin_end-requires-clause-few c).In-loop-end in
+    λ k lk.
+    let zero_on : 0 + (k - 1) ≡ k - 1 = omega arith in
+    omega (
+      arith,
+      few side y c.loop-end.end k l c.requires.other.plan.plan c.requires.one,
+      ap unsigned_abs (c.end_sums.ensures.here k lk),
+      ap (λ i. unsigned_abs (get_or c.end_sums.new.sums i (pos 0))) zero_on,
+    )
+
+pub loop-end-preserved : goal.loop-end-preserved
+loop-end-preserved c =
+    let side = c.args.side.now in
+    let none : ℕ → ℕ → ℤ = λ z k. pos 0 in
+    let all = end_sum (side_frame side) (side_lists side) side.player (class_plan (side_frame side) (side_lists side) c.args.other.now) in
+    let more : ℕ → ℤ = λ k. get_or c.end_sums.new.sums (k - 1) (pos 0) in
+    let z = c.loop-end.end in
+    record {
+      room = c.begin_end.ensures.room;
+      moved = c.begin_end.ensures.moved ∙ c.loop-end.invariant.moved;
+      picks = c.begin_end.ensures.picks ∙ c.loop-end.invariant.picks;
+      begun = λ h.
+          renewed_more (side_frame side) (side_lists side) side.player (walked side) none none all 0 z c.begin_end.new.tally more
+          (λ k lk.
+          let zero_on : 0 + (k - 1) ≡ k - 1 = omega arith in
+          let plus : more k ≡ pos 0 +ℤ more k = omega (arith, ints) in
+          sym (c.end_sums.ensures.here k lk) ∙ ap (λ i. get_or c.end_sums.new.sums i (pos 0)) zero_on ∙ plus)
+          (c.begin_end.ensures.begun none (renewed_before none all z) (c.loop-end.invariant.begun h));
+    }
+
+pub returns-clause-begun : goal.returns-clause-begun
+returns-clause-begun c =
+    let side = c.args.side.now in
+    let none : ℕ → ℕ → ℤ = λ z k. pos 0 in
+    let all = end_sum (side_frame side) (side_lists side) side.player (class_plan (side_frame side) (side_lists side) c.args.other.now) in
+    λ h.
+    renewed_all (side_frame side) (side_lists side) side.player (walked side) none none all 0 c.loop-end.end c.loop-end.tally
+    (λ z k ge lz lk. absurd (omega (arith, ge, lz, c.loop-end-test.false, c.end_total-end-end.ensures)))
+    (c.loop-end.invariant.begun h)

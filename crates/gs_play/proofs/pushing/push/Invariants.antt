@@ -1,0 +1,21 @@
+use Rattle.std.proofs.Common.{◌≡◌, ℕ}
+use Rattle.std.specs.Prelude.{ℤ}
+use Rattle.gs_game.specs.Seen.{step_of}
+use Rattle.gs_play.specs.Pushes.{IsPushed}
+use Rattle.gs_play.specs.Sides.{side_frame, side_lists}
+use Rattle.gs_play.specs.Tallies.{HasTallyRoom, IsTally}
+use Rattle.gs_play.proofs.Risen.{renewed_before}
+use Rattle.gs_play.proofs.pushing.push.Given as goal
+
+abbrev pub invariant-loop-end : goal.invariant-loop-end
+invariant-loop-end l =
+    let f = side_frame l.side in
+    let lists = side_lists l.side in
+    let player = l.side.player in
+    record {
+      room : HasTallyRoom f lists l.tally;
+      moved : l.tally.moved ≡ l.initial.tally.moved;
+      picks : l.tally.picks ≡ l.initial.tally.picks;
+      pushed : (pays rise rise' : ℕ → ℕ → ℤ) → IsPushed f lists player (step_of l.change.step) l.change.class l.change.is_on rise rise'
+          → IsTally f lists player pays rise l.now l.initial.tally → IsTally f lists player pays (renewed_before rise rise' l.end) l.now l.tally;
+    }

@@ -1,0 +1,394 @@
+//! The moves that a player's answer takes, and the player's weights so far.
+
+ghost use Rattle.std.specs.Prelude.{◌≡◌, ◌≢◌, ◌↔◌, ◌+◌, ◌<◌, ℕ, IfOk, IsTrue, Option, false, get_or, length, true};
+ghost use Rattle.gs_model.specs.{Classes.{IsClass}, Frame.{last_step, move_count, other_player, player_at, point_count, round_of}};
+ghost use Rattle.gs_model.specs.Positions.{Step as ModelStep, at_point};
+ghost use Rattle.gs_seq.specs.{Abstracts.{abstract_frame, lists_of}, Plans.{class_plan}, Slots.{slot_count}};
+ghost use Rattle.gs_best.specs.Tables.{AreInMoves, moves_of, start_of};
+ghost use Rattle.gs_play.specs.PlanSums.{ArePlansAlike};
+ghost use Rattle.gs_play.specs.{Plots.{IsRowIn}, Sides.{side_frame, side_lists}, Tallies.{HasMoved, HasTallyRoom}};
+ghost use Rattle.gs_play.specs.Answers.{AreKeptBut, AreRight, HasAnswer, IsElsewhere, IsGate, IsGateBefore, IsPaidOff, IsReached, IsRight, IsRightMove};
+ghost use Rattle.gs_play.specs.Answers.{IsStill, IsPassedOn, IsOtherMove, IsTurnedAt, plan_after};
+
+use crate::plot::Row;
+use crate::pushing::{Change, push};
+use crate::side::Side;
+use crate::tally::Tally;
+use gs_game::Step;
+use gs_seq::{Abstract, Plan};
+use std::alloc::{AllocError, Global};
+
+/// The mark of a class to which the answer does not come.
+const NONE: u8 = u8::MAX;
+
+/// A player's weights as they were when each move of the answer began to be taken, and the moves that it takes.
+#[derive(Drop)]
+pub(crate) struct Answer {
+    /// for each slot the weight, without the turns since which the present move is taken
+    pub(crate) weights: Vec<u64>,
+    /// for each cell the move that the answer takes, or `NONE`
+    pub(crate) taken: Vec<u8>,
+    /// for each cell the turn since which that is so
+    pub(crate) since: Vec<u32>,
+    /// for each point whether what is taken there was changed the last time that the answer was found again
+    pub(crate) turned: Vec<bool>,
+}
+
+/// A player's last step before a point: the row where it was made, and the move.
+#[derive(Clone, Copy)]
+struct Gate {
+    row: Row,
+    choice: u8,
+}
+
+/// Returns the last step before a point of the player who chooses there.
+fn gate_of(side: &Side<'_>, point: u32) -> Option<Gate>
+    requires { point < point_count (side_frame side.now) }
+    ensures { let f = side_frame side.now in IsGate f (side_lists side.now) (last_step f (player_at f point) (at_point point)) result }
+{
+    let step = side.form.game().points()[point as usize].own?;
+    Some(Gate {
+        row: side.plot.rows[step.point as usize],
+        choice: step.choice,
+    })
+}
+
+/// Returns whether the answer comes to a class of a round behind a player's last step: whether it takes the step, at the class above.
+fn is_reached(form: &Abstract, taken: &[u8], gate: Option<Gate>, round: u8, class: u32) -> bool
+    requires gate { IsGateBefore (abstract_frame form.now) (lists_of form.now) gate round }
+    requires class { IsClass (lists_of form.now) round class }
+    requires long { length taken.now ≡ start_of (abstract_frame form.now) (lists_of form.now) (point_count (abstract_frame form.now)) }
+    ensures { let f = abstract_frame form.now in let lists = lists_of form.now in
+        (step : Option ModelStep) → IsGate f lists step gate → IsTrue result ↔ IsReached f lists (moves_of f lists taken.now) step round class }
+{
+    match gate {
+        None => true,
+        Some(gate) => {
+            let up = form.class_above(round, gate.row.round, class) as usize - 1;
+            taken[gate.row.cell + up] == gate.choice
+        }
+    }
+}
+
+/// Adds to the weight of the move that is taken at a class of a point the turns since it began.
+fn pay_off(side: &Side<'_>, answer: &mut Answer, point: u32, class: u32, now: u32)
+    requires point { point < point_count (side_frame side.now) }
+    requires own { player_at (side_frame side.now) point ≡ side.now.player }
+    requires class { IsClass (side_lists side.now) (round_of (side_frame side.now) (at_point point)) class }
+    requires answer { HasAnswer (side_frame side.now) (side_lists side.now) side.now.player now answer.old }
+    ensures weights { let f = side_frame side.now in let lists = side_lists side.now in (q c m : ℕ) → q < point_count f → player_at f q ≡ side.now.player
+        → IsClass lists (round_of f (at_point q)) c → m < move_count f q → IsPaidOff f lists point class now q c m answer.old answer.new }
+    ensures long { length answer.new.weights.items ≡ length answer.old.weights.items }
+    ensures taken { answer.new.taken ≡ answer.old.taken }
+    ensures since { answer.new.since ≡ answer.old.since }
+    ensures turned { answer.new.turned ≡ answer.old.turned }
+{
+    let cell = side.plot.rows[point as usize].cell + class as usize - 1;
+    let old = answer.taken[cell];
+    if old != NONE {
+        let slot = side.form.slot(point, class, old) as usize;
+        answer.weights[slot] += u64::from(now - answer.since[cell]);
+    }
+}
+
+/// Takes another move at a class of a point from the turn `now` on, or none. The weight so far is written.
+fn turn(side: &Side<'_>, answer: &mut Answer, point: u32, class: u32, new: u8, now: u32)
+    requires point { point < point_count (side_frame side.now) }
+    requires own { player_at (side_frame side.now) point ≡ side.now.player }
+    requires class { IsClass (side_lists side.now) (round_of (side_frame side.now) (at_point point)) class }
+    requires new { new < 255 → new < move_count (side_frame side.now) point }
+    requires answer { HasAnswer (side_frame side.now) (side_lists side.now) side.now.player now answer.old }
+    ensures answer { HasAnswer (side_frame side.now) (side_lists side.now) side.now.player now answer.new }
+    ensures here { let f = side_frame side.now in let lists = side_lists side.now in moves_of f lists answer.new.taken.items point class ≡ new }
+    ensures turned { get_or answer.new.turned.items point false ≡ true }
+    ensures elsewhere { IsElsewhere (side_frame side.now) (side_lists side.now) point class answer.old answer.new }
+    ensures plan { let f = side_frame side.now in let lists = side_lists side.now in
+        ArePlansAlike f lists side.now.player (plan_after f lists answer.new now) (plan_after f lists answer.old now) }
+{
+    let cell = side.plot.rows[point as usize].cell + class as usize - 1;
+    pay_off(side, answer, point, class, now);
+    answer.taken[cell] = new;
+    answer.since[cell] = now;
+    answer.turned[point as usize] = true;
+}
+
+/// Tells the other player's class totals that a player takes a move at a class of a point from the turn `now` on in place of another one.
+/// One of the two may be `NONE`.
+fn tell(side: &Side<'_>, tally: &mut Tally, point: u32, class: u32, old: u8, new: u8, now: u32)
+    requires point { point < point_count (side_frame side.now) }
+    requires own { player_at (side_frame side.now) point ≡ side.now.player }
+    requires class { IsClass (side_lists side.now) (round_of (side_frame side.now) (at_point point)) class }
+    requires old { old < 255 → old < move_count (side_frame side.now) point }
+    requires new { new < 255 → new < move_count (side_frame side.now) point }
+    requires apart { old ≢ new }
+    requires room { HasTallyRoom (side_frame side.now) (side_lists side.now) tally.old }
+    ensures room { HasTallyRoom (side_frame side.now) (side_lists side.now) tally.new }
+    ensures moved { tally.new.moved ≡ tally.old.moved }
+    ensures picks { tally.new.picks ≡ tally.old.picks }
+    ensures told { let f = side_frame side.now in let lists = side_lists side.now in
+        (from to : ℕ → ℕ → ℕ) → IsOtherMove f lists point class old new from to
+        → IsPassedOn f lists (other_player side.now.player) now from to tally.old tally.new }
+{
+    let other = Side {
+        form: side.form,
+        player: 3 - side.player,
+        plot: side.plot,
+    };
+    let off = Change {
+        step: Step { point, choice: old },
+        class,
+        is_on: false,
+    };
+    let on = Change {
+        step: Step { point, choice: new },
+        class,
+        is_on: true,
+    };
+    if old == NONE {
+        push(&other, tally, on, now);
+        return;
+    }
+    push(&other, tally, off, now);
+    if new != NONE {
+        push(&other, tally, on, now);
+    }
+}
+
+/// Returns the move that is right at a class of a row: the chosen one where the answer comes there, else `NONE`.
+fn right_move(
+    form: &Abstract,
+    taken: &[u8],
+    picks: &[u8],
+    gate: Option<Gate>,
+    row: Row,
+    class: u32,
+) -> u8
+    requires row { IsRowIn (abstract_frame form.now) (lists_of form.now) row }
+    requires gate { IsGateBefore (abstract_frame form.now) (lists_of form.now) gate row.round }
+    requires class { IsClass (lists_of form.now) row.round class }
+    requires taken { length taken.now ≡ start_of (abstract_frame form.now) (lists_of form.now) (point_count (abstract_frame form.now)) }
+    requires picks { length picks.now ≡ start_of (abstract_frame form.now) (lists_of form.now) (point_count (abstract_frame form.now)) }
+    ensures { let f = abstract_frame form.now in let lists = lists_of form.now in (step : Option ModelStep) → IsGate f lists step gate
+        → IsRightMove f lists (moves_of f lists taken.now) (moves_of f lists picks.now) step row.point class result }
+{
+    if is_reached(form, taken, gate, row.round, class) {
+        picks[row.cell + class as usize - 1]
+    } else {
+        NONE
+    }
+}
+
+/// Finds the moves again that a player's answer takes at a point, from the choices there and from what it takes at the points before.
+/// The other player's class totals are told.
+fn renew_point(
+    side: &Side<'_>,
+    answer: &mut Answer,
+    picks: &[u8],
+    tally: &mut Tally,
+    point: u32,
+    now: u32,
+)
+    requires point { point < point_count (side_frame side.now) }
+    requires own { player_at (side_frame side.now) point ≡ side.now.player }
+    requires answer { HasAnswer (side_frame side.now) (side_lists side.now) side.now.player now answer.old }
+    requires long { length picks.now ≡ start_of (side_frame side.now) (side_lists side.now) (point_count (side_frame side.now)) }
+    requires moves { let f = side_frame side.now in let lists = side_lists side.now in AreInMoves f lists side.now.player (moves_of f lists picks.now) }
+    requires room { HasTallyRoom (side_frame side.now) (side_lists side.now) tally.old }
+    ensures answer { HasAnswer (side_frame side.now) (side_lists side.now) side.now.player now answer.new }
+    ensures right { let f = side_frame side.now in let lists = side_lists side.now in (c : ℕ) → IsClass lists (round_of f (at_point point)) c
+        → IsRight f lists (moves_of f lists answer.new.taken.items) (moves_of f lists picks.now) point c }
+    ensures turned { IsTurnedAt (side_frame side.now) (side_lists side.now) point answer.old answer.new }
+    ensures plan { let f = side_frame side.now in let lists = side_lists side.now in
+        ArePlansAlike f lists side.now.player (plan_after f lists answer.new now) (plan_after f lists answer.old now) }
+    ensures room { HasTallyRoom (side_frame side.now) (side_lists side.now) tally.new }
+    ensures moved { tally.new.moved ≡ tally.old.moved }
+    ensures picks { tally.new.picks ≡ tally.old.picks }
+    ensures told { let f = side_frame side.now in let lists = side_lists side.now in IsPassedOn f lists (other_player side.now.player) now
+        (moves_of f lists answer.old.taken.items) (moves_of f lists answer.new.taken.items) tally.old tally.new }
+{
+    let gate = gate_of(side, point);
+    let row = side.plot.rows[point as usize];
+    for class in 1..side.form.class_total(row.round) + 1 {
+        let cell = row.cell + class as usize - 1;
+        let old = answer.taken[cell];
+        let new = right_move(side.form, &answer.taken, picks, gate, row, class);
+        if old != new {
+            turn(side, answer, point, class, new, now);
+            tell(side, tally, point, class, old, new, now);
+        }
+    }
+}
+
+/// Returns whether what a player's answer takes at a point may have to be found again: a choice there has changed, or what is taken at the point of
+/// the player's last step before it has been changed.
+fn is_loose(side: &Side<'_>, answer: &Answer, moved: &[bool], point: u32) -> bool
+    requires point { point < point_count (side_frame side.now) }
+    requires turned { length answer.now.turned.items ≡ point_count (side_frame side.now) }
+    requires moved { length moved.now ≡ point_count (side_frame side.now) }
+    ensures { result ≡ false → IsStill (side_frame side.now) point moved.now answer.now.turned.items }
+{
+    if moved[point as usize] {
+        return true;
+    }
+    match gate_of(side, point) {
+        None => false,
+        Some(gate) => answer.turned[gate.row.point as usize],
+    }
+}
+
+/// Finds the moves again that a player's answer takes at a point, if the player chooses there and they may have to be found again.
+fn renew_at(
+    side: &Side<'_>,
+    answer: &mut Answer,
+    own: &Tally,
+    tally: &mut Tally,
+    point: u32,
+    now: u32,
+)
+    requires point { point < point_count (side_frame side.now) }
+    requires answer { HasAnswer (side_frame side.now) (side_lists side.now) side.now.player now answer.old }
+    requires own { HasTallyRoom (side_frame side.now) (side_lists side.now) own.now }
+    requires moves { let f = side_frame side.now in let lists = side_lists side.now in AreInMoves f lists side.now.player (moves_of f lists own.now.picks.items) }
+    requires right { let f = side_frame side.now in let lists = side_lists side.now in player_at f point ≡ side.now.player
+        → IsStill f point own.now.moved.items answer.old.turned.items → (c : ℕ) → IsClass lists (round_of f (at_point point)) c
+        → IsRight f lists (moves_of f lists answer.old.taken.items) (moves_of f lists own.now.picks.items) point c }
+    requires room { HasTallyRoom (side_frame side.now) (side_lists side.now) tally.old }
+    ensures answer { HasAnswer (side_frame side.now) (side_lists side.now) side.now.player now answer.new }
+    ensures right { let f = side_frame side.now in let lists = side_lists side.now in player_at f point ≡ side.now.player → (c : ℕ)
+        → IsClass lists (round_of f (at_point point)) c
+        → IsRight f lists (moves_of f lists answer.new.taken.items) (moves_of f lists own.now.picks.items) point c }
+    ensures turned { IsTurnedAt (side_frame side.now) (side_lists side.now) point answer.old answer.new }
+    ensures plan { let f = side_frame side.now in let lists = side_lists side.now in
+        ArePlansAlike f lists side.now.player (plan_after f lists answer.new now) (plan_after f lists answer.old now) }
+    ensures room { HasTallyRoom (side_frame side.now) (side_lists side.now) tally.new }
+    ensures moved { tally.new.moved ≡ tally.old.moved }
+    ensures picks { tally.new.picks ≡ tally.old.picks }
+    ensures told { let f = side_frame side.now in let lists = side_lists side.now in IsPassedOn f lists (other_player side.now.player) now
+        (moves_of f lists answer.old.taken.items) (moves_of f lists answer.new.taken.items) tally.old tally.new }
+{
+    answer.turned[point as usize] = false;
+    if side.plot.rows[point as usize].player == side.player
+        && is_loose(side, answer, &own.moved, point)
+    {
+        renew_point(side, answer, &own.picks, tally, point, now);
+    }
+}
+
+/// Finds a player's answer again where the player's choices have changed. The other player's class totals in `tally` are told: what has changed is
+/// taken from the turn `now` on.
+pub(crate) fn renew(
+    side: &Side<'_>,
+    answer: &mut Answer,
+    own: &mut Tally,
+    tally: &mut Tally,
+    now: u32,
+)
+    requires answer { HasAnswer (side_frame side.now) (side_lists side.now) side.now.player now answer.old }
+    requires own { HasTallyRoom (side_frame side.now) (side_lists side.now) own.old }
+    requires room { HasTallyRoom (side_frame side.now) (side_lists side.now) tally.old }
+    requires moves { let f = side_frame side.now in let lists = side_lists side.now in AreInMoves f lists side.now.player (moves_of f lists own.old.picks.items) }
+    requires right { let f = side_frame side.now in let lists = side_lists side.now in (q c : ℕ) → q < point_count f → player_at f q ≡ side.now.player
+        → IsClass lists (round_of f (at_point q)) c → (HasMoved own.old q → ⊥)
+        → IsRight f lists (moves_of f lists answer.old.taken.items) (moves_of f lists own.old.picks.items) q c }
+    ensures answer { HasAnswer (side_frame side.now) (side_lists side.now) side.now.player now answer.new }
+    ensures right { let f = side_frame side.now in let lists = side_lists side.now in
+        AreRight f lists side.now.player (moves_of f lists answer.new.taken.items) (moves_of f lists own.new.picks.items) }
+    ensures plan { let f = side_frame side.now in let lists = side_lists side.now in
+        ArePlansAlike f lists side.now.player (plan_after f lists answer.new now) (plan_after f lists answer.old now) }
+    ensures own { HasTallyRoom (side_frame side.now) (side_lists side.now) own.new }
+    ensures still { (q : ℕ) → q < point_count (side_frame side.now) → HasMoved own.new q → ⊥ }
+    ensures own_worths { own.new.worths ≡ own.old.worths }
+    ensures own_totals { own.new.totals ≡ own.old.totals }
+    ensures own_dues { own.new.dues ≡ own.old.dues }
+    ensures own_picks { own.new.picks ≡ own.old.picks }
+    ensures room { HasTallyRoom (side_frame side.now) (side_lists side.now) tally.new }
+    ensures moved { tally.new.moved ≡ tally.old.moved }
+    ensures picks { tally.new.picks ≡ tally.old.picks }
+    ensures told { let f = side_frame side.now in let lists = side_lists side.now in IsPassedOn f lists (other_player side.now.player) now
+        (moves_of f lists answer.old.taken.items) (moves_of f lists answer.new.taken.items) tally.old tally.new }
+{
+    for point in 0..side.form.point_total() {
+        renew_at(side, answer, own, tally, point, now);
+        own.moved[point as usize] = false;
+    }
+}
+
+/// Takes the first move at each class of a point to which the answer comes.
+fn take_first(side: &Side<'_>, taken: &mut [u8], point: u32)
+    requires point { point < point_count (side_frame side.now) }
+    requires long { length taken.old ≡ start_of (side_frame side.now) (side_lists side.now) (point_count (side_frame side.now)) }
+    requires none { (c : ℕ) → IsClass (side_lists side.now) (round_of (side_frame side.now) (at_point point)) c
+        → moves_of (side_frame side.now) (side_lists side.now) taken.old point c ≡ 255 }
+    ensures first { (c : ℕ) → IsClass (side_lists side.now) (round_of (side_frame side.now) (at_point point)) c
+        → IsRight (side_frame side.now) (side_lists side.now) (moves_of (side_frame side.now) (side_lists side.now) taken.new) (λ q c. 0) point c }
+    ensures elsewhere { AreKeptBut (side_frame side.now) (side_lists side.now) point taken.old taken.new }
+{
+    let gate = gate_of(side, point);
+    let row = side.plot.rows[point as usize];
+    for class in 1..side.form.class_total(row.round) + 1 {
+        if is_reached(side.form, taken, gate, row.round, class) {
+            taken[row.cell + class as usize - 1] = 0;
+        }
+    }
+}
+
+/// Returns the answer that takes the first move everywhere, from turn 0 on.
+pub(crate) fn first_answer(alloc: Global, side: &Side<'_>) -> Result<Answer, AllocError>
+    ensures answer { IfOk result (HasAnswer (side_frame side.now) (side_lists side.now) side.now.player 0) }
+    ensures right { let f = side_frame side.now in let lists = side_lists side.now in
+        IfOk result (λ a. AreRight f lists side.now.player (moves_of f lists a.taken.items) (λ q c. 0)) }
+{
+    let cells = side.plot.points.len();
+    let mut taken = vec![in alloc; NONE; cells]?;
+    for point in 0..side.form.point_total() {
+        if side.plot.rows[point as usize].player == side.player {
+            take_first(side, &mut taken, point);
+        }
+    }
+    let slots = side.form.sequences(side.player) as usize - 1;
+    Ok(Answer {
+        weights: vec![in alloc; 0u64; slots]?,
+        taken,
+        since: vec![in alloc; 0u32; cells]?,
+        turned: vec![in alloc; false; side.plot.rows.len()]?,
+    })
+}
+
+/// Takes no move any more at the classes of a point. The weights so far are written.
+fn stop_at(side: &Side<'_>, answer: &mut Answer, point: u32, last: u32)
+    requires point { point < point_count (side_frame side.now) }
+    requires own { player_at (side_frame side.now) point ≡ side.now.player }
+    requires answer { HasAnswer (side_frame side.now) (side_lists side.now) side.now.player last answer.old }
+    ensures answer { HasAnswer (side_frame side.now) (side_lists side.now) side.now.player last answer.new }
+    ensures none { (c : ℕ) → IsClass (side_lists side.now) (round_of (side_frame side.now) (at_point point)) c
+        → moves_of (side_frame side.now) (side_lists side.now) answer.new.taken.items point c ≡ 255 }
+    ensures elsewhere { AreKeptBut (side_frame side.now) (side_lists side.now) point answer.old.taken.items answer.new.taken.items }
+    ensures plan { let f = side_frame side.now in let lists = side_lists side.now in
+        ArePlansAlike f lists side.now.player (plan_after f lists answer.new last) (plan_after f lists answer.old last) }
+{
+    for class in 1..side.form.class_total(side.form.round_at(point)) + 1 {
+        turn(side, answer, point, class, NONE, last);
+    }
+}
+
+/// Returns the plan that a player has in the turn `last`.
+pub(crate) fn finish(side: &Side<'_>, mut answer: Answer, last: u32) -> Plan
+    requires { HasAnswer (side_frame side.now) (side_lists side.now) side.now.player last answer }
+    ensures player { result.player ≡ side.now.player }
+    ensures total { result.total ≡ last }
+    ensures long { length result.weights.items ≡ slot_count (side_frame side.now) (side_lists side.now) side.now.player }
+    ensures plan { let f = side_frame side.now in let lists = side_lists side.now in
+        ArePlansAlike f lists side.now.player (class_plan f lists result) (plan_after f lists answer last) }
+{
+    for point in 0..side.form.point_total() {
+        if side.plot.rows[point as usize].player == side.player {
+            stop_at(side, &mut answer, point, last);
+        }
+    }
+    let Answer { weights, .. } = answer;
+    Plan {
+        player: side.player,
+        total: u64::from(last),
+        weights,
+    }
+}

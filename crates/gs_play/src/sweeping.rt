@@ -1,0 +1,127 @@
+//! Class totals found again where they are due, from the last cell to the first.
+
+ghost use Rattle.std.specs.Prelude.{◌≡◌, ◌+◌, ◌*◌, ◌<◌, ◌≤◌, ◌^◌, ℕ, ℤ, length, slice_index};
+ghost use Rattle.gs_model.specs.{Classes.{IsClass}, Frame.{point_count, round_of}, Positions.{at_point}};
+ghost use Rattle.gs_seq.specs.Abstracts.{abstract_frame, lists_of};
+ghost use Rattle.gs_best.specs.Tables.{classes_at, start_of};
+ghost use Rattle.gs_play.specs.{DueTurns.{IsNoneDue}, Plots.{IsRowIn, IsWayIn}, Sides.{side_frame, side_lists}};
+ghost use Rattle.gs_play.specs.Tallies.{AreSmallAtEnds, FeedsAbove, HasTallyRoom, IsLineFound, IsTally, TellsMoves, up_of};
+
+use crate::dues::{renew, set_due};
+use crate::line::{Line, above, sum};
+use crate::plot::{Row, Way};
+use crate::side::Side;
+use crate::tally::{Tally, add_up, choose};
+use gs_seq::Abstract;
+
+/// Adds a line to what a move is worth to the class above a class of the round to which it leads. The cell of that class is due.
+pub(crate) fn feed(form: &Abstract, tally: &mut Tally, way: Way, class: u32, more: Line)
+    requires way { IsWayIn (abstract_frame form.now) (lists_of form.now) way }
+    requires class { IsClass (lists_of form.now) way.round class }
+    requires room { HasTallyRoom (abstract_frame form.now) (lists_of form.now) tally.old }
+    ensures room { HasTallyRoom (abstract_frame form.now) (lists_of form.now) tally.new }
+    ensures class { IsClass (lists_of form.now) way.row.round (up_of (abstract_frame form.now) (lists_of form.now) way class) }
+    ensures fed { FeedsAbove (abstract_frame form.now) (lists_of form.now) way class more tally.old tally.new }
+    ensures moved { tally.new.moved ≡ tally.old.moved }
+{
+    let up = form.class_above(way.round, way.row.round, class) as usize - 1;
+    let place = way.row.worth + (up * way.row.moves + usize::from(way.choice));
+    tally.worths[place] = sum(tally.worths[place], more);
+    set_due(&mut tally.dues, way.row.cell + up, 0);
+}
+
+/// Finds the class total of a cell of a row again from the worths of its moves.
+fn find(side: &Side<'_>, tally: &mut Tally, cell: usize, row: Row, now: u32, last: u32)
+    requires row { IsRowIn (side_frame side.now) (side_lists side.now) row }
+    requires from { row.cell ≤ cell }
+    requires below { cell < row.cell + classes_at (side_frame side.now) (side_lists side.now) row.point }
+    requires room { HasTallyRoom (side_frame side.now) (side_lists side.now) tally.old }
+    requires order { now < last }
+    requires turns { last ≤ 2 ^ 20 }
+    ensures room { HasTallyRoom (side_frame side.now) (side_lists side.now) tally.new }
+    ensures found { IsLineFound side.now.player row cell now last tally.old tally.new }
+    ensures tells { TellsMoves (side_frame side.now) (side_lists side.now) tally.old tally.new }
+{
+    let first = row.worth + (cell - row.cell) * row.moves;
+    if row.player == side.player {
+        choose(tally, row.point as usize, cell, first, row.moves, now, last);
+    } else {
+        add_up(tally, cell, first, row.moves, last);
+    }
+}
+
+/// Finds the class total of a cell again. If it has changed, the worth that it counts for changes as much.
+fn settle(side: &Side<'_>, tally: &mut Tally, cell: usize, now: u32, last: u32)
+    requires cell { cell < start_of (side_frame side.now) (side_lists side.now) (point_count (side_frame side.now)) }
+    requires room { HasTallyRoom (side_frame side.now) (side_lists side.now) tally.old }
+    requires order { now < last }
+    requires turns { last ≤ 2 ^ 20 }
+    ensures room { HasTallyRoom (side_frame side.now) (side_lists side.now) tally.new }
+    ensures later { now < slice_index tally.new.dues.turns.items cell }
+    ensures behind { (k : ℕ) → cell < k → slice_index tally.new.dues.turns.items k ≡ slice_index tally.old.dues.turns.items k }
+    ensures tells { TellsMoves (side_frame side.now) (side_lists side.now) tally.old tally.new }
+    ensures kept { (pays rise : ℕ → ℕ → ℤ) → AreSmallAtEnds (side_frame side.now) (side_lists side.now) side.now.player pays rise
+        → IsNoneDue tally.old.dues.turns.items (cell + 1) (length tally.old.dues.turns.items) now
+        → IsTally (side_frame side.now) (side_lists side.now) side.now.player pays rise now tally.old
+        → IsTally (side_frame side.now) (side_lists side.now) side.now.player pays rise now tally.new }
+{
+    let row = side.plot.rows[side.plot.points[cell] as usize];
+    let old = tally.totals[cell];
+    find(side, tally, cell, row, now, last);
+    let new = tally.totals[cell];
+    if new == old {
+        return;
+    }
+    if let Some(step) = side.plot.to_points[row.point as usize] {
+        let way = Way {
+            row: side.plot.rows[step.point as usize],
+            choice: step.choice,
+            round: row.round,
+        };
+        let class = (cell - row.cell) as u32 + 1;
+        feed(side.form, tally, way, class, above(new, old));
+    }
+}
+
+/// Finds the class totals of a block of cells again that are due in the turn `now`.
+fn sweep_block(side: &Side<'_>, tally: &mut Tally, block: usize, now: u32, last: u32)
+    requires block { block < length tally.old.dues.soonest.items }
+    requires room { HasTallyRoom (side_frame side.now) (side_lists side.now) tally.old }
+    requires order { now < last }
+    requires turns { last ≤ 2 ^ 20 }
+    requires behind { IsNoneDue tally.old.dues.turns.items (block * 64 + 64) (length tally.old.dues.turns.items) now }
+    ensures room { HasTallyRoom (side_frame side.now) (side_lists side.now) tally.new }
+    ensures settled { IsNoneDue tally.new.dues.turns.items (block * 64) (length tally.new.dues.turns.items) now }
+    ensures tells { TellsMoves (side_frame side.now) (side_lists side.now) tally.old tally.new }
+    ensures kept { (pays rise : ℕ → ℕ → ℤ) → AreSmallAtEnds (side_frame side.now) (side_lists side.now) side.now.player pays rise
+        → IsTally (side_frame side.now) (side_lists side.now) side.now.player pays rise now tally.old
+        → IsTally (side_frame side.now) (side_lists side.now) side.now.player pays rise now tally.new }
+{
+    let from = block * 64;
+    let stop = tally.totals.len().min(from + 64);
+    for cell in (from..stop).rev() {
+        if tally.dues.turns[cell] <= now {
+            settle(side, tally, cell, now, last);
+        }
+    }
+    renew(&mut tally.dues, block, from, stop);
+}
+
+/// Finds all class totals again that are due in the turn `now`.
+pub(crate) fn sweep(side: &Side<'_>, tally: &mut Tally, now: u32, last: u32)
+    requires room { HasTallyRoom (side_frame side.now) (side_lists side.now) tally.old }
+    requires order { now < last }
+    requires turns { last ≤ 2 ^ 20 }
+    ensures room { HasTallyRoom (side_frame side.now) (side_lists side.now) tally.new }
+    ensures settled { IsNoneDue tally.new.dues.turns.items 0 (length tally.new.dues.turns.items) now }
+    ensures tells { TellsMoves (side_frame side.now) (side_lists side.now) tally.old tally.new }
+    ensures kept { (pays rise : ℕ → ℕ → ℤ) → AreSmallAtEnds (side_frame side.now) (side_lists side.now) side.now.player pays rise
+        → IsTally (side_frame side.now) (side_lists side.now) side.now.player pays rise now tally.old
+        → IsTally (side_frame side.now) (side_lists side.now) side.now.player pays rise now tally.new }
+{
+    for block in (0..tally.dues.soonest.len()).rev() {
+        if tally.dues.soonest[block] <= now {
+            sweep_block(side, tally, block, now, last);
+        }
+    }
+}
