@@ -2,11 +2,12 @@
 use Rattle.std.proofs.Common.{◌≡◌, ℕ, ◌+◌, ◌-◌, ◌<◌, ◌≤◌, List, length, get_or, sym, ap, ◌∙◌, subst, arith}
 use Rattle.std.specs.Prelude.{ℤ, pos, unsigned_abs}
 use Rattle.gs_model.specs.{Classes.{ClassLists, IsClass, class_count}, Frame.{Frame, leads_to, move_count, point_count, round_of}}
-use Rattle.gs_model.specs.Positions.{Target, at_point}
+use Rattle.gs_model.specs.Positions.{Target, at_end, at_point}
+use Rattle.gs_seq.specs.Payoffs.{end_sum}
 use Rattle.gs_seq.proofs.SlotLaws.{sum_range_le}
 use Rattle.gs_best.specs.{Rows.{AreWorths}, Tables.{classes_at, start_of}, ClassTotals.{gathered_below, total_worth}}
 use Rattle.gs_best.specs.{LaterRows.{AreGathered, row_from, IsLaterRow, IsRowOf}, Rooms.{IsLaid, IsWide}}
-use Rattle.gs_best.specs.{Sides.{frame_at, lists_at, totals_at}, Spots.{frame_on, lists_on, totals_on}, declared.row.Row.{Row}}
+use Rattle.gs_best.specs.{Sides.{frame_at, lists_at, plan_at, totals_at}, Spots.{frame_on, lists_on, totals_on}, declared.row.Row.{Row}}
 use Rattle.gs_best.specs.{declared.tables.Table.{Table}, declared.side.Side.{Side}, declared.spot.Spot.{Spot}}
 use Rattle.gs_best.proofs.{Players.{walked}, Placed.{IsRow, row_next, row_read}, Gathered.{gathered_same}}
 
@@ -49,6 +50,17 @@ held_at_point s values r t q is round start same = subst (λ t. IsRowOf (frame_a
   round_is = round;
   values_are = λ c lc. ap (λ s. get_or r.values.now (s + (c - 1)) (pos 0)) start
       ∙ ap (λ l. get_or l (start_of (frame_at s) (lists_at s) q + (c - 1)) (pos 0)) same;
+})
+
+-- the row of an end holds what the end pays, from the first place on
+pub held_at_end : (s : Side) (values : List ℤ) (r : Row) (t : Target) (z : ℕ) → t ≡ at_end z → r.round ≡ round_of (frame_at s) (at_end z) → r.start ≡ 0
+    → ((c : ℕ) → IsClass (lists_at s) (round_of (frame_at s) (at_end z)) c
+    → get_or r.values.now (c - 1) (pos 0) ≡ end_sum (frame_at s) (lists_at s) s.player (plan_at s) z c)
+    → IsRowOf (frame_at s) (lists_at s) (totals_at s values) t r
+held_at_end s values r t z is round start paid = subst (λ t. IsRowOf (frame_at s) (lists_at s) (totals_at s values) t r) (sym is) (record {
+  round_is = round;
+  values_are = λ c lc.
+      let here : r.start + (c - 1) ≡ c - 1 = omega (arith, start) in ap (λ i. get_or r.values.now i (pos 0)) here ∙ paid c lc;
 })
 
 module _ (at : Spot) (m : ℕ) (lm : m < move_count (frame_on at) at.point) (r : Row)

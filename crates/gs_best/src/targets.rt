@@ -37,7 +37,7 @@ pub(crate) fn row_to<'r>(
         },
         Target::End(end) => {
             let round = form.end_round(end);
-            form.end_sums(side.player, side.other, end, 0, row, numbers);
+            form.end_sums(side.player, side.other, end, row, numbers);
             Row {
                 round,
                 values: row,

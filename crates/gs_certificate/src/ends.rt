@@ -35,7 +35,7 @@ fn sums_in(
     for end in 0..ends {
         let count = side.form.class_total(side.form.end_round(end)) as usize;
         side.form
-            .end_sums(side.player, side.other, end, 0, row, numbers);
+            .end_sums(side.player, side.other, end, row, numbers);
         starts.push(sums.len())?;
         sums.extend_from_slice(&row[..count])?;
     }

@@ -204,8 +204,7 @@ fn begin_ends(
         → IsTally f lists player (λ z c. pos 0) (end_sum f lists player (class_plan f lists other.now)) 0 tally.new }
 {
     for end in 0..side.form.end_total() {
-        side.form
-            .end_sums(side.player, other, end, 0, sums, numbers);
+        side.form.end_sums(side.player, other, end, sums, numbers);
         begin_end(side, tally, end, sums);
     }
 }

@@ -61,14 +61,13 @@ impl<'a> Abstract<'a> {
         self.classes().classes(self.end_in(end).round)
     }
 
-    /// Writes `end_sum` at each own class into `sums`, from the place `start` on: what an end pays a player against a plan of the other player.
+    /// Writes `end_sum` at each own class into `sums`, class by class: what an end pays a player against a plan of the other player.
     /// Leaves the rest of `sums` as it is. Overwrites `numbers` with the other player's numbers at the end.
     pub fn end_sums(
         &self,
         player: u8,
         other: &Plan,
         end: u32,
-        start: usize,
         sums: &mut [i128],
         numbers: &mut [u64],
     )
@@ -77,20 +76,17 @@ impl<'a> Abstract<'a> {
         requires other { IsPlanOf (abstract_frame self.now) (lists_of self.now) (other_player player) other.now }
         requires end { end < end_count (abstract_frame self.now) }
         requires wide { end_classes (abstract_frame self.now) (lists_of self.now) end ≤ length numbers.old }
-        requires room { start + end_classes (abstract_frame self.now) (lists_of self.now) end ≤ length sums.old }
+        requires room { end_classes (abstract_frame self.now) (lists_of self.now) end ≤ length sums.old }
         ensures here { let f = abstract_frame self.now in let lists = lists_of self.now in
-            (c : ℕ) → IsClass lists (round_of f (at_end end)) c → get_or sums.new (start + (c - 1)) (pos 0)
-            ≡ end_sum f lists player (class_plan f lists other.now) end c }
-        ensures before { (i : ℕ) → i < start → get_or sums.new i (pos 0) ≡ get_or sums.old i (pos 0) }
-        ensures behind { (i : ℕ) → start + end_classes (abstract_frame self.now) (lists_of self.now) end ≤ i
-            → get_or sums.new i (pos 0) ≡ get_or sums.old i (pos 0) }
+            (c : ℕ) → IsClass lists (round_of f (at_end end)) c → get_or sums.new (c - 1) (pos 0) ≡ end_sum f lists player (class_plan f lists other.now) end c }
+        ensures behind { (i : ℕ) → end_classes (abstract_frame self.now) (lists_of self.now) end ≤ i → get_or sums.new i (pos 0) ≡ get_or sums.old i (pos 0) }
         ensures numbers { let f = abstract_frame self.now in let lists = lists_of self.now in
             AreNumbersAt f lists (other_player player) (class_plan f lists other.now) end numbers.new }
     {
         self.read_numbers(other, end, numbers);
         match self.order_in(self.end_in(end).round) {
-            Some(order) => self.pay_along(order, player, end, numbers, start, sums),
-            None => self.pay_all(player, end, numbers, start, sums),
+            Some(order) => self.pay_along(order, player, end, numbers, sums),
+            None => self.pay_all(player, end, numbers, sums),
         }
     }
 
@@ -101,7 +97,6 @@ impl<'a> Abstract<'a> {
         player: u8,
         end: u32,
         numbers: &[u64],
-        start: usize,
         sums: &mut [i128],
     )
         requires some { 0 < player }
@@ -111,16 +106,14 @@ impl<'a> Abstract<'a> {
         requires single { IsSingleIn (lists_of self.now) (last_round (abstract_frame self.now)) }
         requires order { HasSumsOf (rules_of order.now.signals.now) (rules_of self.now.lossless.now.signals.now) }
         requires wide { end_classes (abstract_frame self.now) (lists_of self.now) end ≤ length numbers.now }
-        requires room { start + end_classes (abstract_frame self.now) (lists_of self.now) end ≤ length sums.old }
+        requires room { end_classes (abstract_frame self.now) (lists_of self.now) end ≤ length sums.old }
         ensures here { let f = abstract_frame self.now in let lists = lists_of self.now in
-            (c : ℕ) → IsClass lists (round_of f (at_end end)) c → get_or sums.new (start + (c - 1)) (pos 0) ≡ number_sum f lists player numbers.now end c }
-        ensures before { (i : ℕ) → i < start → get_or sums.new i (pos 0) ≡ get_or sums.old i (pos 0) }
-        ensures behind { (i : ℕ) → start + end_classes (abstract_frame self.now) (lists_of self.now) end ≤ i
-            → get_or sums.new i (pos 0) ≡ get_or sums.old i (pos 0) }
+            (c : ℕ) → IsClass lists (round_of f (at_end end)) c → get_or sums.new (c - 1) (pos 0) ≡ number_sum f lists player numbers.now end c }
+        ensures behind { (i : ℕ) → end_classes (abstract_frame self.now) (lists_of self.now) end ≤ i → get_or sums.new i (pos 0) ≡ get_or sums.old i (pos 0) }
     {
-        let stop = start + self.end_class_total(end) as usize;
+        let stop = self.end_class_total(end) as usize;
         let pays = pays_at(player, self.end_in(end));
-        order.deal_sums(pays, numbers, &mut sums[start..stop]);
+        order.deal_sums(pays, numbers, &mut sums[0..stop]);
     }
 
     /// Writes into `numbers` a plan's numbers at an end, class by class.
@@ -139,23 +132,21 @@ impl<'a> Abstract<'a> {
         }
     }
 
-    /// Writes into `sums`, from the place `start` on, what an end pays a player at each own class, from the other player's numbers there.
+    /// Writes into `sums` what an end pays a player at each own class, class by class, from the other player's numbers there.
     /// Leaves the rest of `sums` as it is.
-    fn pay_all(&self, player: u8, end: u32, numbers: &[u64], start: usize, sums: &mut [i128])
+    fn pay_all(&self, player: u8, end: u32, numbers: &[u64], sums: &mut [i128])
         requires some { 0 < player }
         requires two { player ≤ 2 }
         requires end { end < end_count (abstract_frame self.now) }
         requires wide { end_classes (abstract_frame self.now) (lists_of self.now) end ≤ length numbers.now }
         requires few { AreFew (end_classes (abstract_frame self.now) (lists_of self.now) end) numbers.now }
-        requires room { start + end_classes (abstract_frame self.now) (lists_of self.now) end ≤ length sums.old }
+        requires room { end_classes (abstract_frame self.now) (lists_of self.now) end ≤ length sums.old }
         ensures here { let f = abstract_frame self.now in let lists = lists_of self.now in
-            (c : ℕ) → IsClass lists (round_of f (at_end end)) c → get_or sums.new (start + (c - 1)) (pos 0) ≡ number_sum f lists player numbers.now end c }
-        ensures before { (i : ℕ) → i < start → get_or sums.new i (pos 0) ≡ get_or sums.old i (pos 0) }
-        ensures behind { (i : ℕ) → start + end_classes (abstract_frame self.now) (lists_of self.now) end ≤ i
-            → get_or sums.new i (pos 0) ≡ get_or sums.old i (pos 0) }
+            (c : ℕ) → IsClass lists (round_of f (at_end end)) c → get_or sums.new (c - 1) (pos 0) ≡ number_sum f lists player numbers.now end c }
+        ensures behind { (i : ℕ) → end_classes (abstract_frame self.now) (lists_of self.now) end ≤ i → get_or sums.new i (pos 0) ≡ get_or sums.old i (pos 0) }
     {
         for before in 0..self.end_class_total(end) {
-            sums[start + before as usize] = self.paid(player, end, before + 1, numbers);
+            sums[before as usize] = self.paid(player, end, before + 1, numbers);
         }
     }
 

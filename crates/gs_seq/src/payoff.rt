@@ -158,7 +158,7 @@ impl<'a> Abstract<'a> {
         ensures { result ≡ payoff_at (abstract_frame self.now) (lists_of self.now) (class_plan (abstract_frame self.now) (lists_of self.now) x.now)
             (class_plan (abstract_frame self.now) (lists_of self.now) y.now) end }
     {
-        self.end_sums(1, y, end, 0, sums, numbers);
+        self.end_sums(1, y, end, sums, numbers);
         let mut sum = 0i128;
         for before in 0..self.end_class_total(end) {
             let number = self.number_at_end(x, end, before + 1);

@@ -1,9 +1,9 @@
-use Rattle.std.proofs.Common.{◌<◌, List, length, ap, subst, arith}
+use Rattle.std.proofs.Common.{◌<◌, List, length, ap, refl, subst, arith}
 use Rattle.std.specs.Prelude.{ℤ}
 use Rattle.gs_model.specs.{Classes.{class_count}, Frame.{end_count, point_count, round_of}, FrameFacts.{IsInside}, Positions.{at_end}}
 use Rattle.gs_game.specs.Seen.{target_of}
 use Rattle.gs_best.specs.{Tables.{classes_at}, Sides.{frame_at, lists_at}}
-use Rattle.gs_best.proofs.{Placed.{IsRow}, SpotRows.{held_at_point, point_row}, Players.{walked}}
+use Rattle.gs_best.proofs.{Placed.{IsRow}, SpotRows.{held_at_end, held_at_point, point_row}, Players.{walked}}
 use Rattle.gs_best.proofs.targets.row_to.Goals.{After-index, In-End, In-Point}
 use Rattle.gs_best.proofs.targets.row_to.Goals as goal
 
@@ -42,6 +42,11 @@ pub returns-in-Point-clause-room : goal.returns-in-Point-clause-room
 returns-in-Point-clause-room c =
     let at = goal.at.returns-in-Point-clause-room c in
     omega (arith, (row at.After-index (point at.In-Point)).within, c.requires.laid.holds.totals, ap (λ (l : List ℤ). length l) c.deref.ensures.value)
+
+pub returns-in-End-clause-held : goal.returns-in-End-clause-held
+returns-in-End-clause-held c =
+    held_at_end c.args.side.now c.args.table.now.totals.items _ (target_of c.args.target) c.in-End.end (ap target_of c.in-End.is)
+    c.end_round-round.ensures.value refl c.end_sums.ensures.here
 
 pub returns-in-End-clause-room : goal.returns-in-End-clause-room
 returns-in-End-clause-room c =

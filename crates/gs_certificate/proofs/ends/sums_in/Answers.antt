@@ -54,7 +54,7 @@ loop-end-preserved c =
     let long = length-take-le n paid wide ∙ count in
     let more = kept_more f ls d.player y z starts sums (take n paid) c.loop-end.invariant long
     (λ k lk. get_or-take n paid (k - 1) (pos 0) (omega (arith, lk.0, lk.1, count))
-    ∙ (let at : k - 1 ≡ 0 + (k - 1) = omega arith in ap (λ i. get_or paid i (pos 0)) at) ∙ c.end_sums.ensures.here k lk) in
+    ∙ c.end_sums.ensures.here k lk) in
     let places : c.push.new.self.items ≡ starts ++ length sums ∷ [] = c.in_ok-push.ensures.items
     ∙ ap (λ m. starts ++ m ∷ []) (c.len.ensures ∙ c.loop-end.sums.ok.0) in
     let all : c.extend_from_slice.new.self.items ≡ sums ++ take n paid = c.in_ok-extend_from_slice.ensures.items in

@@ -88,12 +88,10 @@ begin_end-requires-clause-few c =
     let y = class_plan (side_frame side) (side_lists side) c.args.other.now in
     let l = inside (goal.at.begin_end-requires-clause-few c).In-loop-end in
     λ k lk.
-    let zero_on : 0 + (k - 1) ≡ k - 1 = omega arith in
     omega (
       arith,
       few side y c.loop-end.end k l c.requires.other.plan.plan c.requires.one,
       ap unsigned_abs (c.end_sums.ensures.here k lk),
-      ap (λ i. unsigned_abs (get_or c.end_sums.new.sums i (pos 0))) zero_on,
     )
 
 pub loop-end-preserved : goal.loop-end-preserved
@@ -110,9 +108,8 @@ loop-end-preserved c =
       begun = λ h.
           renewed_more (side_frame side) (side_lists side) side.player (walked side) none none all 0 z c.begin_end.new.tally more
           (λ k lk.
-          let zero_on : 0 + (k - 1) ≡ k - 1 = omega arith in
           let plus : more k ≡ pos 0 +ℤ more k = omega (arith, ints) in
-          sym (c.end_sums.ensures.here k lk) ∙ ap (λ i. get_or c.end_sums.new.sums i (pos 0)) zero_on ∙ plus)
+          sym (c.end_sums.ensures.here k lk) ∙ plus)
           (c.begin_end.ensures.begun none (renewed_before none all z) (c.loop-end.invariant.begun h));
     }
 

@@ -5,7 +5,6 @@ use Rattle.gs_seq.proofs.form.Abstract.pay_all.Given as goal
 
 abbrev pub invariant-loop-before : goal.invariant-loop-before
 invariant-loop-before l = let f = abstract_frame l.self in let lists = lists_of l.self in record {
-  here : (k : ℕ) → k < l.before → get_or l.sums (l.start + k) (pos 0) ≡ number_sum f lists l.player l.numbers l.end (k + 1);
-  behind : (i : ℕ) → l.start + l.before ≤ i → get_or l.sums i (pos 0) ≡ get_or l.initial.sums i (pos 0);
-  before : (i : ℕ) → i < l.start → get_or l.sums i (pos 0) ≡ get_or l.initial.sums i (pos 0);
+  here : (k : ℕ) → k < l.before → get_or l.sums k (pos 0) ≡ number_sum f lists l.player l.numbers l.end (k + 1);
+  behind : (i : ℕ) → l.before ≤ i → get_or l.sums i (pos 0) ≡ get_or l.initial.sums i (pos 0);
 }

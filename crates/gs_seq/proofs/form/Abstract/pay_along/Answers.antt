@@ -22,8 +22,8 @@ deal_sums-requires-clause-sums c =
     let a = c.args.self.now in
     let h = a.lossless.now.parents in
     let count = single_count a.lossless.now.signals.now.game.now a.lossless.now.classes.now h c.requires.single in
-    let here = mid_len c.args.start (c.args.start + c.end_class_total.result) c.args.sums.now (omega (arith, c.end_class_total.ensures, c.requires.room)) in
-    omega (arith, here, c.end_class_total.ensures, c.requires.order.count, count, ap (class_count (lists_of a)) c.requires.last)
+    let here = mid_len 0 c.end_class_total-stop.result c.args.sums.now (omega (arith, c.end_class_total-stop.ensures, c.requires.room)) in
+    omega (arith, here, c.end_class_total-stop.ensures, c.requires.order.count, count, ap (class_count (lists_of a)) c.requires.last)
 
 pub returns-clause-here : goal.returns-clause-here
 returns-clause-here c = λ k class. (
@@ -33,20 +33,20 @@ returns-clause-here c = λ k class. (
     let z = c.args.end in
     let s = k - 1 in
     let sums = c.args.sums.now in
-    let start = c.args.start in
     let new : List ℤ = c.deal_sums.new.sums in
-    let after = post_of start (start + c.end_class_total.result - start) sums in
+    let after = post_of 0 (c.end_class_total-stop.result - 0) sums in
     let h = a.lossless.now.parents in
     let count = single_count g cls h c.requires.single in
     let last = ap (class_count (lists_of a)) c.requires.last in
-    let here = mid_len start (start + c.end_class_total.result) sums (omega (arith, c.end_class_total.ensures, c.requires.room)) in
-    let long : length new ≡ last_count (game_of g.game) = omega (arith, c.deal_sums.auto.sums, here, c.end_class_total.ensures, count, last) in
+    let here = mid_len 0 c.end_class_total-stop.result sums (omega (arith, c.end_class_total-stop.ensures, c.requires.room)) in
+    let long : length new ≡ last_count (game_of g.game) = omega (arith, c.deal_sums.auto.sums, here, c.end_class_total-stop.ensures, count, last) in
     let within : s < last_count (game_of g.game) = omega (arith, class.0, class.1, count, last) in
-    let front = length-take-le start sums (omega (arith, c.requires.room)) in
+    let front = length-take-le 0 sums (omega arith) in
     let w = given_in a in
     let same : (d : Deal) → pos d.weight *ℤ paid c.pays_at-pays.result d.outcome ≡ pair_pays c.args.player (end_at (abstract_frame a) z) (deal_pair d) =
     λ d. c.pays_at-pays.ensures d ∙ ap (λ e. pair_pays c.args.player e (deal_pair d)) c.end_in.ensures.value in
-    get_or-append_right (take start sums) (new ++ after) start (start + s) (pos 0) front (omega arith)
+    (let at : s ≡ 0 + s = omega arith in ap (λ i. get_or (take 0 sums ++ (new ++ after)) i (pos 0)) at)
+    ∙ get_or-append_right (take 0 sums) (new ++ after) 0 (0 + s) (pos 0) front (omega arith)
     ∙ ap (λ i. get_or (new ++ after) i (pos 0)) (omega arith)
     ∙ get_or_append_left new after (pos 0) s (omega (arith, long, within))
     ∙ c.deal_sums.ensures s (omega (arith, within, c.requires.order.count))

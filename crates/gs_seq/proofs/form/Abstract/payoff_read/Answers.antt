@@ -7,8 +7,8 @@ use Rattle.gs_seq.proofs.form.Abstract.payoff_read.Goals.{After-number_at_end-nu
 use Rattle.gs_seq.proofs.form.Abstract.payoff_read.Goals as goal
 
 -- what the list has of a class
-read_at : (sums : List ℤ) (n : ℕ) (w : ℤ) → get_or sums (0 + (n + 1 - 1)) (pos 0) ≡ w → get_or sums n (pos 0) ≡ w
-read_at sums n w h = let at : n ≡ 0 + (n + 1 - 1) = omega arith in ap (λ i. get_or sums i (pos 0)) at ∙ h
+read_at : (sums : List ℤ) (n : ℕ) (w : ℤ) → get_or sums (n + 1 - 1) (pos 0) ≡ w → get_or sums n (pos 0) ≡ w
+read_at sums n w h = let at : n ≡ n + 1 - 1 = omega arith in ap (λ i. get_or sums i (pos 0)) at ∙ h
 
 -- the class, its number and what the end pays there
 next : (c : After-number_at_end-number) → FitsSigned w128 (get_or c.end_sums.new.sums c.loop-before.before (pos 0))
