@@ -12,7 +12,7 @@ use Rattle.gs_json.specs.Steps.{Then, ◌>>=◌}
 use Rattle.gs_model.proofs.{Push.{le_greatest}, Ranges.{in_range}, Walked.{walked_one, walked_two}, Deviations.{lift_is_raw_plan}, Tables.{is_table}}
 use Rattle.gs_model.proofs.{Gather.{known_from, firsts_from, plan_by}, Alike.{keeps_from}}
 use Rattle.gs_model.specs.{Classes.{ClassLists, list_of}, Frame.{Frame, last_round}, FrameFacts.{InRange, IsWalked}, Game.{IsPlayable}, Plans.{IsRawPlan}}
-use Rattle.gs_strategy.specs.Checks.{AreClasses, After, Checked, IsCanonical, IsClassFault, IsPlanFault, Reads, ReadsClasses, ReadsParts, ReadsPlan}
+use Rattle.gs_strategy.specs.Checks.{AreClasses, After, Checked, ChecksClasses, ChecksPlan, IsCanonical, IsClassFault, IsPlanFault, Reads, ReadsClasses, ReadsParts, ReadsPlan}
 use Rattle.gs_strategy.specs.{Confirmed.{raw_plan}, Faults.{Fault, classes, fraction as no_fraction, plan, shape}}
 use Rattle.gs_strategy.specs.Laws.{AreWeights, IsStrategy}
 use Rattle.gs_strategy.specs.Reading.{Whole, class_lists_at, fraction_at, json_at, numbers_at, of_fraction, of_game, parts_at, stored_game_at}
@@ -125,6 +125,17 @@ numbers_ok parts n e =
     fraction_ok of_part d p e =
         let (words, ew, e1) = after (ok_or (as_str d) (shape of_part)) _ p e in
         read_fraction words p (of_ok of_part (fraction_of words) p e1)
+
+-- a strategy by its game, its classes, its plans and its numbers, each as it was checked
+pub checked_strategy : (version : Version) (parts : Whole) (s : Strategy) (lists : ClassLists) (one two : Weights)
+    → stored_game_at version parts.game ≡ Ok s.game → ChecksClasses s.game lists (Ok s.classes) → ChecksPlan s.game s.classes 1 one (Ok s.one)
+    → ChecksPlan s.game s.classes 2 two (Ok s.two) → numbers_at parts ≡ Ok s.numbers → IsStrategy version s
+checked_strategy version parts s lists one two eg c first second en =
+    strategy_is version s (json_told version parts.game s.game (game_ok (json_game_at version parts.game) s.game eg))
+    (checked_ok (AreClasses s.game) (IsClassFault s.game) classes (Ok lists) s.classes c)
+    (checked_ok (ArePlanWeights s.game s.classes 1) (IsPlanFault s.game s.classes 1) (plan 1) (Ok one) s.one first)
+    (checked_ok (ArePlanWeights s.game s.classes 2) (IsPlanFault s.game s.classes 2) (plan 2) (Ok two) s.two second)
+    (numbers_ok parts s.numbers en)
 
 parts_read : (version : Version) (parts : Whole) (s : Strategy) → ReadsParts version parts (Ok s) → IsStrategy version s
 parts_read version parts s h =

@@ -1,0 +1,36 @@
+use Rattle.std.proofs.Common.{◌≡◌, Ok, Err, ap, inl, inr, refl, subst, sym, ◌∙◌}
+use Rattle.gs_file.specs.Views.{valid_view}
+use Rattle.gs_filter.specs.{Faults.{IsFaultOf}, Filter.{AreParents}}
+use Rattle.gs_model.specs.{Classes.{ClassLists}, Rows.{rows}}
+use Rattle.gs_lossless.proofs.Descent.{are_parents}
+use Rattle.gs_seq.specs.Games.{frame_in}
+use Rattle.gs_strategy.specs.{Checks.{ChecksClasses}, Faults.{classes}}
+use Rattle.gs_strategy.proofs.Refused.{classes_fail, same_classes}
+use Rattle.gs_strategy.proofs.reading.classes_from.Goals.{After-parents}
+use Rattle.gs_strategy.proofs.reading.classes_from.Goals as goal
+
+-- the parents of the signals are those of the game
+parents : (c : After-parents) → rows c.parents.result.now ≡ (frame_in c.args.game.now).parents
+parents c = c.parents.ensures ∙ ap (λ g. (frame_in g).parents) c.in_ok-signals.ensures
+
+pub new-requires : goal.new-requires
+new-requires c = subst AreParents (sym c.parents.ensures) (are_parents c.in_ok-signals.signals)
+
+pub returns-in-Ok-clause-parents : goal.returns-in-Ok-clause-parents
+returns-in-Ok-clause-parents c = c.in-Ok.ensures.parents ∙ parents (goal.at.returns-in-Ok-clause-parents c).After-parents
+
+pub returns-in-Ok-clause-checked : goal.returns-in-Ok-clause-checked
+returns-in-Ok-clause-checked c =
+    let k = c.in-Ok.classes in
+    let same = c.in-Ok.ensures.parents ∙ parents (goal.at.returns-in-Ok-clause-checked c).After-parents in
+    inl (
+      same_classes k.parents (frame_in c.args.game.now).parents k.lists (rows c.args.lists.items) same c.in-Ok.ensures.lists c.in-Ok.ensures.classes,
+      ap (λ (l : ClassLists). Ok l) c.in-Ok.ensures.lists,
+    )
+
+pub returns-clause-checked : goal.returns-clause-checked
+returns-clause-checked c =
+    let lists = rows c.args.lists.items in
+    let why = c.in-Err.fault in
+    let broken = subst (λ p. IsFaultOf p lists why) (parents (goal.at.returns-clause-checked c).After-parents) c.in-Err.ensures.refused in
+    rw c.from.ensures (classes_fail why (ChecksClasses (valid_view c.args.game.now) lists) (λ some. inr (why, (some, broken), refl)))

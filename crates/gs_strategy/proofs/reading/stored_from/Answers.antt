@@ -1,0 +1,7 @@
+use Rattle.gs_strategy.specs.Views.{stated_weights, stored_view, whole_view}
+use Rattle.gs_strategy.proofs.Strategies.{checked_strategy}
+use Rattle.gs_strategy.proofs.reading.stored_from.Goals as goal
+
+pub returns : goal.returns
+returns c = checked_strategy c.args.version (whole_view c.args.parts.now) _ _ _ _ c.in_ok-game.ensures c.in_ok-classes.ensures.checked
+    c.in_ok-one.ensures.checked c.in_ok-two.ensures.checked c.in_ok-verdict.ensures
