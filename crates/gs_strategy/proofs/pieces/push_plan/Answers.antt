@@ -1,4 +1,4 @@
-use Rattle.std.proofs.Common.{◌≡◌, ◌∷◌, [], ◌++◌, codes, decimal, List, ℕ, ap, ◌∙◌}
+use Rattle.std.proofs.Common.{◌++◌, codes, decimal, List, ℕ, ap, ◌∙◌}
 use Rattle.serde_json.proofs.OnLiterals.{serde_json_on_literals}
 use Rattle.serde_json.specs.Written.{compact_text}
 use Rattle.gs_strategy.specs.Texts.{numbers_data}

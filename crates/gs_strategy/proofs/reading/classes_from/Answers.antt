@@ -1,10 +1,10 @@
-use Rattle.std.proofs.Common.{◌≡◌, Ok, Err, ap, inl, inr, refl, subst, sym, ◌∙◌}
+use Rattle.std.proofs.Common.{◌≡◌, Ok, ap, inl, inr, refl, subst, sym, ◌∙◌}
 use Rattle.gs_file.specs.Views.{valid_view}
 use Rattle.gs_filter.specs.{Faults.{IsFaultOf}, Filter.{AreParents}}
 use Rattle.gs_model.specs.{Classes.{ClassLists}, Rows.{rows}}
 use Rattle.gs_lossless.proofs.Descent.{are_parents}
 use Rattle.gs_seq.specs.Games.{frame_in}
-use Rattle.gs_strategy.specs.{Checks.{ChecksClasses}, Faults.{classes}}
+use Rattle.gs_strategy.specs.Checks.{ChecksClasses}
 use Rattle.gs_strategy.proofs.Refused.{classes_fail, same_classes}
 use Rattle.gs_strategy.proofs.reading.classes_from.Goals.{After-parents}
 use Rattle.gs_strategy.proofs.reading.classes_from.Goals as goal

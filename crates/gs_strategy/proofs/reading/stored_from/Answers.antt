@@ -1,4 +1,4 @@
-use Rattle.gs_strategy.specs.Views.{stated_weights, stored_view, whole_view}
+use Rattle.gs_strategy.specs.Views.{whole_view}
 use Rattle.gs_strategy.proofs.Strategies.{checked_strategy}
 use Rattle.gs_strategy.proofs.reading.stored_from.Goals as goal
 
