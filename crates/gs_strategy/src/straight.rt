@@ -1,7 +1,7 @@
-//! The lists of a strategy's text, read straight: without a value of JSON for each number.
+//! Reads the lists of a strategy's text straight from its bytes, without a value of JSON for each number.
 //!
-//! What is found need not stand in the bytes: whoever takes it compares the text of the strategy with them. So nothing is proved here but that each call is
-//! safe and ends. A fault says only that the bytes were not read straight.
+//! The lists need not be those of the bytes: the caller compares the text of the strategy with them. So the functions here have no clauses. A fault means
+//! only that the bytes were not read this way.
 
 use crate::fault::StoreFault;
 use std::alloc::Global;
