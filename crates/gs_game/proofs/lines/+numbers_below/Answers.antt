@@ -1,4 +1,5 @@
 use Rattle.std.proofs.Common.{◌≡◌, ◌∙◌, arith}
+use Rattle.std.proofs.lemmas.Grind.{common_steps}
 use Rattle.gs_model.specs.Betting.{act}
 use Rattle.gs_bet.specs.{TreeView.{plain, plain_moves}, declared.shape.Act.{out-Act}}
 use Rattle.gs_bet.proofs.TreeLaws.{plain-act, plain_act-out}
@@ -18,3 +19,6 @@ numbers_below-below-requires t c =
     let points = rw step at c.loop-next.invariant.points in
     let ends = rw step at c.loop-next.invariant.ends in
     (omega (arith, fallen, c.decreases), (omega (arith, points, c.requires.points), omega (arith, ends, c.requires.ends)))
+
+pub loop-next-preserved : goal.loop-next-preserved
+loop-next-preserved t c = grind (arith, common_steps)

@@ -12,3 +12,21 @@ numbers_in-requires t c =
     let behind = behind_first (plain c.first-item.result.tree.tree) (plain_trees (take (length c.args.rounds.now - 1) (drop 1 c.args.rounds.now))) 0 0
     (record { evens = rw e at c.requires.evens; few_points = omega (arith, points); few_ends = omega (arith, ends) }) in
     (grind (arith, common_steps), (behind.evens, (behind.points_in_them, behind.ends_in_them)))
+
+pub numbers_below-requires-clause-points : goal.numbers_below-requires-clause-points
+numbers_below-requires-clause-points t c = grind (arith, common_steps)
+
+pub numbers_below-requires-clause-ends : goal.numbers_below-requires-clause-ends
+numbers_below-requires-clause-ends t c = grind (arith, common_steps)
+
+pub returns-in-empty-clause-points : goal.returns-in-empty-clause-points
+returns-in-empty-clause-points t c = grind (arith, common_steps)
+
+pub returns-in-empty-clause-ends : goal.returns-in-empty-clause-ends
+returns-in-empty-clause-ends t c = grind (arith, common_steps)
+
+pub returns-in-len1-up-clause-points : goal.returns-in-len1-up-clause-points
+returns-in-len1-up-clause-points t c = grind (arith, common_steps)
+
+pub returns-in-len1-up-clause-ends : goal.returns-in-len1-up-clause-ends
+returns-in-len1-up-clause-ends t c = grind (arith, common_steps)

@@ -1,4 +1,5 @@
 use Rattle.std.proofs.Common.{◌≡◌, ◌∙◌, refl, arith}
+use Rattle.std.proofs.lemmas.Grind.{common_steps}
 use Rattle.gs_bet.specs.{TreeView.{plain, plain_moves}, declared.shape.Act.{out-Act}}
 use Rattle.gs_model.specs.Betting.{act}
 use Rattle.gs_bet.proofs.TreeLaws.{plain-act, plain_act-out}
@@ -23,3 +24,6 @@ find_uneven-requires t c =
       fits_after c.args.put.one c.args.put.two (out-Act c.in-Act.act).player c.next-item.result.letter c.next-item.result.chips
           (plain c.next-item.result.next) _ _ _ _ c.loop-next.invariant.fits step c.after.ensures.one c.after.ensures.two,
     )
+
+pub loop-next-preserved : goal.loop-next-preserved
+loop-next-preserved t c = grind (arith, common_steps)
