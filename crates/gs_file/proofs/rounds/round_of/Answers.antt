@@ -1,0 +1,8 @@
+use Rattle.std.proofs.Common.{arith}
+use Rattle.std.proofs.lemmas.Grind.{common_steps}
+use Rattle.gs_file.specs.Reading.{round_table_at}
+use Rattle.gs_file.proofs.rounds.round_of.Goals as goal
+
+pub returns : goal.returns
+unfolding round_table_at
+returns c = grind (arith, common_steps)
