@@ -1,3 +1,4 @@
+use Rattle.std.proofs.lemmas.Grind.{common_steps}
 use Rattle.std.proofs.{Common.{◌≡◌, [], ◌<◌, ℕ, List, length, sym, ◌∙◌, subst, arith}, lemmas.List.Elements.{All-push}}
 use Rattle.std.specs.Prelude.{All}
 use Rattle.gs_card.specs.Rankings.{ranking_of}
@@ -29,3 +30,9 @@ loop-signal-preserved c =
       within = subst P (sym c.in_ok-push.ensures.items) (All-push (IsStrength (ranking_of c.args.game.now.ranking)) c.loop-signal.found.items
           c.strength_of.result c.loop-signal.invariant.within c.strength_of.ensures.within);
     }
+
+pub returns-clause-value : goal.returns-clause-value
+returns-clause-value c = grind (arith, common_steps)
+
+pub returns-clause-within : goal.returns-clause-within
+returns-clause-within c = grind (arith, common_steps)
