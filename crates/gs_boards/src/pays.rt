@@ -7,7 +7,7 @@ use crate::place::Place;
 use crate::running::Running;
 
 /// What a player wins in a deal of an end, in chips.
-#[derive(Clone, Copy, Debug, PartialEq, Eq)]
+#[derive(Clone, Copy)]
 pub enum Pays {
     /// The same in each deal, as at a fold.
     Fixed(i32),

@@ -6,7 +6,7 @@ ghost use Rattle.gs_boards.specs.Runs.{arrived, passed_by};
 use crate::place::Place;
 
 /// The sums of a walk over the places: what it has passed on the board that it is on, and what of this has the strength that it is at.
-#[derive(Clone, Copy, Debug)]
+#[derive(Clone, Copy)]
 pub(crate) struct Running {
     pub(crate) board: u32,
     pub(crate) strength: u32,

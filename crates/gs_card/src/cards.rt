@@ -5,7 +5,7 @@ ghost use Rattle.std.specs.{Prelude.{◌≡◌}, Iterator.{YieldsFirst, item_cou
 use std::marker::Model;
 
 /// A kind of card, by its number from 0.
-#[derive(Clone, Copy, PartialEq, Eq, PartialOrd, Ord, Hash, Debug)]
+#[derive(Clone, Copy)]
 pub struct Card(u8);
 
 impl Model for Card {
@@ -35,7 +35,7 @@ impl Card {
 }
 
 /// An iterator over cards with consecutive numbers.
-#[derive(Clone, Drop, Debug)]
+#[derive(Clone, Drop)]
 pub struct Cards {
     pub(crate) next: u8,
     pub(crate) end: u8,

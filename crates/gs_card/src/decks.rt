@@ -14,7 +14,7 @@ use std::alloc::{AllocError, Global};
 use std::marker::Model;
 
 /// The kinds of cards of a game: each pair of a rank and a suit, with the number of its copies. Ranks stand from the lowest to the highest.
-#[derive(Drop, Debug)]
+#[derive(Drop)]
 pub struct Deck {
     ranks: Vec<u8>,
     suits: Vec<u8>,

@@ -3,7 +3,7 @@
 use std::alloc::AllocError;
 
 /// Why three texts make no deck. The first reason that applies is returned.
-#[derive(Clone, Copy, PartialEq, Eq, Debug)]
+#[derive(Clone, Copy, Debug)]
 pub enum DeckFault {
     /// There are no ranks, or no suits.
     NoCards,

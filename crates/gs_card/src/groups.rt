@@ -8,7 +8,7 @@ use std::alloc::{AllocError, Global};
 use std::marker::Model;
 
 /// A group of cards, in ascending order. A card occurs in it as often as the group has copies of it.
-#[derive(Drop, Debug)]
+#[derive(Drop)]
 pub struct Group {
     cards: Vec<Card>,
 }

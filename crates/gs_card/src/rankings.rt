@@ -5,7 +5,7 @@ ghost use Rattle.gs_model.specs.Outcome.{categories};
 ghost use Rattle.gs_card.specs.Rankings.{ranking_of};
 
 /// How hands are ranked: by the own card, by the own card and a pair with the public cards, or by three cards.
-#[derive(Clone, Copy, PartialEq, Eq, Debug)]
+#[derive(Clone, Copy)]
 pub enum Ranking {
     High,
     Pair,

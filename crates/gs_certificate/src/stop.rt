@@ -7,7 +7,7 @@ use crate::fault::CertFault;
 use std::alloc::AllocError;
 
 /// Why a check ends without an answer: the first thing that is wrong with the certificate, or out of memory.
-#[derive(Clone, Copy, Debug, PartialEq, Eq)]
+#[derive(Clone, Copy)]
 pub enum CertStop {
     /// The certificate does not hold.
     Fault(CertFault),

@@ -9,7 +9,7 @@ use gs_game::GameFault;
 use std::alloc::{AllocError, AllocFailed};
 
 /// A key of the game file.
-#[derive(Clone, Copy, Debug, PartialEq, Eq)]
+#[derive(Clone, Copy)]
 pub enum Key {
     Version,
     Ranks,
@@ -52,14 +52,14 @@ impl Key {
 }
 
 /// A key, and the round that it stands in, or 0 outside the rounds.
-#[derive(Clone, Copy, Debug, PartialEq, Eq)]
+#[derive(Clone, Copy)]
 pub struct Place {
     pub key: Key,
     pub round: u8,
 }
 
 /// The first fault of a game file, or that memory ran out. The checks are made in the order of the file's description.
-#[derive(Debug, Drop)]
+#[derive(Drop)]
 pub enum FileFault {
     /// The bytes are not UTF-8.
     NotText,

@@ -15,7 +15,7 @@ use std::marker::Model;
 /// At a betting point a class is what the literature calls an information set after abstraction, or a bucket.
 ///
 /// The filter keeps its own copy of the parents. Rounds count from 1, signals from 0, and classes from 1 in order of their first members.
-#[derive(Debug, Drop)]
+#[derive(Drop)]
 pub struct Classes {
     parents: Vec<Vec<u32>>,
     lists: Vec<Vec<u32>>,

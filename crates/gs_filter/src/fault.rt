@@ -8,7 +8,7 @@ use std::error::Error;
 use std::fmt;
 
 /// The first rule that class lists break. Rounds count from 1, places in a list from 0.
-#[derive(Clone, Copy, Debug, PartialEq, Eq, Hash)]
+#[derive(Clone, Copy, Debug)]
 pub enum ClassFault {
     /// One side lacks this round, or the round's class list and parent list differ in length.
     Length { round: u32 },

@@ -9,14 +9,14 @@ use crate::rows::of_round;
 use std::alloc::{AllocFailed, Global};
 
 /// The size and the first member of a class.
-#[derive(Clone, Copy, Debug)]
+#[derive(Clone, Copy)]
 pub(crate) struct Tally {
     pub(crate) size: u32,
     pub(crate) first: u32,
 }
 
 /// Why a list could not be tallied.
-#[derive(Clone, Copy, Debug)]
+#[derive(Clone, Copy)]
 pub(crate) enum Stop {
     /// The number at this place is 0, or more than one above the greatest before it.
     Unseen(u32),

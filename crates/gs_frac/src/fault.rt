@@ -4,7 +4,7 @@ use std::error::Error;
 use std::fmt;
 
 /// The first rule that a text breaks.
-#[derive(Clone, Copy, Debug, PartialEq, Eq, Hash)]
+#[derive(Clone, Copy, Debug, PartialEq, Eq)]
 pub enum FracFault {
     /// The text is not an optional `-`, digits, `/` and digits, without leading zeros; or it begins with `-0`.
     NotFraction,

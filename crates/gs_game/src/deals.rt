@@ -125,7 +125,7 @@ fn check_counts(game: &Game, left: &mut [u8], sizes: &[u8], weight: u64) -> Resu
 }
 
 /// The number of a game's deals and the sum of their weights.
-#[derive(Clone, Copy, Debug, PartialEq, Eq)]
+#[derive(Clone, Copy)]
 pub struct DealTotals {
     pub count: u32,
     pub weight: u64,

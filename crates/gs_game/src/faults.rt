@@ -6,7 +6,7 @@ ghost use Rattle.gs_game.specs.declared.faults.GameFault.TheVariants.{Memory};
 use std::alloc::AllocError;
 
 /// Why a game is refused. The first reason that applies is returned, in this order.
-#[derive(Debug, Drop)]
+#[derive(Drop)]
 pub enum GameFault {
     /// There is no round, or there are more than 4; `count` is their number.
     Rounds { count: u64 },

@@ -17,7 +17,7 @@ pub use standard::{StdSink, StdSource};
 pub use whole::{read_all, write_all};
 
 /// A read or a write that failed.
-#[derive(Clone, Copy, Debug, PartialEq, Eq)]
+#[derive(Clone, Copy)]
 pub struct Failed;
 
 // Adds one to the count and returns the failure.
@@ -30,7 +30,7 @@ fn count_fault(faults: &mut u64) -> Failed
 }
 
 /// The reason why a read of all bytes stopped.
-#[derive(Clone, Copy, Debug, PartialEq, Eq)]
+#[derive(Clone, Copy)]
 pub enum ReadStop {
     /// A read failed.
     Fault,

@@ -3,7 +3,7 @@
 use std::marker::Model;
 
 /// A leaf under a last-round signal: the number of ways to take the opponent's groups, and the outcome for the signal's player.
-#[derive(Clone, Copy, Debug, PartialEq, Eq)]
+#[derive(Clone, Copy, PartialEq, Eq)]
 pub(crate) struct Leaf {
     pub ways: u64,
     pub outcome: i8,
@@ -20,7 +20,7 @@ impl Model for Leaf {
 }
 
 /// A child of a signal: the weight of the edge to it, and its number.
-#[derive(Clone, Copy, Debug, PartialEq, Eq, Hash)]
+#[derive(Clone, Copy, PartialEq, Eq, Hash)]
 pub(crate) struct Child {
     pub edge: u64,
     pub number: u32,
@@ -37,7 +37,7 @@ impl Model for Child {
 }
 
 /// The key that decides a signal's class: the class of its parent, and its number.
-#[derive(Clone, Copy, Debug, PartialEq, Eq, Hash)]
+#[derive(Clone, Copy, PartialEq, Eq, Hash)]
 pub(crate) struct ClassKey {
     pub above: u32,
     pub number: u32,

@@ -8,7 +8,7 @@ use std::marker::Model;
 use thiserror::Error;
 
 /// A bipartite graph: two sides of nodes, each counted from 0, and edges from left to right.
-#[derive(Debug, Drop)]
+#[derive(Drop)]
 pub struct Graph {
     pub left: u32,
     pub right: u32,
@@ -24,7 +24,7 @@ impl Model for Graph {
 }
 
 /// For each left node the right node that it is matched with.
-#[derive(Debug, Drop)]
+#[derive(Drop)]
 pub struct Match {
     pub to: Vec<u32>,
 }

@@ -8,7 +8,7 @@ use std::alloc::{AllocError, Global};
 
 /// A left node of the search, and the right node it is matched with. `from` is the place of a visit whose left node has an edge to that right node.
 /// The first visit has no right node; its `right` and `from` are 0.
-#[derive(Clone, Copy, Debug)]
+#[derive(Clone, Copy)]
 pub(crate) struct Visit {
     pub(crate) left: u32,
     pub(crate) right: u32,
@@ -16,7 +16,7 @@ pub(crate) struct Visit {
 }
 
 /// What a search found.
-#[derive(Debug, Drop)]
+#[derive(Drop)]
 pub(crate) enum Found {
     /// A free right node, a neighbour of the left node of the visit at this place.
     Free {

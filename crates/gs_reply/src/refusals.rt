@@ -12,7 +12,7 @@ use std::alloc::{AllocError, AllocFailed};
 use std::fmt;
 
 /// What there is too much of, and how much.
-#[derive(Clone, Copy, Debug)]
+#[derive(Clone, Copy)]
 pub enum Limit {
     /// Sequences of a player.
     Sequences { player: u8, count: u64 },
@@ -25,7 +25,7 @@ pub enum Limit {
 }
 
 /// What of a solution is too large.
-#[derive(Clone, Copy, Debug)]
+#[derive(Clone, Copy)]
 pub enum Overflow {
     /// A number of the path.
     AtStep {
@@ -42,7 +42,7 @@ pub enum Overflow {
 }
 
 /// Which of a command's strategy files: its only one, or the first or the second of two.
-#[derive(Clone, Copy, Debug, PartialEq, Eq)]
+#[derive(Clone, Copy)]
 pub enum Which {
     Only,
     First,
@@ -50,7 +50,7 @@ pub enum Which {
 }
 
 /// A stated number, by its name, that differs from the computed one.
-#[derive(Clone, Copy, Debug)]
+#[derive(Clone, Copy)]
 pub struct WrongNumber {
     pub name: &'static str,
     pub stated: Fraction,
@@ -58,7 +58,7 @@ pub struct WrongNumber {
 }
 
 /// Why an input is refused.
-#[derive(Debug, Drop)]
+#[derive(Drop)]
 pub enum Refusal {
     /// It is not a valid game file.
     BadGame(FileFault),
@@ -90,7 +90,7 @@ pub enum Refusal {
 }
 
 /// Why a command prints nothing: it refuses its input, or memory ran out.
-#[derive(Debug, Drop)]
+#[derive(Drop)]
 pub enum Stop {
     Refused(Refusal),
     Memory,

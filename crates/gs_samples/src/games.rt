@@ -7,7 +7,7 @@ ghost use Rattle.gs_model.specs.Outcome.{IsBonus};
 
 use gs_bet::{TreeFault, parse_tree};
 use gs_card::{Deck, DeckFault, Ranking};
-use gs_game::{Game, GameFault, Round, ValidGame};
+use gs_game::{Game, Round, ValidGame};
 use std::alloc::{AllocError, Global};
 
 /// Kuhn's game of three cards.
@@ -34,7 +34,8 @@ pub enum SampleFault {
     Tree(TreeFault),
     /// A bonus, the ante or a round's number of cards is out of the range of game files.
     Range,
-    Game(GameFault),
+    /// The rules refuse the game.
+    Game,
     Memory,
 }
 
@@ -139,5 +140,5 @@ pub fn game_of(alloc: Global, line: &str) -> Result<ValidGame, SampleFault> {
         ante,
         rounds: rounds_of(alloc, &parts[3..])?,
     };
-    game.check(alloc).map_err(SampleFault::Game)
+    game.check(alloc).map_err(|_| SampleFault::Game)
 }

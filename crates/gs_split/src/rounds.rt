@@ -14,7 +14,7 @@ use std::mem;
 const KEPT: usize = 4096;
 
 /// The key that decides a signal's new class: its old class, the new class of its parent, and the number of its sums.
-#[derive(Clone, Copy, Debug, PartialEq, Eq, Hash)]
+#[derive(Clone, Copy, PartialEq, Eq, Hash)]
 pub(crate) struct TurnKey {
     pub before: u32,
     pub above: u32,

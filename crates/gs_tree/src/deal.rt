@@ -3,7 +3,7 @@
 use std::marker::Model;
 
 /// A deal: a last-round signal for each player. These two determine its weight and its outcome.
-#[derive(Clone, Copy, Debug, PartialEq, Eq)]
+#[derive(Clone, Copy)]
 pub struct Deal {
     /// Player 1's signal of the last round, by its place.
     pub one: u32,

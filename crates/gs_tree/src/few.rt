@@ -5,7 +5,7 @@ ghost use Rattle.std.specs.Prelude.{◌≡◌, ◌≤◌, length};
 use gs_card::{Card, Group};
 
 /// At most three cards, in ascending order, kept in place.
-#[derive(Clone, Copy, Debug)]
+#[derive(Clone, Copy)]
 pub(crate) struct FewCards {
     pub(crate) cards: [Card; 3],
     pub(crate) len: u8,

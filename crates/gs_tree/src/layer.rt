@@ -13,14 +13,14 @@ use gs_game::Round;
 use std::alloc::{AllocError, Global};
 
 /// The own group and the public group that the last round of a signal shows.
-#[derive(Clone, Copy, Debug)]
+#[derive(Clone, Copy)]
 pub(crate) struct Shown {
     pub(crate) own: FewCards,
     pub(crate) public: FewCards,
 }
 
 /// One of the two sides of what a signal shows.
-#[derive(Clone, Copy, Debug)]
+#[derive(Clone, Copy)]
 pub(crate) enum Side {
     Own,
     Public,
@@ -81,7 +81,7 @@ pub(crate) fn left_without(
 }
 
 /// What the signals of one round add to their parents, in order: the groups that they show, and the number of ways to take these.
-#[derive(Drop, Debug)]
+#[derive(Drop)]
 pub(crate) struct Layer {
     pub(crate) shown: Vec<Shown>,
     pub(crate) edges: Ways,

@@ -13,7 +13,7 @@ fn are_ones(numbers: &[u64]) -> bool
 }
 
 /// A list of numbers. As long as each is 1 they are counted and not stored, so a deck of single cards stores none.
-#[derive(Drop, Debug)]
+#[derive(Drop)]
 pub(crate) struct Ways {
     // how many come first that are 1
     ones: u32,

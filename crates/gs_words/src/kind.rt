@@ -4,7 +4,7 @@ ghost use Rattle.std.specs.Prelude.{◌≡◌, map};
 ghost use Rattle.gs_words.specs.Made.{ante_of, ranking_word, three_numbers, rounds_of};
 
 /// A well-known game.
-#[derive(Clone, Copy, Debug, PartialEq, Eq, Hash)]
+#[derive(Clone, Copy)]
 pub enum Kind {
     /// Kuhn poker: one card each, one round of bets, the higher rank wins.
     Kuhn,

@@ -4,7 +4,7 @@ ghost use Rattle.std.specs.{Prelude.{◌≡◌, find}, Str.{bytes_eq}};
 ghost use Rattle.gs_words.specs.Commands.{command_of, command_word};
 
 /// A command of the program.
-#[derive(Clone, Copy, Debug, PartialEq, Eq)]
+#[derive(Clone, Copy)]
 pub enum CommandName {
     Shrink,
     Check,

@@ -3,7 +3,7 @@
 use crate::kind::Kind;
 
 /// A grouping of the signals into classes.
-#[derive(Clone, Copy, Debug, PartialEq, Eq, Hash)]
+#[derive(Clone, Copy)]
 pub enum Grouping {
     /// The classes of ordered game isomorphism.
     Isomorphism,
@@ -14,7 +14,7 @@ pub enum Grouping {
 }
 
 /// A request of the command line. The texts of a query are words of it.
-#[derive(Clone, Copy, Debug)]
+#[derive(Clone, Copy)]
 pub enum Request<'w> {
     /// The signal classes of a game, or only how many there are.
     Shrink {
@@ -68,7 +68,7 @@ pub enum Request<'w> {
 }
 
 /// The reason why words give no request.
-#[derive(Clone, Copy, Debug, PartialEq, Eq, Hash)]
+#[derive(Clone, Copy)]
 pub enum WordsStop {
     /// They are no valid command line, or ask for help.
     Usage,
