@@ -88,7 +88,7 @@ none_linked : (key : ℕ → List ℕ) (count : ℕ) → AreLinked key 0 count [
 none_linked key count = record { firsts_long = refl; nexts_long = refl; first = λ i l. absurd (omega arith); next = λ i l. absurd (omega arith) }
 
 -- one more member of a list, read
-old_read : (P : ℕ → ℕ → Type 0) (xs : List ℕ) (n y : ℕ) → length xs ≡ n → ((i : ℕ) → i < n → P i (get_or xs i 0)) → P n y → (i : ℕ) → i < n + 1
+pub old_read : (P : ℕ → ℕ → Type 0) (xs : List ℕ) (n y : ℕ) → length xs ≡ n → ((i : ℕ) → i < n → P i (get_or xs i 0)) → P n y → (i : ℕ) → i < n + 1
     → P i (get_or (xs ++ y ∷ []) i 0)
 old_read P xs n y long old new i l = ⊎_elim
     (λ (at : i ≡ n).

@@ -1,8 +1,10 @@
 -- What the deals of a plain game weigh: one for each two signals on a board.
-use Rattle.std.proofs.Common.{◌≡◌, ◌+◌, ◌-◌, ◌*◌, ◌<◌, ◌≤◌, ℕ, List, [], ◌∷◌, length, get_or, refl, sym, ap, ◌∙◌, arith, subst, Bool, true, false, cond, eqb}
-use Rattle.std.proofs.Common.{⊎_elim}
-use Rattle.std.proofs.{lemmas.Bool.{cases_eq, cases_lt}, lemmas.Grind.{common_steps}}
-use Rattle.std.specs.Prelude.{◌&&◌}
+use Rattle.std.proofs.Common.{◌≡◌, ◌+◌, ◌-◌, ◌*◌, ◌<◌, ◌≤◌, ℕ, List, [], ◌∷◌, length, get_or, refl, sym, ap, ◌∙◌, arith, Bool, true, false, cond, eqb}
+use Rattle.std.proofs.Common.{suc, ⊎_elim}
+use Rattle.std.proofs.{lemmas.Bool.{cases_eq, cases_lt}, lemmas.Grind.{common_steps}, lemmas.List.Sums.{sum_by-cons}}
+use Rattle.std.proofs.lemmas.Nat.Bits.{bit_at-zero, bit_at_and, same_from_bits}
+use Rattle.std.specs.{Int.{bit_at}, Prelude.{All, ◌&&◌, min, sum_by}}
+use Rattle.std.specs.Int.RustNames.{bit_and}
 use Rattle.gs_model.specs.{Cards.{left_after, ways}, Deals.{own_ways, path_weight, same_cards, same_public}, Game.{Game, round_count}}
 use Rattle.gs_model.specs.Signals.{Seen, Signal, edge, left_by, own_cards, public_cards, signal_at}
 use Rattle.gs_model.proofs.{Exchanged.{and_both, same_cards-is}, Facing.{leaves_are_deals, signals_differ}, Basics.{factors_positive, product_positive}}
@@ -85,6 +87,92 @@ copies_by left s card =
 single_by : (left : List ℕ) (s : Signal) → Single left → Single (left_by left s)
 single_by left s h card = omega (arith, copies_by left s card, h card)
 
+-- a card beyond the deck is not among cards of the deck
+times_beyond : (card kinds : ℕ) (xs : List ℕ) → All (λ x. x < kinds) xs → kinds ≤ card → times card xs ≡ 0
+times_beyond card kinds [] h le = refl
+times_beyond card kinds (x ∷ xs) h le =
+    let f : ℕ → ℕ = λ y. cond (eqb y card) 1 0 in
+    let below : x < kinds = h 0 0 (omega arith) in
+    let other : eqb x card ≡ false = grind (arith, below, le) in
+    let here : f x ≡ 0 = ap {B = ℕ} (λ b. cond b 1 0) other in
+    let rest : sum_by f xs ≡ 0 = times_beyond card kinds xs (λ k d l. h (suc k) d (omega (arith, l))) le in
+    sum_by-cons f x xs ∙ omega (arith, here, rest)
+
+module _ (g : Game) (single : Single g.copies) where
+  path_single : (i : ℕ) → i < last_count g → path_weight g.copies (signal_at g (round_count g) i) ≡ 1
+  path_single i l = omega (arith, (leaves_are_deals g i l).0, path_one g.copies (signal_at g (round_count g) i) single)
+
+  -- own cards of two signals on a board can be dealt in one way where they have none in common
+  own_apart : (i k : ℕ) → i < last_count g → k < last_count g → shows_same g i k ≡ true
+      → ((c : ℕ) → min (times c (own_cards (signal_at g (round_count g) i))) (times c (own_cards (signal_at g (round_count g) k))) ≡ 0)
+      → own_ways (left_by g.copies (signal_at g (round_count g) i)) (signal_at g (round_count g) k) ≡ 1
+  own_apart i k l m same apart =
+      let s : Signal = signal_at g (round_count g) i in
+      let t : Signal = signal_at g (round_count g) k in
+      let left : List ℕ = left_by g.copies s in
+      let room : (c : ℕ) → c < length left → times c (own_cards t) ≤ get_or left c 0 = λ c h. omega (
+        arith,
+        path_room g.copies t (leaves_are_deals g k m).0 c (omega (arith, h, length-left_by g.copies s)),
+        copies_by g.copies s c,
+        ap (times c) (one_list s t same),
+        apart c,
+        single c,
+      ) in
+      omega (arith, own_some left t room, own_one left t (single_by g.copies s single))
+
+  -- and only there
+  apart_own : (i k : ℕ) → i < last_count g → 0 < own_ways (left_by g.copies (signal_at g (round_count g) i)) (signal_at g (round_count g) k) → (c : ℕ)
+      → min (times c (own_cards (signal_at g (round_count g) i))) (times c (own_cards (signal_at g (round_count g) k))) ≡ 0
+  apart_own i k l h c =
+      let s : Signal = signal_at g (round_count g) i in
+      let t : Signal = signal_at g (round_count g) k in
+      let left : List ℕ = left_by g.copies s in
+      ⊎_elim
+      (λ (in' : c < length g.copies).
+      omega (arith, own_room left t h c (omega (arith, in', length-left_by g.copies s)), copies_by g.copies s c, single c))
+      (λ (ge : length g.copies ≤ c).
+      omega (arith, times_beyond c (length g.copies) (own_cards s) (dealt g (round_count g) i (omega arith) l).own_in ge))
+      (cases_lt c (length g.copies))
+
+  -- what the deal of two signals on a board weighs, by the masks of their own cards
+  pub mask_weight_is : (i k a b : ℕ) → i < last_count g → k < last_count g → shows_same g i k ≡ true
+      → ((c : ℕ) → bit_at a c ≡ min (times c (own_cards (signal_at g (round_count g) i))) 1)
+      → ((c : ℕ) → bit_at b c ≡ min (times c (own_cards (signal_at g (round_count g) k))) 1)
+      → cond {A = ℕ} (eqb (bit_and a b) 0) 1 0 ≡ (deal_at g i k).weight
+  mask_weight_is i k a b l m same x y = ⊎_elim
+      (λ (none : bit_and a b ≡ 0).
+      let is : eqb (bit_and a b) 0 ≡ true = grind (arith, none) in
+      ap {B = ℕ} (λ t. cond t 1 0) is
+      ∙ sym (weight ∙ ap (λ w. path * w) (own_apart i k l m same (apart none)) ∙ ap (λ w. w * 1) (path_single i l)))
+      (λ (some : bit_and a b ≡ 0 → ⊥).
+      let is : eqb (bit_and a b) 0 ≡ false = grind (arith, some) in
+      let no_way : own ≡ 0 = ⊎_elim
+      (λ (way : 0 < own). absurd (some (same_from_bits (bit_and a b) 0 (no_bit way))))
+      (λ (h : own ≤ 0). omega (arith, h))
+      (cases_lt 0 own) in
+      ap {B = ℕ} (λ t. cond t 1 0) is ∙ sym (weight ∙ ap (λ w. path * w) no_way ∙ omega arith))
+      (cases_eq (bit_and a b) 0)
+    where
+      path : ℕ
+      path = path_weight g.copies (signal_at g (round_count g) i)
+
+      own : ℕ
+      own = own_ways (left_by g.copies (signal_at g (round_count g) i)) (signal_at g (round_count g) k)
+
+      weight : (deal_at g i k).weight ≡ path * own
+      weight = ap (λ t. cond t (path * own) 0) same
+
+      apart : bit_and a b ≡ 0 → (c : ℕ)
+          → min (times c (own_cards (signal_at g (round_count g) i))) (times c (own_cards (signal_at g (round_count g) k))) ≡ 0
+      apart none c =
+          let bit : bit_at (bit_and a b) c ≡ 0 = ap (λ n. bit_at n c) none ∙ bit_at-zero c in
+          omega (arith, bit, bit_at_and a b c, x c, y c)
+
+      no_bit : 0 < own → (c : ℕ) → bit_at (bit_and a b) c ≡ bit_at 0 c
+      no_bit way c =
+          let none : bit_at (bit_and a b) c ≡ 0 = omega (arith, bit_at_and a b c, x c, y c, apart_own i k l way c) in
+          none ∙ sym (bit_at-zero c)
+
 -- signals of one shape that show the same public and the same own cards are the same
 same_signals : (s t : Signal) → shapes s ≡ shapes t → same_public s t ≡ true → own_cards s ≡ own_cards t → s ≡ t
 same_signals [] [] e h o = refl
@@ -135,10 +223,7 @@ module _ (g : Game) (plain : IsPlain g) where
   times_own i k l = ap (times k) (own_is i l)
 
   pub path_is : (i : ℕ) → i < last_count g → path_weight g.copies (signal_at g (round_count g) i) ≡ 1
-  path_is i l =
-      let some : 0 < path_weight g.copies (signal_at g (round_count g) i) = (leaves_are_deals g i l).0 in
-      let few = path_one g.copies (signal_at g (round_count g) i) plain.single in
-      omega arith
+  path_is = path_single g plain.single
 
   -- two signals on a board have two own cards
   cards_differ : (i k : ℕ) → i < last_count g → k < last_count g → (i ≡ k → ⊥) → shows_same g i k ≡ true → card i ≡ card k → ⊥
@@ -155,53 +240,17 @@ module _ (g : Game) (plain : IsPlain g) where
   -- no deal has one signal twice
   own_self : (i : ℕ) → i < last_count g → own_ways (left_by g.copies (signal_at g (round_count g) i)) (signal_at g (round_count g) i) ≡ 0
   own_self i l = ⊎_elim
-      (λ (h : 0 < own_ways left s).
-      let in' : card i < length left = omega (arith, card_in i l, length-left_by g.copies s) in
-      absurd (omega (
-        arith,
-        own_room left s h (card i) in',
-        copies_by g.copies s (card i),
-        times_own i (card i) l,
-        times_self (card i),
-        plain.single (card i),
-      )))
+      (λ way. absurd (omega (arith, apart_own g plain.single i i l way (card i), times_own i (card i) l, times_self (card i))))
       (λ h. omega (arith, h))
-      (cases_lt 0 (own_ways left s))
-    where
-      s : Signal
-      s = signal_at g (round_count g) i
-
-      left : List ℕ
-      left = left_by g.copies (signal_at g (round_count g) i)
+      (cases_lt 0 (own_ways (left_by g.copies (signal_at g (round_count g) i)) (signal_at g (round_count g) i)))
 
   -- each deal has two signals on a board
   own_other : (i k : ℕ) → i < last_count g → k < last_count g → (i ≡ k → ⊥) → shows_same g i k ≡ true
       → own_ways (left_by g.copies (signal_at g (round_count g) i)) (signal_at g (round_count g) k) ≡ 1
-  own_other i k l m ne same =
-      let s : Signal = signal_at g (round_count g) i in
-      let t : Signal = signal_at g (round_count g) k in
-      let left : List ℕ = left_by g.copies s in
-      let apart : card i ≡ card k → ⊥ = cards_differ i k l m ne same in
-      let some : 0 < path_weight g.copies t = (leaves_are_deals g k m).0 in
-      let board : public_cards s ≡ public_cards t = one_list s t same in
-      let room : (c : ℕ) → c < length left → times c (own_cards t) ≤ get_or left c 0 = λ c h. ⊎_elim
-      (λ (e : c ≡ card k).
-      let in' : card k < length g.copies = card_in k m in
-      let free = path_room g.copies t some (card k) in' in
-      let mine = times_own k (card k) m in
-      let his = times_own i (card k) l in
-      let one = times_self (card k) in
-      let none = times_none (card k) (card i) apart in
-      let shown = ap (times (card k)) board in
-      let by = copies_by g.copies s (card k) in
-      subst (λ x. times x (own_cards t) ≤ get_or left x 0) (sym e) (omega (arith, free, mine, his, one, none, shown, by)))
-      (λ ne.
-      let none = times_none c (card k) (λ e. ne (sym e)) in
-      omega (arith, times_own k c m, none))
-      (cases_eq c (card k)) in
-      let pos = own_some left t room in
-      let few = own_one left t (single_by g.copies s plain.single) in
-      omega arith
+  own_other i k l m ne same = own_apart g plain.single i k l m same (λ c. ⊎_elim
+      (λ (e : c ≡ card k). omega (arith, times_own i c l, times_none c (card i) (λ f. cards_differ i k l m ne same (f ∙ e))))
+      (λ apart. omega (arith, times_own k c m, times_none c (card k) (λ f. apart (sym f))))
+      (cases_eq c (card k)))
 
   -- what the deal of two signals weighs
   pub weight_is : (i k : ℕ) → i < last_count g → k < last_count g → (deal_at g i k).weight ≡ cond (shows_same g i k && cond (eqb k i) false true) 1 0

@@ -1,6 +1,7 @@
 pub mod Boards
 pub mod Kept
 pub mod Layers
+pub mod Masks
 pub mod Plain
 pub mod Shown
 pub mod Tables

@@ -7,6 +7,7 @@ mod deals;
 mod few;
 mod kept;
 mod layer;
+mod masks;
 mod ranked;
 mod reading;
 mod signals;

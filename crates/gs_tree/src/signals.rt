@@ -1,16 +1,18 @@
 //! The raw signals of a game, round by round.
 
-ghost use Rattle.std.specs.{Prelude.{◌≡◌, ◌==◌, if◌then◌else◌, All, IsTrue, MatchBool, map, length}, List.{range_with_len}};
+ghost use Rattle.std.specs.{Prelude.{◌≡◌, ◌==◌, if◌then◌else◌, All, IfSome, IsTrue, MatchBool, map, length}, List.{range_with_len}};
+ghost use Rattle.std.proofs.Props.{props};
 ghost use Rattle.gs_model.specs.{Game.{round_count}, Signals.{parents as parents_in, signals}, ViewTree.{signal_strength}};
 ghost use Rattle.gs_card.specs.Rankings.{ranking_of};
 ghost use Rattle.gs_rank.specs.Hands.{IsStrength};
 ghost use Rattle.gs_game.specs.Games.{game_of};
-ghost use Rattle.gs_tree.specs.{Boards.{AreBoards}, Kept.{AreKeptCards}, Plain.{IsPlain}, Tables.{AreTables}, Walk.{last_count}};
+ghost use Rattle.gs_tree.specs.{Boards.{AreBoards}, Kept.{AreKeptCards}, Masks.{AreMasks}, Plain.{IsPlain}, Tables.{AreTables}, Walk.{last_count}};
 
 use crate::boards::{Boards, link_boards};
 use crate::deal::Deal;
 use crate::deals::Deals;
 use crate::kept::{Hands, gather, part};
+use crate::masks::{apart, masks_of};
 use crate::ranked::{is_plain, strengths};
 use crate::reading::is_text_of;
 use crate::tables::{Tables, ways_beside};
@@ -42,12 +44,15 @@ pub struct Signals<'g> {
     hands: Hands,
     // whether any two different signals that show the same public cards are equally likely
     plain: bool,
+    // the own cards of each last-round signal as bits, if no kind of card has more than one copy and each player is dealt more than one private card
+    masks: Option<Vec<u64>>,
     ghost listed: { AreTables (game_of game.now.game) tables.parents.items tables.layers.items },
     ghost ranked: { strengths.items ≡ map (signal_strength (game_of game.now.game)) (signals (game_of game.now.game) (round_count (game_of game.now.game))) },
     ghost beside: { AreBoards (game_of game.now.game) boards.firsts.items boards.nexts.items },
     ghost dealt: { AreKeptCards (game_of game.now.game) (round_count (game_of game.now.game)) hands.paths hands.owns.items hands.publics.items hands.own
         hands.public },
     ghost strong: { All (IsStrength (ranking_of game.now.game.ranking)) strengths.items },
+    ghost masked: { IfSome masks (λ v. AreMasks (game_of game.now.game) v.items) } by { Prim.hlevel props },
     ghost even: { IsTrue plain → IsPlain (game_of game.now.game) },
     ghost counted: { length tables.layers.items ≡ round_count (game_of game.now.game) },
 }
@@ -72,6 +77,7 @@ impl<'g> Signals<'g> {
         let strengths = strengths(alloc, game.game(), &hands)?;
         let boards = link_boards(alloc, game.game(), &hands)?;
         let plain = is_plain(game.game(), &hands);
+        let masks = masks_of(alloc, game.game(), &hands)?;
         Ok(Signals {
             game,
             tables,
@@ -79,6 +85,7 @@ impl<'g> Signals<'g> {
             boards,
             hands,
             plain,
+            masks,
         })
     }
 
@@ -344,6 +351,9 @@ impl<'g> Signals<'g> {
     {
         if self.plain {
             return pair_weight(one, two);
+        }
+        if let Some(masks) = &self.masks {
+            return apart(masks[one as usize], masks[two as usize]);
         }
         self.path_weight(one) * self.own_ways(one, two)
     }
