@@ -362,7 +362,7 @@ impl<'g> Signals<'g> {
     pub(crate) fn first_beside(&self, one: u32) -> u32
         ensures { IsRowStart (rules_of self.now) one result }
     {
-        if one < self.last_count() {
+        if (one as usize) < self.boards.firsts.len() {
             self.boards.firsts[one as usize]
         } else {
             0
@@ -377,7 +377,7 @@ impl<'g> Signals<'g> {
         ensures { IsNextPair (rules_of self.now) one two result.0 result.1 }
     {
         let next = self.boards.nexts[two as usize];
-        if next < self.last_count() {
+        if (next as usize) < self.boards.nexts.len() {
             (one, next)
         } else {
             (one + 1, self.first_beside(one + 1))
