@@ -4,7 +4,6 @@ pub mod Chips
 pub mod Steps
 pub mod Added
 pub mod Once
-pub mod Sorted
 pub mod Telling
 pub mod Deals
 pub mod Placed

@@ -1,15 +1,15 @@
 -- Places of which each signal has one.
 use Rattle.std.proofs.Common.{◌≡◌, ◌<◌, ◌∙◌, ℕ, zero, suc, ℤ, pos, Bool, true, false, cond, List, [], ◌∷◌, length, get_or, map, refl, sym, ap, arith, count_by}
 use Rattle.std.proofs.{lemmas.Bool.Decides.{Decides-eqb}, lemmas.List.FromFn.{get_or-range_with_len, length-range_with_len}}
-use Rattle.std.proofs.{lemmas.List.Sorted.{sum_by-IsPermutation}, lemmas.List.Sums.{get_or-le-sum_by, sum_by-cons}}
-use Rattle.std.specs.{Prelude.{◌==◌, All}, List.{range_with_len}, List.Sorted.{IsPermutation}}
+use Rattle.std.proofs.lemmas.List.Sums.{get_or-le-sum_by, sum_by-cons}
+use Rattle.std.specs.{Prelude.{◌==◌, All}, List.{range_with_len}}
 use Rattle.gs_model.specs.Sums.{sum_z}
 use Rattle.gs_model.proofs.{RawBound.{range_once}, Total.{pick_one, sum_z-regroup, sum_z-same, sum_z-same_all}}
 use Rattle.gs_boards.specs.{Places.{AreApart}, declared.place.Place.{Place}}
 
 -- ---- how often a test passes
 
-one_passes : {X : Type 0} (p : X → Bool) (xs : List X) (i : ℕ) (d : X) → i < length xs → p (get_or xs i d) ≡ true → 0 < count_by p xs
+pub one_passes : {X : Type 0} (p : X → Bool) (xs : List X) (i : ℕ) (d : X) → i < length xs → p (get_or xs i d) ≡ true → 0 < count_by p xs
 one_passes p xs i d l e =
     let one : cond {A = ℕ} (p (get_or xs i d)) 1 0 ≡ 1 = ap (λ b. cond {A = ℕ} b 1 0) e in
     omega (arith, one, get_or-le-sum_by (λ x. cond {A = ℕ} (p x) 1 0) xs i d l)
@@ -89,13 +89,18 @@ over_places f count places each once =
         by signal true e = ap f (sym ((Decides-eqb s signal).0 e))
         by signal false e = refl
 
--- ---- places that were made signal by signal, and then put in order
+-- ---- places and their signals
 
-pub once_from : (count : ℕ) (made sorted : List Place) → map (λ (p : Place). p.signal) made ≡ range_with_len 0 count → IsPermutation made sorted
-    → (signal : ℕ) → signal < count → places_of signal sorted ≡ 1
-once_from count made sorted all moved signal l =
-    sum_by-IsPermutation (λ (p : Place). cond {A = ℕ} (p.signal == signal) 1 0) made sorted moved
-    ∙ mapped made ∙ ap (λ xs. count_by (λ x. signal == x) xs) all ∙ range_once signal 0 count (omega arith) (omega arith)
+pub by_signals : (signal : ℕ) (ps : List Place) → places_of signal ps ≡ count_by (λ x. signal == x) (map (λ (p : Place). p.signal) ps)
+by_signals signal [] = refl
+by_signals signal (p ∷ ps) =
+    omega (
+      arith,
+      by_signals signal ps,
+      sum_by-cons (λ (q : Place). cond {A = ℕ} (q.signal == signal) 1 0) p ps,
+      sum_by-cons (λ x. cond {A = ℕ} (signal == x) 1 0) p.signal (map (λ (q : Place). q.signal) ps),
+      ap (λ b. cond {A = ℕ} b 1 0) (turned p.signal),
+    )
   where
     turned : (x : ℕ) → (x == signal) ≡ (signal == x)
     turned x = by (x == signal) (signal == x) refl refl
@@ -105,14 +110,3 @@ once_from count made sorted all moved signal l =
         by false false e f = refl
         by true false e f = sym ((Decides-eqb signal x).1 (sym ((Decides-eqb x signal).0 e))) ∙ f
         by false true e f = sym e ∙ (Decides-eqb x signal).1 (sym ((Decides-eqb signal x).0 f))
-
-    mapped : (ps : List Place) → places_of signal ps ≡ count_by (λ x. signal == x) (map (λ (p : Place). p.signal) ps)
-    mapped [] = refl
-    mapped (p ∷ ps) =
-        omega (
-          arith,
-          mapped ps,
-          sum_by-cons (λ (q : Place). cond {A = ℕ} (q.signal == signal) 1 0) p ps,
-          sum_by-cons (λ x. cond {A = ℕ} (signal == x) 1 0) p.signal (map (λ (q : Place). q.signal) ps),
-          ap (λ b. cond {A = ℕ} b 1 0) (turned p.signal),
-        )

@@ -1,5 +1,5 @@
 -- The order of places: by board, and on one board by strength.
-use Rattle.std.specs.Prelude.{ℕ, ◌≡◌, ◌+◌, ◌*◌, ◌^◌, ◌<◌, ◌≤◌, List, length, slice_index_or}
+use Rattle.std.specs.Prelude.{ℕ, ◌≡◌, ◌<◌, ◌≤◌, List, length, slice_index_or}
 use Rattle.gs_boards.specs.declared.place.Place.{Place}
 
 -- the place p comes no later than q: its board is no later, and on one board p is not the stronger one
@@ -14,9 +14,3 @@ AreInOrder places = (i j : ℕ) (d : Place) → i ≤ j → j < length places �
 -- no signal has two places
 abbrev pub AreApart : List Place → Type 0
 AreApart places = (i j : ℕ) (d : Place) → i < j → j < length places → (slice_index_or places i d).signal ≡ (slice_index_or places j d).signal → ⊥
-
--- ---- of private functions
-
--- the board and the strength of a place as one number
-abbrev pub place_rank : Place → ℕ
-place_rank p = p.board * 2 ^ 32 + p.strength

@@ -5,7 +5,7 @@ ghost use Rattle.gs_tree.specs.{Plain.{IsPlain}, Trees.{rules_of}, Walk.{last_co
 ghost use Rattle.gs_boards.specs.Boards.{ArePlaces};
 
 use crate::pays::Pays;
-use crate::place::{Place, places_of, sort_places};
+use crate::place::{Place, places_of};
 use crate::walks::{climb, descend};
 use gs_tree::Signals;
 use std::alloc::{AllocError, Global};
@@ -33,8 +33,7 @@ impl<'s> BoardOrder<'s> {
         if !signals.is_plain() {
             return Ok(None);
         }
-        let mut places = places_of(alloc, signals)?;
-        sort_places(&mut places);
+        let places = places_of(alloc, signals)?;
         Ok(Some(BoardOrder { signals, places }))
     }
 

@@ -1,15 +1,12 @@
 //! The places of last-round signals, ordered by board and strength.
 
-ghost use Rattle.std.specs.{Prelude.{◌≡◌, ◌<◌, ◌^◌, All, IfOk, map}, List.{range_with_len}, List.Sorted.{IsPermutation}};
-ghost use Rattle.gs_tree.specs.{Trees.{rules_of}, Walk.{last_count}};
-ghost use Rattle.gs_boards.specs.{Boards.{IsPlace}, Places.{AreInOrder}, declared.place.Place.{Place as Placed}};
+ghost use Rattle.std.specs.{Prelude.{◌≡◌, ◌<◌, All, IfOk, map}, List.Sorted.{IsNonDecreasingBy, IsPermutation}};
+ghost use Rattle.gs_tree.specs.{Boards.{signals_on}, Trees.{rules_of}, Walk.{last_count}};
+ghost use Rattle.gs_boards.specs.{Boards.{ArePlaces, IsPlace}, declared.place.Place.{Place as Placed}};
 
 use gs_rank::category;
 use gs_tree::Signals;
 use std::alloc::{AllocError, Global};
-
-/// What a board counts for in the rank of a place: more than any strength.
-const BOARD: u64 = 0x1_0000_0000;
 
 /// The place of a last-round signal. Places are ordered by board, and on a board by strength.
 #[derive(Clone, Copy, Debug, PartialEq, Eq)]
@@ -21,18 +18,6 @@ pub(crate) struct Place {
     // the bonus of the hand's category
     pub(crate) win: u8,
     pub(crate) signal: u32,
-}
-
-impl Place {
-    ghost use Rattle.std.specs.Prelude.{◌≡◌};
-    ghost use Rattle.gs_boards.specs.Places.{place_rank};
-
-    // Returns the board and the strength as one number, so that places are compared in one step.
-    fn rank(self) -> u64
-        ensures { result ≡ place_rank self }
-    {
-        u64::from(self.board) * BOARD + u64::from(self.strength)
-    }
 }
 
 /// Returns the place of a last-round signal.
@@ -53,25 +38,43 @@ fn place_of(signals: &Signals, signal: u32) -> Place
     }
 }
 
-/// Returns the places of all last-round signals, in the order of the signals. Fails only if memory runs out.
-pub(crate) fn places_of(alloc: Global, signals: &Signals) -> Result<Vec<Place>, AllocError>
+/// Returns the places of the signals on the board of `first`, in the order of the signals. Fails only if memory runs out.
+fn places_on(alloc: Global, signals: &Signals, first: u32) -> Result<Vec<Place>, AllocError>
+    requires { first < last_count (rules_of signals.now) }
     ensures each { IfOk result (λ v. All (IsPlace (rules_of signals.now)) v.items) }
-    ensures small { IfOk result (λ v. All (λ p. p.strength < 2 ^ 32) v.items) }
-    ensures all { IfOk result (λ v. map (λ (p : Placed). p.signal) v.items ≡ range_with_len 0 (last_count (rules_of signals.now))) }
+    ensures all { IfOk result (λ v. map (λ (p : Placed). p.signal) v.items ≡ signals_on (rules_of signals.now) first) }
 {
-    let count = signals.count(signals.rounds());
-    let mut places = Vec::with_capacity(alloc, count as usize)?;
-    for signal in 0..count {
+    let (firsts, nexts) = signals.boards();
+    let kinds = signals.game().game().deck.counts().len();
+    let mut places = Vec::with_capacity(alloc, kinds)?;
+    let mut signal = firsts[first as usize];
+    while (signal as usize) < nexts.len() {
         places.push(place_of(signals, signal))?;
+        signal = nexts[signal as usize];
     }
     Ok(places)
 }
 
-/// Sorts places by board, and on one board by strength.
-pub(crate) fn sort_places(places: &mut Vec<Place>)
-    requires small { All (λ p. p.strength < 2 ^ 32) places.old.items }
+/// Sorts places by strength.
+fn sort_places(places: &mut Vec<Place>)
     ensures moved { IsPermutation places.old.items places.new.items }
-    ensures order { AreInOrder places.new.items }
+    ensures rising { IsNonDecreasingBy (λ place. place.strength) places.new.items }
 {
-    places.sort_unstable_by_key(|place| place.rank());
+    places.sort_unstable_by_key(|place| place.strength);
+}
+
+/// Returns the places of all last-round signals, board by board, and on each board by strength. Fails only if memory runs out.
+pub(crate) fn places_of(alloc: Global, signals: &Signals) -> Result<Vec<Place>, AllocError>
+    ensures { IfOk result (λ v. ArePlaces (rules_of signals.now) v.items) }
+{
+    let (firsts, _) = signals.boards();
+    let mut places = Vec::with_capacity(alloc, firsts.len())?;
+    for (signal, first) in firsts.iter().enumerate() {
+        if *first as usize == signal {
+            let mut board = places_on(alloc, signals, *first)?;
+            sort_places(&mut board);
+            places.extend_from_slice(&board)?;
+        }
+    }
+    Ok(places)
 }

@@ -1,7 +1,6 @@
 pub mod Filled
 pub mod Seats
 pub mod Taken
-pub mod Chain
 pub mod Ranks
 pub mod Ranked
 pub mod Places

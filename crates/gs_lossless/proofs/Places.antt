@@ -6,9 +6,9 @@ use Rattle.std.proofs.lemmas.List.Sorted.{IsPermutation-map, IsPermutation-sym, 
 use Rattle.std.specs.{Prelude.{◌&&◌, filter, length}, List.{range_with_len}, List.Sorted.{IsPermutation}}
 use Rattle.gs_model.specs.{Deals.{Deal}, Game.{Game, round_count}, Outcome.{outcome}, Signals.{signal_at}, ViewTree.{signal_strength}}
 use Rattle.gs_model.proofs.Multisets.{permuted_from_times, times, times-cons}
-use Rattle.gs_tree.specs.{Walk.{deal_at, last_count, shows_same}, Plain.{IsPlain}}
+use Rattle.gs_tree.specs.{Boards.{signals_on}, Walk.{deal_at, last_count, shows_same}, Plain.{IsPlain}}
 use Rattle.gs_tree.proofs.{Pairs.{row_deals}, Same.{public_self}, Weighed.{path_is, weight_is}}
-use Rattle.gs_lossless.specs.{Alike.{AreAlike, seen, seen_by}, Boards.{IsBoard, level_of, levels_in, seat_signals, signals_on}, Hands.{AreHands, IsMark}}
+use Rattle.gs_lossless.specs.{Alike.{AreAlike, seen, seen_by}, Boards.{IsBoard, level_of, levels_in, seat_signals}, Hands.{AreHands, IsMark}}
 use Rattle.gs_lossless.specs.{declared.board.Board.{Board}, declared.board.Seat.{Seat}}
 use Rattle.gs_lossless.proofs.{Ranks.{TellOutcomes, tell}, Seats.{none}, Taken.{but, taken_out}}
 

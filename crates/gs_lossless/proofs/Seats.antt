@@ -8,9 +8,9 @@ use Rattle.std.proofs.lemmas.List.Sums.{count_by-le-length, length-filter}
 use Rattle.std.specs.{Prelude.{filter, slice_index}, List.{All, range_with_len}, List.Sorted.{IsNonDecreasing, IsNonDecreasingBy, IsPermutation}}
 use Rattle.gs_model.specs.{Game.{Game, round_count}, Signals.{signal_at}}
 use Rattle.gs_model.proofs.Multisets.{times}
-use Rattle.gs_tree.specs.{Plain.{IsPlain}, Walk.{last_count, shows_same}}
+use Rattle.gs_tree.specs.{Boards.{signals_on}, Plain.{IsPlain}, Walk.{last_count, shows_same}}
 use Rattle.gs_tree.proofs.Same.{public_alike, public_self}
-use Rattle.gs_lossless.specs.Boards.{HaveSame, IsBoard, PaysOnce, level_of, levels_in, ranked, ranked_in, seat_of, seat_signals, signals_on, smaller}
+use Rattle.gs_lossless.specs.Boards.{HaveSame, IsBoard, PaysOnce, level_of, levels_in, ranked, ranked_in, seat_of, seat_signals, smaller}
 use Rattle.gs_lossless.specs.{Boards.{strengths_of}, declared.board.Board.{Board}, declared.board.Seat.{Seat}}
 
 tests_alike : (p q : ℕ → Bool) → ((k : ℕ) → p k ≡ q k) → (xs : List ℕ) → filter p xs ≡ filter q xs

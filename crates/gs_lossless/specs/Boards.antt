@@ -1,12 +1,8 @@
 -- Boards: the last-round signals that show the same public cards, and their levels.
-use Rattle.std.specs.{Prelude.{ℕ, ◌≡◌, ◌<◌, Bool, true, List, cond, count_by, filter, length, map, nat_eq, nat_lt, slice_index}, List.{All, range_with_len}}
+use Rattle.std.specs.{Prelude.{ℕ, ◌≡◌, ◌<◌, Bool, true, List, cond, count_by, length, map, nat_eq, nat_lt, slice_index}, List.{All}}
 use Rattle.gs_model.specs.{Game.{Game, round_count}, Outcome.{category}, Signals.{signal_at, signals}, ViewTree.{signal_strength}}
-use Rattle.gs_tree.specs.{Plain.{IsPlain}, Walk.{last_count, shows_same}}
+use Rattle.gs_tree.specs.{Boards.{signals_on}, Plain.{IsPlain}, Walk.{last_count}}
 use Rattle.gs_lossless.specs.{declared.board.Board.{Board}, declared.board.Seat.{Seat}}
-
--- the last-round signals with the same public cards as signal `i`
-abbrev pub signals_on : Game → ℕ → List ℕ
-signals_on g i = filter (shows_same g i) (range_with_len 0 (last_count g))
 
 -- the strengths of the last-round signals
 abbrev pub strengths_of : Game → List ℕ

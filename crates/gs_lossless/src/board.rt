@@ -1,8 +1,8 @@
 //! Boards: the last-round signals that show the same public cards.
 
 ghost use Rattle.std.specs.{Prelude.{◌≡◌, ◌<◌, ◌^◌, true, IfOk, length, map}, List.{All}, List.Sorted.{IsNonDecreasingBy, IsPermutation}};
-ghost use Rattle.gs_tree.specs.{Plain.{IsPlain}, Trees.{rules_of}, Walk.{last_count}};
-ghost use Rattle.gs_lossless.specs.Boards.{IsBoard, PaysOnce, ranked, seat_of, signals_on};
+ghost use Rattle.gs_tree.specs.{Boards.{signals_on}, Plain.{IsPlain}, Trees.{rules_of}, Walk.{last_count}};
+ghost use Rattle.gs_lossless.specs.Boards.{IsBoard, PaysOnce, ranked, seat_of};
 
 use gs_tree::Signals;
 use std::alloc::{AllocError, Global};

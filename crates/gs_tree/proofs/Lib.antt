@@ -22,3 +22,4 @@ pub mod Coded
 pub mod Rounds
 pub mod Weighed
 pub mod Sides
+pub mod Chain

@@ -1,5 +1,6 @@
 -- Last-round signals that show the same public cards: for each the first one and the next one.
-use Rattle.std.specs.Prelude.{ℕ, ◌≡◌, ◌<◌, ◌+◌, ◌*◌, true, false, List, [], ◌∷◌, Option, Some, None, if◌then◌else◌, length, nat_lt, slice_index, slice_set}
+use Rattle.std.specs.Prelude.{ℕ, ◌≡◌, ◌<◌, ◌+◌, ◌*◌, true, false, List, [], ◌∷◌, Option, Some, None, if◌then◌else◌, filter, length, nat_lt, slice_index}
+use Rattle.std.specs.{List.{range_with_len}, Prelude.{slice_set}}
 use Rattle.gs_model.specs.Game.{Game}
 use Rattle.gs_tree.specs.Walk.{last_count, shows_same}
 
@@ -14,6 +15,10 @@ pub record AreBoards (g : Game) (firsts nexts : List ℕ) : Type 0 where
   pub next_later : (i : ℕ) → i < last_count g → i < slice_index nexts i
   pub next_same : (i : ℕ) → i < last_count g → slice_index nexts i < last_count g → shows_same g i (slice_index nexts i) ≡ true
   pub none_between : (i k : ℕ) → i < last_count g → i < k → k < slice_index nexts i → k < last_count g → shows_same g i k ≡ false
+
+-- the last-round signals with the same public cards as signal `i`
+abbrev pub signals_on : Game → ℕ → List ℕ
+signals_on g i = filter (shows_same g i) (range_with_len 0 (last_count g))
 
 -- the first signal with the public cards of `signal`: that of the last one before it with these cards, or else itself
 abbrev pub first_on_board : Option ℕ → ℕ → List ℕ → ℕ

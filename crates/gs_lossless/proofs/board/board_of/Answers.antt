@@ -1,8 +1,8 @@
 use Rattle.std.proofs.Common.{◌≡◌, ◌≤◌, ◌∙◌, Bool, List, cond, length, map, subst, sym, ap, arith}
 use Rattle.std.specs.{Global.{Vec}, List.Sorted.{IsPermutation}}
 use Rattle.gs_model.specs.Game.{Game, round_count}
-use Rattle.gs_tree.specs.{Trees.{rules_of}, Walk.{last_count}}
-use Rattle.gs_lossless.specs.{Boards.{ranked, seat_of, signals_on}, declared.board.Seat.{Seat}}
+use Rattle.gs_tree.specs.{Boards.{signals_on}, Trees.{rules_of}, Walk.{last_count}}
+use Rattle.gs_lossless.specs.{Boards.{ranked, seat_of}, declared.board.Seat.{Seat}}
 use Rattle.gs_lossless.proofs.{Seats.{board_is, seats_few}, board.board_of.Goals.{then-by_rank, else-by_rank}}
 use Rattle.gs_lossless.proofs.board.board_of.Goals as goal
 

@@ -1,7 +1,7 @@
 use Rattle.std.proofs.Common.{◌-◌, length}
 use Rattle.gs_tree.specs.Trees.{rules_of}
 use Rattle.gs_lossless.specs.Boards.{seat_of}
-use Rattle.gs_lossless.proofs.Chain.{IsOnChain}
+use Rattle.gs_tree.proofs.Chain.{IsOnChain}
 use Rattle.gs_lossless.proofs.board.seats_beside.Given as goal
 
 abbrev pub invariant-loop-signal : goal.invariant-loop-signal

@@ -5,9 +5,8 @@ use Rattle.std.proofs.lemmas.Bool.{cases_lt}
 use Rattle.std.specs.{Prelude.{filter}, List.{range_with_len}}
 use Rattle.gs_model.specs.{Game.{Game, round_count}, Signals.{signal_at}}
 use Rattle.gs_model.proofs.Basics.{range_step, range_end}
-use Rattle.gs_tree.specs.{Boards.{AreBoards}, Walk.{last_count, shows_same}}
+use Rattle.gs_tree.specs.{Boards.{AreBoards, signals_on}, Walk.{last_count, shows_same}}
 use Rattle.gs_tree.proofs.Same.{public_alike}
-use Rattle.gs_lossless.specs.Boards.{signals_on}
 
 -- places that a test refuses are passed over
 passed : (p : ℕ → Bool) (n a d : ℕ) → ((k : ℕ) → a ≤ k → k < a + d → k < n → p k ≡ false)
