@@ -2,7 +2,7 @@
 use Rattle.std.proofs.{Common.{◌≡◌, ℕ, zero, suc, ◌+◌, ◌-◌, ◌<◌, ◌≤◌, ◌^◌, List, length, get_or, sym, ap, ◌∙◌, subst, arith, ⊎_elim}, lemmas.Bool.{cases_lt}}
 use Rattle.std.proofs.{lemmas.List.Sums.{get_or-le-sum_by}, lemmas.List.{length-map, take_all}, lemmas.List.FromFn.{length-map-range_with_len}}
 use Rattle.std.specs.Prelude.{All, flat_map}
-use Rattle.gs_game.specs.{Games.{round_rules}, Limits.{IsWithinLimits}}
+use Rattle.gs_game.specs.{Games.{game_of, round_rules}, Limits.{IsWithinLimits}, declared.valid.ValidGame.{ValidGame}}
 use Rattle.gs_game.proofs.Playable.{is_playable}
 use Rattle.gs_model.specs.{Frame.{ancestor, ancestor_up, at_round, frame_of, last_round, signal_count}, Deals.{Deal, deals}}
 use Rattle.gs_model.specs.{Game.{Game, IsPlayable, round_at, round_count}, Signals.{Signal, child_count, children, first_child, parents, signals}}
@@ -14,9 +14,12 @@ use Rattle.gs_tree.proofs.Readers.{first_next}
 use Rattle.gs_filter.specs.Filter.{AreParents, Filter}
 use Rattle.gs_lossless.specs.{Amounts.{HasSide, IsRunIn, key_count, keys_of}, declared.sides.Side.{Side}, declared.sides.Side.TheVariants.{Deals, Children}}
 
--- a game of signals can be played
+-- a valid game can be played
+pub valid_playable : (v : ValidGame) → IsPlayable (game_of v.game)
+valid_playable v = is_playable v.game (omega (arith, v.limits.some_round, length-map v.game.rounds.items round_rules))
+
 pub playable : (s : Signals) → IsPlayable (rules_of s)
-playable s = is_playable s.game.now.game (omega (arith, s.game.now.limits.some_round, length-map s.game.now.game.rounds.items round_rules))
+playable s = valid_playable s.game.now
 
 pub tabled : (g : Game) → IsPlayable g → Tabled (frame_of g)
 tabled g p = is_table (frame_of g) (in_range g p)
@@ -165,13 +168,16 @@ child_run g p round s some l ls =
     (run_more g p round round s s (s + 1) some (omega arith) l start)
 
 -- the parents of a game's signals are such that classes can stand on them
-pub are_parents : (s : Signals) → AreParents (frame_of (rules_of s)).parents
-are_parents s =
-    let g = rules_of s in
-    let h = s.game.now.limits in
+pub valid_parents : (v : ValidGame) → AreParents (frame_of (game_of v.game)).parents
+valid_parents v =
+    let g = game_of v.game in
+    let h = v.limits in
     record {
       few = omega (arith, last_round_of g, h.few_rounds);
       short = λ round some le. (let n = signal_count_is g round some (omega (arith, le, last_round_of g)) in
           let m = h.signals_in round (omega (arith, le, last_round_of g)) in omega (arith, n, m));
-      in_range = λ round x some le l. (in_range g (playable s)).parents round x some l;
+      in_range = λ round x some le l. (in_range g (valid_playable v)).parents round x some l;
     }
+
+pub are_parents : (s : Signals) → AreParents (frame_of (rules_of s)).parents
+are_parents s = valid_parents s.game.now

@@ -17,4 +17,4 @@ mod ways;
 
 pub use deal::Deal;
 pub use deals::Deals;
-pub use signals::Signals;
+pub use signals::{Signals, parents_of};

@@ -1,6 +1,6 @@
 //! The raw signals of a game, round by round.
 
-ghost use Rattle.std.specs.{Prelude.{◌≡◌, ◌==◌, if◌then◌else◌, All, IfSome, IsTrue, MatchBool, map, length}, List.{range_with_len}};
+ghost use Rattle.std.specs.{Prelude.{◌≡◌, ◌==◌, if◌then◌else◌, All, IfOk, IfSome, IsTrue, MatchBool, map, length}, List.{range_with_len}};
 ghost use Rattle.std.proofs.Props.{props};
 ghost use Rattle.gs_model.specs.{Game.{round_count}, Signals.{parents as parents_in, signals}, ViewTree.{signal_strength}};
 ghost use Rattle.gs_card.specs.Rankings.{ranking_of};
@@ -55,6 +55,14 @@ pub struct Signals<'g> {
     ghost masked: { IfSome masks (λ v. AreMasks (game_of game.now.game) v.items) } by { Prim.hlevel props },
     ghost even: { IsTrue plain → IsPlain (game_of game.now.game) },
     ghost counted: { length tables.layers.items ≡ round_count (game_of game.now.game) },
+}
+
+/// Returns for each round of a game the parent of each signal, as a place in the round before; in round 1 these are zeros. Fails only if memory runs out.
+pub fn parents_of(alloc: Global, game: &ValidGame) -> Result<Vec<Vec<u32>>, AllocError>
+    ensures { IfOk result (λ v. map (λ p. p.items) v.items
+        ≡ map (parents_in (game_of game.now.game)) (range_with_len 1 (round_count (game_of game.now.game)))) }
+{
+    Ok(Tables::of(alloc, game.game())?.parents)
 }
 
 impl<'g> Signals<'g> {

@@ -2,27 +2,27 @@ use Rattle.std.proofs.Common.{◌≡◌, Ok, ap, inl, inr, refl, subst, sym, ◌
 use Rattle.gs_file.specs.Views.{valid_view}
 use Rattle.gs_filter.specs.{Faults.{IsFaultOf}, Filter.{AreParents}}
 use Rattle.gs_model.specs.{Classes.{ClassLists}, Rows.{rows}}
-use Rattle.gs_lossless.proofs.Descent.{are_parents}
+use Rattle.gs_lossless.proofs.Descent.{valid_parents}
 use Rattle.gs_seq.specs.Games.{frame_in}
 use Rattle.gs_strategy.specs.Checks.{ChecksClasses}
 use Rattle.gs_strategy.proofs.Refused.{classes_fail, same_classes}
-use Rattle.gs_strategy.proofs.reading.classes_from.Goals.{After-parents}
+use Rattle.gs_strategy.proofs.reading.classes_from.Goals.{After-deref}
 use Rattle.gs_strategy.proofs.reading.classes_from.Goals as goal
 
 -- the parents of the signals are those of the game
-parents : (c : After-parents) → rows c.parents.result.now ≡ (frame_in c.args.game.now).parents
-parents c = c.parents.ensures ∙ ap (λ g. (frame_in g).parents) c.in_ok-signals.ensures
+parents : (c : After-deref) → rows c.deref.result.now ≡ (frame_in c.args.game.now).parents
+parents c = ap rows c.deref.ensures.value ∙ c.in_ok-parents.ensures
 
 pub new-requires : goal.new-requires
-new-requires c = subst AreParents (sym c.parents.ensures) (are_parents c.in_ok-signals.signals)
+new-requires c = subst AreParents (sym (parents (goal.at.new-requires c).After-deref)) (valid_parents c.args.game.now)
 
 pub returns-in-Ok-clause-parents : goal.returns-in-Ok-clause-parents
-returns-in-Ok-clause-parents c = c.in-Ok.ensures.parents ∙ parents (goal.at.returns-in-Ok-clause-parents c).After-parents
+returns-in-Ok-clause-parents c = c.in-Ok.ensures.parents ∙ parents (goal.at.returns-in-Ok-clause-parents c).After-deref
 
 pub returns-in-Ok-clause-checked : goal.returns-in-Ok-clause-checked
 returns-in-Ok-clause-checked c =
     let k = c.in-Ok.classes in
-    let same = c.in-Ok.ensures.parents ∙ parents (goal.at.returns-in-Ok-clause-checked c).After-parents in
+    let same = c.in-Ok.ensures.parents ∙ parents (goal.at.returns-in-Ok-clause-checked c).After-deref in
     inl (
       same_classes k.parents (frame_in c.args.game.now).parents k.lists (rows c.args.lists.items) same c.in-Ok.ensures.lists c.in-Ok.ensures.classes,
       ap (λ (l : ClassLists). Ok l) c.in-Ok.ensures.lists,
@@ -32,5 +32,5 @@ pub returns-clause-checked : goal.returns-clause-checked
 returns-clause-checked c =
     let lists = rows c.args.lists.items in
     let why = c.in-Err.fault in
-    let broken = subst (λ p. IsFaultOf p lists why) (parents (goal.at.returns-clause-checked c).After-parents) c.in-Err.ensures.refused in
+    let broken = subst (λ p. IsFaultOf p lists why) (parents (goal.at.returns-clause-checked c).After-deref) c.in-Err.ensures.refused in
     rw c.from.ensures (classes_fail why (ChecksClasses (valid_view c.args.game.now) lists) (λ some. inr (why, (some, broken), refl)))
