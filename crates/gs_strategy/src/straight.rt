@@ -36,6 +36,7 @@ fn numbers_in(alloc: Global, bytes: &[u8]) -> Result<(Vec<u64>, &[u8]), StoreFau
             }
             _ => {
                 numbers.push(number)?;
+                numbers.shrink_to_fit();
                 return Ok((numbers, &bytes[i..]));
             }
         }
