@@ -6,9 +6,9 @@ use Rattle.std.proofs.lemmas.List.{append-nil, length-set, length-map, map-id, m
 use Rattle.std.proofs.lemmas.List.{length-take-le}
 use Rattle.std.proofs.lemmas.List.FromFn.{get_or-map-range_with_len, length-map-range_with_len, map-range_with_len_more}
 use Rattle.std.proofs.{lemmas.List.Concat.{flat_map-append, flat_map-cons}, lemmas.Grind.{get_or_default_zero}}
-use Rattle.std.specs.{Prelude.{flat_map}, List.{zip, range_with_len}, Prelude.{All, max}}
+use Rattle.std.specs.{Prelude.{All, flat_map}, List.{zip, range_with_len}}
 use Rattle.gs_model.specs.Numbering.{greatest}
-use Rattle.gs_model.proofs.{Numbered.{greatest_push}, Push.{le_greatest}}
+use Rattle.gs_model.proofs.Push.{le_greatest}
 use Rattle.gs_text.specs.ClassText.{members_text, begin_line, open_line, class_line, round_line, round_text}
 
 -- the text of a member, if it is of the class c
@@ -96,12 +96,6 @@ round_told before between after round count signals texts classes lines c n b l 
     a ∙ ap (λ r. between ++ r) rest ∙ ap (λ r. r ++ flat_map (class_line (zip texts classes)) (range_with_len 1 (greatest classes))) first
     ∙ append_assoc before (round_line round (greatest classes) (length texts))
     (flat_map (class_line (zip texts classes)) (range_with_len 1 (greatest classes)))
-
--- the greatest of one more number
-pub greatest-more : (xs : List ℕ) (i : ℕ) (count next : ℕ) → i < length xs → count ≡ greatest (take i xs) → next ≡ max count (get_or xs i 0)
-    → next ≡ greatest (take (i + 1) xs)
-greatest-more xs i count next lt c n = n ∙ ap (λ k. max k (get_or xs i 0)) c
-    ∙ sym (ap greatest (take_more xs i 0 lt) ∙ greatest_push (take i xs) (get_or xs i 0))
 
 -- numbers from 1 on are from 1 to the greatest
 pub in_range : (xs : List ℕ) (count : ℕ) → count ≡ greatest xs → All (λ c. 1 ≤ c) xs → All (λ c. (1 ≤ c) × (c ≤ count)) xs
