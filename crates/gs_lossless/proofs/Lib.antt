@@ -3,6 +3,7 @@ pub mod Seats
 pub mod Taken
 pub mod Ranks
 pub mod Ranked
+pub mod Faced
 pub mod Places
 pub mod Marked
 pub mod Items
@@ -16,3 +17,4 @@ pub mod Unlike
 pub mod Scanned
 pub mod Alike
 pub mod Transfer
+pub mod SideOf

@@ -1,65 +1,82 @@
 -- What is known of the parts of a signal on one side.
-use Rattle.std.proofs.Common.{◌≡◌, ℕ, ℤ, suc, ◌+◌, ◌-◌, ◌<◌, ◌^◌, Bool, List, length, map, ap, sym, subst, ◌∙◌, arith, sum_by}
-use Rattle.std.specs.{Prelude.{All, ◌==◌}, List.{range_with_len}}
-use Rattle.gs_model.specs.{Classes.{ClassLists}, Deals.{deals}, Frame.{Frame, frame_of, last_round}, Game.{Game}, Signals.{child_count, first_child, signals}}
+use Rattle.std.proofs.Common.{◌≡◌, ℕ, suc, ◌+◌, ◌-◌, Bool, true, List, length, map, ap, sym, subst, ◌∙◌, arith, sum_by, append-nil}
+use Rattle.std.proofs.lemmas.Bool.Decides.{Decides-eqb}
+use Rattle.std.specs.{Prelude.{All, ◌==◌, ◌<◌, filter, flat_map}, List.{range_with_len}}
+use Rattle.gs_model.specs.{Classes.{ClassLists}, Deals.{Deal, deals}, Frame.{Frame, frame_of, last_round, signal_count}}
+use Rattle.gs_model.specs.Signals.{child_count, first_child, signals}
 use Rattle.gs_model.proofs.{SingleCards.{children_within}, Walked.{last_round_of}}
 use Rattle.gs_tree.specs.{Trees.{rules_of}, declared.signals.Signals.{Signals}}
-use Rattle.gs_lossless.specs.{Amounts.{AreAmounts, HasSide, IsRun, amount, counted_part, deal_parts, keys_of}, Sums.{AreSumsOf, sum_at}}
+use Rattle.gs_lossless.specs.{Amounts.{AreAmounts, ArePartsOf, HasSide, IsRun, counted_part, deal_part, deal_parts, keys_of}, Sums.{AreSumsOf, weight_at}}
 use Rattle.gs_lossless.specs.{declared.parts.Part.{Part}, declared.sides.Side.{Side}, declared.sides.Side.TheVariants.{Deals, Children}}
-use Rattle.gs_lossless.proofs.{Descent.{child_run, playable}, Weighed.{children_amount, children_some, children_total, deals_amount, deals_some, deals_total}}
-
--- each part has weight, and by the keys of any classes they add up to what the side counts
-pub record ArePartsOf (g : Game) (side : Side) (round s : ℕ) (keys : List ℕ) (parts : List Part) : Type 0 where
-  pub some : All (λ (q : Part). 0 < q.weight) parts
-  pub fits : sum_by (λ (q : Part). q.weight) parts < 2 ^ 32
-  pub amounts : (lists : ClassLists) → keys ≡ keys_of (frame_of g) lists side round → (c : ℕ) (o : ℤ)
-      → sum_at parts c o ≡ amount (frame_of g) lists side round s c o
+use Rattle.gs_lossless.proofs.Descent.{child_run, playable, run_start}
+use Rattle.gs_lossless.proofs.Weighed.{children_amount, children_some, children_total, deals_amount, deals_some, deals_total}
 
 pub before_last : (f : Frame) (side : Side) (round : ℕ) → side ≡ Children → HasSide f side round → round < last_round f
 before_last f Deals round is h = absurd (cc)
 before_last f Children round is h = h.1
 
-pub of_children : (s : Signals) (side : Side) (round x : ℕ) (keys : List ℕ) (parts : List Part) (start end : ℕ) → side ≡ Children
-    → HasSide (frame_of (rules_of s)) side round
+pub of_children : (s : Signals) (lists : ClassLists) (side : Side) (round x : ℕ) (keys : List ℕ) (parts : List Part) (start end : ℕ) → side ≡ Children
+    → HasSide (frame_of (rules_of s)) side round → keys ≡ keys_of (frame_of (rules_of s)) lists side round
     → x < length (signals (rules_of s) round) → start ≡ first_child (rules_of s) round x
     → end ≡ first_child (rules_of s) round x + child_count (rules_of s) round x
-    → parts ≡ map (counted_part keys) (range_with_len start (end - start)) → ArePartsOf (rules_of s) side round x keys parts
-of_children s Deals round x keys parts start end is h l from to e = absurd (cc)
-of_children s Children round x keys parts start end is h l from to e =
+    → parts ≡ map (counted_part keys) (range_with_len start (end - start)) → ArePartsOf (frame_of (rules_of s)) lists side round x parts
+of_children s lists Deals round x keys parts start end is h are l from to e = absurd (cc)
+of_children s lists Children round x keys parts start end is h are l from to e =
     let g = rules_of s in
     let first = first_child g round x in
     let n = child_count g round x in
     let run = child_run g (playable s) round x h.0 (omega (arith, h.1, last_round_of g)) l in
     let many : end - start ≡ n = omega (arith, from, to) in
-    let all = e ∙ ap (λ k. map (counted_part keys) (range_with_len k (end - start))) from ∙ ap (λ k. map (counted_part keys) (range_with_len first k)) many in
-    subst (ArePartsOf g Children round x keys) (sym all) (record {
-      some = children_some keys first n;
+    let all = e ∙ ap (λ k. map (counted_part keys) (range_with_len k (end - start))) from ∙ ap (λ k. map (counted_part keys) (range_with_len first k)) many
+    ∙ ap (λ (ks : List ℕ). map (counted_part ks) (range_with_len first n)) are in
+    subst (ArePartsOf (frame_of g) lists Children round x) (sym all) (record {
+      some = children_some (keys_of (frame_of g) lists Children round) first n;
       fits = omega (
         arith,
-        children_total keys first n,
+        children_total (keys_of (frame_of g) lists Children round) first n,
         children_within g round x l,
         s.game.now.limits.signals_in (suc round) (omega (arith, h.1, last_round_of g)),
       );
-      amounts = λ lists e c o. ap (λ (ks : List ℕ). sum_at (map (counted_part ks) (range_with_len first n)) c o) e
-          ∙ children_amount g lists round x first n run c o;
+      sum = children_amount g lists round x first n run;
     })
 
-pub of_deals : (s : Signals) (side : Side) (round x : ℕ) (keys : List ℕ) (parts : List Part) (by : Bool) (first end : ℕ) → side ≡ Deals
-    → by ≡ (round == last_round (frame_of (rules_of s)))
+pub of_deals : (s : Signals) (lists : ClassLists) (side : Side) (round x : ℕ) (keys : List ℕ) (parts : List Part) (by : Bool) (first end : ℕ) → side ≡ Deals
+    → keys ≡ keys_of (frame_of (rules_of s)) lists side round → by ≡ (round == last_round (frame_of (rules_of s)))
     → IsRun (frame_of (rules_of s)) round x first end → parts ≡ deal_parts (deals (rules_of s)) keys by first end
-    → ArePartsOf (rules_of s) side round x keys parts
-of_deals s Children round x keys parts by first end is same run e = absurd (cc)
-of_deals s Deals round x keys parts by first end is same run e =
+    → ArePartsOf (frame_of (rules_of s)) lists side round x parts
+of_deals s lists Children round x keys parts by first end is are same run e = absurd (cc)
+of_deals s lists Deals round x keys parts by first end is are same run e =
     let g = rules_of s in
-    subst (ArePartsOf g Deals round x keys) (sym e) (record {
-      some = deals_some g keys by first end;
-      fits = omega (arith, deals_total g keys by first end, s.game.now.limits.weight_in);
-      amounts = λ lists e c o. ap (λ (ks : List ℕ). sum_at (deal_parts (deals g) ks by first end) c o) e
-          ∙ deals_amount g (playable s) lists round x first end run c o by same;
+    let all = e ∙ ap (λ (ks : List ℕ). deal_parts (deals g) ks by first end) are in
+    subst (ArePartsOf (frame_of g) lists Deals round x) (sym all) (record {
+      some = deals_some g (keys_of (frame_of g) lists Deals round) by first end;
+      fits = omega (arith, deals_total g (keys_of (frame_of g) lists Deals round) by first end, s.game.now.limits.weight_in);
+      sum = λ c o. deals_amount g (playable s) lists round x first end run c o by same;
     })
+
+-- in the last round the parts of a signal are those of its own deals
+pub of_last : (s : Signals) (lists : ClassLists) (side : Side) (round x : ℕ) (keys : List ℕ) → side ≡ Deals
+    → keys ≡ keys_of (frame_of (rules_of s)) lists side round → round ≡ last_round (frame_of (rules_of s)) → x < signal_count (frame_of (rules_of s)) round
+    → ArePartsOf (frame_of (rules_of s)) lists side round x (map (deal_part keys true) (filter (λ (d : Deal). d.one == x) (deals (rules_of s))))
+of_last s lists side round x keys is are last l =
+    let g = rules_of s in
+    let at : ℕ → List Part = λ k. map (deal_part keys true) (filter (λ (d : Deal). d.one == k) (deals g)) in
+    let one : x + 1 - x ≡ 1 = omega arith in
+    let run = subst (λ (r : ℕ). IsRun (frame_of g) r x x (x + 1)) (sym last) (run_start g (playable s) (last_round (frame_of g)) x
+    (subst (λ (r : ℕ). x < signal_count (frame_of g) r) last l)) in
+    of_deals s lists side round x keys (at x) true x (x + 1) is are (sym ((Decides-eqb round (last_round (frame_of g))).1 last)) run
+    (sym (ap (λ (n : ℕ). flat_map at (range_with_len x n)) one ∙ append-nil (at x)))
+
+-- other parts of the same totals
+pub same_parts : (f : Frame) (lists : ClassLists) (side : Side) (round s : ℕ) (parts others : List Part) → ArePartsOf f lists side round s parts
+    → All (λ (p : Part). 0 < p.weight) others → ((h : Part → ℕ) → sum_by h others ≡ sum_by h parts) → ArePartsOf f lists side round s others
+same_parts f lists side round s parts others are some same = record {
+  some = some;
+  fits = omega (arith, are.fits, same (λ p. p.weight));
+  sum = λ c o. same (weight_at c o) ∙ are.sum c o;
+}
 
 -- sums of the parts are those of the signal
-pub amounts_from : (g : Game) (side : Side) (round s : ℕ) (keys : List ℕ) (parts sums : List Part) → ArePartsOf g side round s keys parts
-    → AreSumsOf parts sums
-    → (lists : ClassLists) → keys ≡ keys_of (frame_of g) lists side round → AreAmounts (frame_of g) lists side round s sums
-amounts_from g side round s keys parts sums h are lists e = record { rises = are.rises; sum = λ c o. are.sum c o ∙ h.amounts lists e c o }
+pub amounts_from : (f : Frame) (lists : ClassLists) (side : Side) (round s : ℕ) (parts sums : List Part) → ArePartsOf f lists side round s parts
+    → AreSumsOf parts sums → AreAmounts f lists side round s sums
+amounts_from f lists side round s parts sums h are = record { rises = are.rises; sum = λ c o. are.sum c o ∙ h.sum c o }

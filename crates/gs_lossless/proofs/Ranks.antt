@@ -8,7 +8,7 @@ use Rattle.gs_model.specs.{Game.{Game, Ranking, round_count}, Outcome.{IsBonus, 
 use Rattle.gs_model.specs.ViewTree.{signal_outcome, signal_strength}
 use Rattle.gs_tree.specs.Walk.{last_count, shows_same}
 use Rattle.gs_tree.proofs.Same.{public_self}
-use Rattle.gs_lossless.specs.Boards.{PaysOnce, level_of, smaller, strengths_of, strengths_on}
+use Rattle.gs_lossless.specs.{Boards.{PaysOnce, level_of, smaller, strengths_of, strengths_on}, Rivals.{paid_once}}
 use Rattle.gs_lossless.proofs.{Seats.{one_board, shown_back}, Taken.{but, taken_out}}
 
 -- ---- counts of smaller numbers
@@ -107,10 +107,6 @@ module _ (xs : List ℕ) (up : IsNonDecreasing xs) (n : ℕ) (l : n < length xs)
 
 -- ---- outcomes
 
--- what is paid where each bonus is 1
-abbrev paid_once : ℕ → ℕ → ℤ
-paid_once a b = cond (nat_lt b a) (pos 1) (cond (nat_lt a b) (neg_ℤ (pos 1)) (pos 0))
-
 outcome_once : (bonus : List ℕ) (r : Ranking) (a b : ℕ) → slice_index bonus (category r a) ≡ 1 → slice_index bonus (category r b) ≡ 1
     → outcome bonus r a b ≡ paid_once a b
 outcome_once bonus r a b e f =
@@ -124,8 +120,18 @@ pub record TellOutcomes (g : Game) (level : ℕ → ℕ) : Type 0 where
       → signal_outcome g (signal_at g (round_count g) i) (signal_at g (round_count g) k) ≡ pays (level i) (level k)
 
 module _ (g : Game) where
-  strength_at : (i : ℕ) → i < last_count g → slice_index (strengths_of g) i ≡ signal_strength g (signal_at g (round_count g) i)
+  pub strength_at : (i : ℕ) → i < last_count g → slice_index (strengths_of g) i ≡ signal_strength g (signal_at g (round_count g) i)
   strength_at i l = get_or-map (signal_strength g) (signals g (round_count g)) i [] 0 l
+
+  -- the outcome of two signals where each bonus is 1
+  pub told_once : PaysOnce g → (i k : ℕ) → i < last_count g → k < last_count g
+      → signal_outcome g (signal_at g (round_count g) i) (signal_at g (round_count g) k)
+      ≡ paid_once (slice_index (strengths_of g) i) (slice_index (strengths_of g) k)
+  told_once once i k l m =
+      outcome_once g.bonus g.ranking (signal_strength g (signal_at g (round_count g) i)) (signal_strength g (signal_at g (round_count g) k))
+      (once i l) (once k m)
+      ∙ ap (λ (x : ℕ). paid_once x (signal_strength g (signal_at g (round_count g) k))) (sym (strength_at i l))
+      ∙ ap (paid_once (slice_index (strengths_of g) i)) (sym (strength_at k m))
 
   -- two signals on a board
   ranks_tell : (i k : ℕ) → i < last_count g → shows_same g i k ≡ true → nat_lt (level_of g true i) (level_of g true k)
@@ -149,12 +155,9 @@ module _ (g : Game) where
     paid = λ i k l m same.
         let a : ℕ = slice_index (strengths_of g) i in
         let b : ℕ = slice_index (strengths_of g) k in
-        let once : PaysOnce g = pays refl in
         let up : nat_lt b a ≡ nat_lt (level_of g true k) (level_of g true i) = sym (ranks_tell k i m (shown_back g i k same)) in
         let down : nat_lt a b ≡ nat_lt (level_of g true i) (level_of g true k) = sym (ranks_tell i k l same) in
-        outcome_once g.bonus g.ranking (signal_strength g (signal_at g (round_count g) i)) (signal_strength g (signal_at g (round_count g) k)) (once i l)
-        (once k m)
-        ∙ ap (λ (x : ℕ). paid_once x (signal_strength g (signal_at g (round_count g) k))) (sym (strength_at i l)) ∙ ap (paid_once a) (sym (strength_at k m))
+        told_once (pays refl) i k l m
         ∙ ap (λ (t : Bool). cond t (pos 1) (cond (nat_lt a b) (neg_ℤ (pos 1)) (pos 0))) up
         ∙ ap (λ (t : Bool). cond (nat_lt (level_of g true k) (level_of g true i)) (pos 1) (cond t (neg_ℤ (pos 1)) (pos 0))) down;
   }

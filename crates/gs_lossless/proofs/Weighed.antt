@@ -28,7 +28,8 @@ sum_by-two f h k e [] = refl
 sum_by-two f h k e (x ∷ xs) = omega (arith, sum_by-cons f x xs, sum_by-cons h x xs, sum_by-cons k x xs, e x, sum_by-two f h k e xs)
 
 -- the sum over what passes a test
-sum_by-passed : {X Y : Type 0} (h : Y → ℕ) (k : X → Y) (t : X → Bool) (xs : List X) → sum_by h (map k (filter t xs)) ≡ sum_by (λ x. cond (t x) (h (k x)) 0) xs
+pub sum_by-passed : {X Y : Type 0} (h : Y → ℕ) (k : X → Y) (t : X → Bool) (xs : List X)
+    → sum_by h (map k (filter t xs)) ≡ sum_by (λ x. cond (t x) (h (k x)) 0) xs
 sum_by-passed h k t [] = refl
 sum_by-passed {X} h k t (x ∷ xs) = by (t x) (sum_by-passed h k t xs) ∙ sym (sum_by-cons (λ x. cond (t x) (h (k x)) 0) x xs)
   where

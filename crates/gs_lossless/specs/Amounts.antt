@@ -1,6 +1,6 @@
 -- What members of a class must agree in, as weights by class and outcome.
-use Rattle.std.specs.Prelude.{ℕ, ◌+◌, ◌-◌, ◌<◌, ◌≤◌, ◌≡◌, ◌==◌, ℤ, pos, Bool, List, map, length, get_or, if◌then◌else◌, filter, flat_map}
-use Rattle.std.specs.{List.{range_with_len}, Ordering.{int_eq}}
+use Rattle.std.specs.Prelude.{ℕ, ◌+◌, ◌-◌, ◌<◌, ◌≤◌, ◌^◌, ◌≡◌, ◌==◌, ℤ, pos, All, Bool, List, map, length, get_or, if◌then◌else◌, filter, flat_map, sum_by}
+use Rattle.std.specs.{Coded.{×_prop, le_prop}, List.{range_with_len}, Ordering.{int_eq}}
 use Rattle.gs_model.specs.{Classes.{ClassLists, class_of, first_member, list_of}, Deals.{Deal}}
 use Rattle.gs_model.specs.{Frame.{Frame, ancestor, last_round, signal_count, signals_in, at_round}, Game.{Game, round_count}}
 use Rattle.gs_model.specs.{Lossless.{children_in, weight_against, weight_with}, Signals.{signals}}
@@ -39,6 +39,11 @@ abbrev pub HasSide : Frame → Side → ℕ → Type 0
 HasSide f Deals round = (0 < round) × (round ≤ last_round f)
 HasSide f Children round = (0 < round) × (round < last_round f)
 
+-- that a round has a side is one fact
+pub HasSide-prop : (f : Frame) (side : Side) (round : ℕ) → IsProp (HasSide f side round)
+HasSide-prop f Deals round = ×_prop le_prop le_prop
+HasSide-prop f Children round = ×_prop le_prop le_prop
+
 -- the classes by which a side counts: for children those of the next round's signals, for deals those of the last-round signals' ancestors in the round
 abbrev pub keys_of : Frame → ClassLists → Side → ℕ → List ℕ
 keys_of f lists Deals round = map (λ x. class_of lists round (at_round f round x)) (signals_in f (last_round f))
@@ -72,3 +77,9 @@ counted_part keys x = record { class = get_or keys x 0; outcome = pos 0; weight 
 abbrev pub deal_parts : List Deal → List ℕ → Bool → ℕ → ℕ → List Part
 deal_parts deals keys by_outcome first end =
     flat_map (λ x. map (deal_part keys by_outcome) (filter (λ (d : Deal). d.one == x) deals)) (range_with_len first (end - first))
+
+-- parts of weight that add up to what a side counts for a signal
+pub record ArePartsOf (f : Frame) (lists : ClassLists) (side : Side) (round s : ℕ) (parts : List Part) : Type 0 where
+  pub some : All (λ (p : Part). 0 < p.weight) parts
+  pub fits : sum_by (λ (p : Part). p.weight) parts < 2 ^ 32
+  pub sum : (c : ℕ) (o : ℤ) → sum_at parts c o ≡ amount f lists side round s c o

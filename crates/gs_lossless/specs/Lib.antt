@@ -2,6 +2,7 @@ pub mod Alike
 pub mod Boards
 pub mod Firsts
 pub mod Hands
+pub mod Rivals
 pub mod Sums
 pub mod Amounts
 pub mod Scans

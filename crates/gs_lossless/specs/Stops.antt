@@ -1,5 +1,5 @@
--- What a failed check says about the classes, and its text.
-use Rattle.std.specs.{Prelude.{ℕ, ◌<◌, ◌++◌, List, Option, Some, None, codes}, Fmt.{decimal}}
+-- What a failed check says about the classes.
+use Rattle.std.specs.Prelude.{ℕ, ◌<◌, Option, Some, None}
 use Rattle.gs_model.specs.{Classes.{ClassLists, class_of, first_member}, Frame.{Frame, last_round, signal_count}, Lossless.{Alike, IsFirstUnlike}}
 use Rattle.gs_lossless.specs.{Scans.{AgreeBelow, IsFirstApart}, declared.sides.Side.TheVariants.{Children}, declared.stop.CheckStop.{CheckStop}}
 use Rattle.gs_lossless.specs.declared.stop.CheckStop.TheVariants.{Unlike, Memory}
@@ -23,11 +23,6 @@ abbrev pub MatchUnlike : Frame → ClassLists → ℕ → Option ℕ → Type 0
 MatchUnlike f lists round None = AreAlikeBelow f lists round (signal_count f round)
 MatchUnlike f lists round (Some s) = (s < signal_count f round) × AreAlikeBelow f lists round s
     × (Alike f lists round (first_member lists round (class_of lists round s)) s → ⊥)
-
--- the text of a stop
-abbrev pub stop_text : CheckStop → List ℕ
-stop_text (Unlike round first second) = codes "unlike in round " ++ decimal round ++ codes " at " ++ decimal first ++ codes " and " ++ decimal second
-stop_text Memory = codes "out of memory"
 
 -- the first signal before `end` whose children differ from those of the first member of its class; `None` if there is none or in the last round
 abbrev pub IsChildrenApart : Frame → ClassLists → ℕ → ℕ → Option ℕ → Type 0

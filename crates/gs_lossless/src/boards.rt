@@ -23,7 +23,7 @@ pub struct Boards<'a> {
 }
 
 /// Returns whether each bonus is 1.
-fn are_ones(bonus: &[u8]) -> bool
+pub(crate) fn are_ones(bonus: &[u8]) -> bool
     ensures { IsTrue result → EachIndex bonus.now (λ category. slice_index bonus.now category ≡ 1) }
 {
     bonus.iter().all(|times| *times == 1)

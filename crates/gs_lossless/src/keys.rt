@@ -14,7 +14,7 @@ use std::alloc::{AllocError, Global};
 
 /// Returns the classes by which a side counts in a round.
 /// `Side::Deals`: for each last-round signal the class of its ancestor in the round. `Side::Children`: for each signal of the next round its class.
-pub fn side_keys(
+pub(crate) fn side_keys(
     alloc: Global,
     signals: &Signals,
     classes: &Classes,

@@ -6,7 +6,7 @@ ghost use Rattle.gs_lossless.specs.Sums.{AreSumsOf, put_last};
 use std::alloc::{AllocError, Global};
 
 /// A weight that counts at a class and an outcome.
-#[derive(Clone, Copy, Debug, PartialEq, Eq, PartialOrd, Ord, Hash)]
+#[derive(Clone, Copy, PartialEq, Eq, PartialOrd, Ord, Hash)]
 pub struct Part {
     pub class: u32,
     pub outcome: i8,

@@ -8,7 +8,7 @@ ghost use Rattle.gs_lossless.specs.Amounts.{IsRun, IsRunIn};
 use gs_tree::Signals;
 
 /// A run of signals of a round: the places from `first` up to but not including `end`.
-#[derive(Clone, Copy, Debug)]
+#[derive(Clone, Copy)]
 pub struct Run {
     pub first: u32,
     pub end: u32,

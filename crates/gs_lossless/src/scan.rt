@@ -6,10 +6,10 @@ ghost use Rattle.gs_tree.specs.Trees.{rules_of};
 ghost use Rattle.gs_lossless.specs.{Amounts.{HasSide}, Scans.{AreAloneBelow, IsFirstApart}};
 
 use crate::grouped::Grouped;
-use crate::keys::side_keys;
 use crate::lists::empty_lists;
 use crate::parts::are_same;
-use crate::sides::{Side, side_sums};
+use crate::side_keys::SideKeys;
+use crate::sides::Side;
 use crate::standing::{has_earlier, stand_ins_at};
 use gs_filter::Classes;
 use std::alloc::{AllocError, Global};
@@ -46,11 +46,11 @@ pub(crate) fn first_apart(
     if are_alone(classes, round) {
         return Ok(None);
     }
-    let keys = side_keys(alloc, signals, classes, side, round)?;
+    let at = SideKeys::of(alloc, signals, classes, side, round)?;
     let mut firsts = Vec::new(alloc);
     let mut kept = empty_lists(alloc, classes.classes(round))?;
     for signal in 0..end {
-        firsts = stand_ins_at(alloc, signals, round, &keys, signal, firsts)?;
+        firsts = stand_ins_at(alloc, &at, signal, firsts)?;
         if has_earlier(&firsts, signal) {
             continue;
         }
@@ -58,9 +58,10 @@ pub(crate) fn first_apart(
         if classes.size(round, class) == 1 {
             continue;
         }
-        let sums = side_sums(alloc, signals, side, round, &keys, signal)?;
+        let mut sums = at.sums(alloc, signal)?;
         let place = class as usize - 1;
         if classes.first(round, class) == signal {
+            sums.shrink_to_fit();
             kept[place] = sums;
         } else if !are_same(&kept[place], &sums) {
             return Ok(Some(signal));

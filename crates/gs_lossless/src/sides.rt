@@ -1,13 +1,12 @@
-//! The two sides on which signals are compared: the sums of their deals, and those of their children.
+//! The two sides on which signals are compared, and the parts of a signal on each: its deals, and its children.
 
 ghost use Rattle.std.specs.{Prelude.{◌≡◌, ◌-◌, ◌++◌, ◌<◌, ◌≤◌, ◌^◌, All, IfOk, OnOk, length, map}, List.{range_with_len}};
-ghost use Rattle.gs_model.specs.{Classes.{ClassLists}, Deals.{Deal as Dealt, deals as all_deals}, Frame.{frame_of}};
-ghost use Rattle.gs_model.specs.Signals.{signals as signals_in};
+ghost use Rattle.gs_model.specs.Deals.{Deal as Dealt, deals as all_deals};
 ghost use Rattle.gs_tree.specs.{Trees.{rules_of}, Walk.{last_count}};
-ghost use Rattle.gs_lossless.specs.Amounts.{AreAmounts, HasSide, counted_part, deal_part, deal_parts as parts_between, key_count, keys_of};
+ghost use Rattle.gs_lossless.specs.Amounts.{counted_part, deal_part, deal_parts as parts_between};
 
-use crate::parts::{Part, sums_of};
-use crate::runs::{Run, descendants};
+use crate::parts::Part;
+use crate::runs::Run;
 use gs_tree::{Deal, Deals, Signals};
 use std::alloc::{AllocError, Global};
 
@@ -15,7 +14,7 @@ use std::alloc::{AllocError, Global};
 const FEW: usize = 64;
 
 /// One of the two things in which the members of a lossless class agree.
-#[derive(Clone, Copy, Debug, PartialEq, Eq)]
+#[derive(Clone, Copy)]
 pub enum Side {
     /// The weight of a signal's deals against each class of the opponent, in the last round for each outcome too.
     Deals,
@@ -54,7 +53,7 @@ fn push_parts(
 }
 
 /// Returns the parts of the deals of a run of last-round signals.
-fn run_parts(
+pub(crate) fn run_parts(
     alloc: Global,
     signals: &Signals,
     keys: &[u32],
@@ -74,7 +73,7 @@ fn run_parts(
 }
 
 /// Returns a run of children as parts: each counts once, at its class.
-fn child_parts(alloc: Global, keys: &[u32], run: Run) -> Result<Vec<Part>, AllocError>
+pub(crate) fn child_parts(alloc: Global, keys: &[u32], run: Run) -> Result<Vec<Part>, AllocError>
     requires ordered { run.first ≤ run.end }
     requires within { run.end ≤ length keys.now }
     ensures { IfOk result (λ v. v.items ≡ map (counted_part keys.now) (range_with_len run.first (run.end - run.first))) }
@@ -88,33 +87,4 @@ fn child_parts(alloc: Global, keys: &[u32], run: Run) -> Result<Vec<Part>, Alloc
         })?;
     }
     Ok(parts)
-}
-
-/// Returns the sums of a signal on one side, in ascending order of class and then outcome. `keys` are those of the side, from `side_keys`.
-/// Two signals have equal lists of sums exactly if they agree on the side.
-pub fn side_sums(
-    alloc: Global,
-    signals: &Signals,
-    side: Side,
-    round: u8,
-    keys: &[u32],
-    signal: u32,
-) -> Result<Vec<Part>, AllocError>
-    requires side { HasSide (frame_of (rules_of signals.now)) side round }
-    requires all { length keys.now ≡ key_count (rules_of signals.now) side round }
-    requires in_range { signal < length (signals_in (rules_of signals.now) round) }
-    ensures { IfOk result (λ v. (lists : ClassLists) → keys.now ≡ keys_of (frame_of (rules_of signals.now)) lists side round
-        → AreAmounts (frame_of (rules_of signals.now)) lists side round signal v.items) }
-{
-    let parts = match side {
-        Side::Children => {
-            let (first, end) = signals.children(round, signal);
-            child_parts(alloc, keys, Run { first, end })?
-        }
-        Side::Deals => {
-            let run = descendants(signals, round, signal);
-            run_parts(alloc, signals, keys, round == signals.rounds(), run)?
-        }
-    };
-    sums_of(alloc, parts)
 }

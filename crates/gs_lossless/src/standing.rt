@@ -1,13 +1,12 @@
 //! Stand-ins: earlier signals with the same class and the same sums.
 
-ghost use Rattle.std.specs.Prelude.{◌≡◌, ◌<◌, IfOk, IsTrue, get_or, length};
-ghost use Rattle.gs_model.specs.{Classes.{ClassLists}, Frame.{frame_of}, Game.{round_count}};
-ghost use Rattle.gs_tree.specs.{Trees.{rules_of}, Walk.{last_count}};
-ghost use Rattle.gs_lossless.specs.{Amounts.{HasSide, keys_of}, Scans.{StandFor}};
-ghost use Rattle.gs_lossless.specs.declared.sides.Side.{Side};
+ghost use Rattle.std.specs.Prelude.{◌<◌, IfOk, IsTrue, get_or, length};
+ghost use Rattle.gs_model.specs.Frame.{frame_of};
+ghost use Rattle.gs_tree.specs.Trees.{rules_of};
+ghost use Rattle.gs_lossless.specs.Scans.{StandFor};
 
 use crate::boards::stand_ins;
-use gs_tree::Signals;
+use crate::side_keys::SideKeys;
 use std::alloc::{AllocError, Global};
 
 /// The number of signals that are compared before stand-ins are listed.
@@ -18,20 +17,15 @@ const SOON: u32 = 4096;
 /// At every other signal, and in every other round, returns `listed` unchanged.
 pub(crate) fn stand_ins_at(
     alloc: Global,
-    signals: &Signals,
-    round: u8,
-    keys: &[u32],
+    at: &SideKeys<'_>,
     signal: u32,
     listed: Vec<u32>,
 ) -> Result<Vec<u32>, AllocError>
-    requires { round ≡ round_count (rules_of signals.now) → length keys.now ≡ last_count (rules_of signals.now) }
-    ensures { IfOk result (λ v. (side : Side) (lists : ClassLists) → HasSide (frame_of (rules_of signals.now)) side round
-        → keys.now ≡ keys_of (frame_of (rules_of signals.now)) lists side round
-        → StandFor (frame_of (rules_of signals.now)) lists side round listed.items
-        → StandFor (frame_of (rules_of signals.now)) lists side round v.items) }
+    requires { StandFor (frame_of (rules_of at.now.signals.now)) at.now.classes.now.lists at.now.side at.now.round listed.items }
+    ensures { IfOk result (λ v. StandFor (frame_of (rules_of at.now.signals.now)) at.now.classes.now.lists at.now.side at.now.round v.items) }
 {
-    if signal == SOON && round == signals.rounds() {
-        stand_ins(alloc, signals, keys)
+    if signal == SOON && at.round == at.signals.rounds() {
+        stand_ins(alloc, at.signals, &at.keys)
     } else {
         Ok(listed)
     }

@@ -2,7 +2,7 @@
 
 ghost use Rattle.std.specs.Prelude.{◌<◌};
 
-use crate::rows::{agree, over_game};
+use crate::rows::{agree, not_lossless, over_game};
 use gs_lossless::{Lossless, check};
 use gs_samples::classes_of;
 use gs_seq::{Abstract, Pair, SeqStop};
@@ -56,7 +56,7 @@ fn over_signals(
     want: Want<'_>,
 ) -> Result<Result<bool, SeqStop>, Fail> {
     let classes = classes_of(alloc, signals, classes)?;
-    let lossless = check(alloc, signals, &classes)?;
+    let lossless = check(alloc, signals, &classes).map_err(not_lossless)?;
     Ok(formed(alloc, &lossless, want))
 }
 

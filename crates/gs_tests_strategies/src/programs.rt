@@ -1,6 +1,7 @@
 //! What stops the path of the linear program of a game over classes.
 
 use crate::leduc::stop_of_stated;
+use crate::rows::not_lossless;
 use gs_lossless::{Lossless, check};
 use gs_samples::{classes_of, game_of};
 use gs_seq::Abstract;
@@ -17,7 +18,7 @@ fn stop_by(alloc: Global, lossless: &Lossless<'_>) -> Result<String, Fail> {
 /// Returns what stops the path for signals over classes.
 fn stop_over(alloc: Global, signals: &Signals<'_>, classes: &str) -> Result<String, Fail> {
     let classes = classes_of(alloc, signals, classes)?;
-    let lossless = check(alloc, signals, &classes)?;
+    let lossless = check(alloc, signals, &classes).map_err(not_lossless)?;
     stop_by(alloc, &lossless)
 }
 

@@ -4,7 +4,7 @@ ghost use Rattle.std.specs.Prelude.{◌≤◌, ◌<◌, IfOk};
 ghost use Rattle.gs_seq.specs.{Abstracts.{abstract_frame, lists_of}, Plans.{IsPlanOf}};
 
 use gs_game::ValidGame;
-use gs_lossless::{Lossless, check};
+use gs_lossless::{CheckStop, Lossless, check};
 use gs_samples::{classes_of, game_of, numbers_in};
 use gs_seq::{Abstract, Plan};
 use gs_tree::Signals;
@@ -61,6 +61,11 @@ fn over_lossless<R, F: FnOnce(&Abstract<'_>) -> Result<R, Fail> + Drop>(
     say(&form)
 }
 
+/// Returns the failure of a test whose classes are not lossless.
+pub(crate) fn not_lossless(_: CheckStop) -> Fail {
+    Fail::from("the classes are not lossless")
+}
+
 /// Returns what `say` returns for the sequence form over classes of these signals.
 fn over_signals<R, F: FnOnce(&Abstract<'_>) -> Result<R, Fail> + Drop>(
     alloc: Global,
@@ -71,7 +76,7 @@ fn over_signals<R, F: FnOnce(&Abstract<'_>) -> Result<R, Fail> + Drop>(
     requires { F.IsAlwaysCallable say }
 {
     let classes = classes_of(alloc, signals, classes)?;
-    let lossless = check(alloc, signals, &classes)?;
+    let lossless = check(alloc, signals, &classes).map_err(not_lossless)?;
     over_lossless(alloc, &lossless, say)
 }
 

@@ -1,13 +1,13 @@
 use Rattle.std.proofs.lemmas.List.{length-set}
 use Rattle.std.proofs.Common.{true, false, true≢false, rules, ◌≡◌, ◌≢◌, ◌+◌, ◌-◌, ◌<◌, ℕ, List, ap, get_or, length, set, sym, ◌∙◌, subst, arith, Vec, Global}
-use Rattle.gs_model.specs.{Classes.{ClassLists, class_of, class_size, first_member, list_of}, Frame.{frame_of}, Numbering.{IsNumbered}, Signals.{signals}}
+use Rattle.gs_model.specs.{Classes.{class_of, class_size, first_member, list_of}, Frame.{frame_of}, Numbering.{IsNumbered}, Signals.{signals}}
 use Rattle.gs_model.proofs.Walked.{last_round_of}
 use Rattle.gs_tree.specs.Trees.{rules_of}
-use Rattle.gs_lossless.specs.{Amounts.{HaveEqualAmounts, AreAmounts, key_count, keys_of}, Scans.{StandFor, StoredBelow}, declared.parts.Part.{Part}}
-use Rattle.gs_lossless.proofs.{Alike.{last_keys}, Descent.{keys_long, list_long, playable}}
+use Rattle.gs_lossless.specs.{Amounts.{HaveEqualAmounts, AreAmounts}, Scans.{StandFor, StoredBelow}, declared.parts.Part.{Part}}
+use Rattle.gs_lossless.proofs.{Descent.{list_long}, SideOf.{as_asked}}
 use Rattle.gs_lossless.proofs.Scanned.{agree_more, agree_self, side_in, stored_first, stored_later, stored_single, stood_agrees, stood_later}
 use Rattle.gs_lossless.proofs.Settled.{first_le, agree_if_same, same_if_agree, single_agrees}
-use Rattle.gs_lossless.proofs.scan.first_apart.Goals.{After-first, Start, In_ok-firsts, In_ok-keys, then-first-signal, else-first-signal+else-not-are_same}
+use Rattle.gs_lossless.proofs.scan.first_apart.Goals.{After-first, Start, In_ok-firsts, In_ok-sums, then-first-signal, else-first-signal+else-not-are_same}
 use Rattle.gs_lossless.proofs.scan.first_apart.Goals as goal
 
 -- the list of the round has a class for each signal, and numbers them as they are first seen
@@ -33,27 +33,32 @@ returns-then-are_alone c =
     single_agrees (frame_of (rules_of c.args.grouped.now.signals.now)) lists c.args.side c.args.round s within
     (c.are_alone.ensures c.if-are_alone.true s within)
 
--- there are as many keys as the side has
-many : (c : In_ok-keys) (keys : List ℕ) → keys ≡ c.in_ok-keys.keys.items
-    → length keys ≡ key_count (rules_of c.args.grouped.now.signals.now) c.args.side c.args.round
-many c keys is =
-    ap (λ (l : List ℕ). length l) (is ∙ c.in_ok-keys.ensures)
-    ∙ keys_long (rules_of c.args.grouped.now.signals.now) c.args.grouped.now.classes.now c.args.grouped.now.parents (playable c.args.grouped.now.signals.now)
-    c.args.side c.args.round c.requires.side
-
 pub stand_ins_at-requires : goal.stand_ins_at-requires
-stand_ins_at-requires c last = last_keys (rules_of c.args.grouped.now.signals.now) c.args.side c.args.round (length c.deref.result.now) c.requires.side last
-    (many (goal.at.stand_ins_at-requires c).In_ok-keys c.deref.result.now c.deref.ensures.value)
+stand_ins_at-requires c =
+    let at = c.in_ok-at.ensures in
+    as_asked (λ s k a m. StandFor (frame_of (rules_of s)) k.lists a m c.loop-signal.firsts.items) (sym at.signals) (sym at.classes)
+    (sym at.side.0, sym at.side.1) c.loop-signal.invariant.stand
 
 -- what is listed stands for signals, whether it was listed before or is only now
-standing : (c : In_ok-firsts) → let f = frame_of (rules_of c.args.grouped.now.signals.now) in
-    (lists : ClassLists) → c.in_ok-keys.keys.items ≡ keys_of f lists c.args.side c.args.round
-    → StandFor f lists c.args.side c.args.round c.in_ok-firsts.firsts.items
-standing c lists keys = c.in_ok-firsts.ensures c.args.side lists c.requires.side (c.deref.ensures.value ∙ keys) (c.loop-signal.invariant.stand lists keys)
+standing : (c : In_ok-firsts) → StandFor (frame_of (rules_of c.args.grouped.now.signals.now)) c.args.grouped.now.classes.now.lists c.args.side c.args.round
+    c.in_ok-firsts.firsts.items
+standing c =
+    let at = c.in_ok-at.ensures in
+    as_asked (λ s k a m. StandFor (frame_of (rules_of s)) k.lists a m c.in_ok-firsts.firsts.items) at.signals at.classes at.side c.in_ok-firsts.ensures
 
-pub side_sums-requires-clause-all : goal.side_sums-requires-clause-all
-side_sums-requires-clause-all c = many (goal.at.side_sums-requires-clause-all c).In_ok-keys c.deref-in-loop-signal-2.result.now
-    c.deref-in-loop-signal-2.ensures.value
+pub sums-requires : goal.sums-requires
+sums-requires c =
+    let at = c.in_ok-at.ensures in
+    as_asked (λ s k a m. c.loop-signal.signal < length (signals (rules_of s) m)) (sym at.signals) (sym at.classes) (sym at.side.0, sym at.side.1)
+    (omega (arith, c.loop-signal-test.true, c.requires.within))
+
+-- the sums of the signal
+here : (c : In_ok-sums) → AreAmounts (frame_of (rules_of c.args.grouped.now.signals.now)) c.args.grouped.now.classes.now.lists c.args.side c.args.round
+    c.loop-signal.signal c.in_ok-sums.sums.items
+here c =
+    let at = c.in_ok-at.ensures in
+    as_asked (λ s k a m. AreAmounts (frame_of (rules_of s)) k.lists a m c.loop-signal.signal c.in_ok-sums.sums.items) at.signals at.classes at.side
+    c.in_ok-sums.ensures
 
 pub loop-signal-preserved-then-has_earlier : goal.loop-signal-preserved-then-has_earlier
 loop-signal-preserved-then-has_earlier c =
@@ -63,9 +68,9 @@ loop-signal-preserved-then-has_earlier c =
     let signal = c.loop-signal.signal in
     let firsts = c.in_ok-firsts.firsts.items in
     let n = numbered w.Start in
-    let found = subst (λ (xs : List ℕ). (signal < length xs) × (get_or xs signal 0 < signal)) c.deref-in-loop-signal.ensures.value
+    let found = subst (λ (xs : List ℕ). (signal < length xs) × (get_or xs signal 0 < signal)) c.deref.ensures.value
     (c.has_earlier.ensures c.if-has_earlier.true) in
-    let stand = standing w.In_ok-firsts lists c.in_ok-keys.ensures (omega (arith, found.0)) in
+    let stand = standing w.In_ok-firsts (omega (arith, found.0)) in
     record {
       long = c.loop-signal.invariant.long;
       stored = stored_later f lists c.args.side c.args.round signal c.loop-signal.kept.items n c.loop-signal.invariant.stored
@@ -112,7 +117,6 @@ returns-then-not-are_same c =
     let sums = c.in_ok-sums.sums in
     let w = goal.at.returns-then-not-are_same c in
     let first = earlier w.After-first c.if-first-signal.false c.index.result.now in
-    let here = c.in_ok-sums.ensures lists (c.deref-in-loop-signal-2.ensures.value ∙ c.in_ok-keys.ensures) in
     let no : c.are_same.result ≡ false = search rules in (
       c.loop-signal-test.true,
       c.loop-signal.invariant.agree,
@@ -120,7 +124,7 @@ returns-then-not-are_same c =
           let own = subst (λ (x : ℕ). HaveEqualAmounts f lists c.args.side c.args.round (first_member lists c.args.round x) c.loop-signal.signal)
           (sym c.class_of-class.ensures.value) a in
           let items = same_if_agree f lists c.args.side c.args.round (first_member lists c.args.round c.class_of-class.result) c.loop-signal.signal kept.items
-          sums.items first here own in
+          sums.items first (here w.In_ok-sums) own in
           let same = c.deref-else-first-signal.ensures.value ∙ ap (λ (v : Vec Part Global). v.items) c.index.ensures ∙ items
           ∙ sym c.deref-else-first-signal-2.ensures.value in
           true≢false (sym (c.are_same.ensures.1 same) ∙ no)),
@@ -140,18 +144,20 @@ loop-signal-preserved c =
     let n = numbered at.Start in
     let is = c.class_of-class.ensures.value in
     let in_class = c.class_of-class.ensures.class in
-    let here = c.in_ok-sums.ensures lists (c.deref-in-loop-signal-2.ensures.value ∙ c.in_ok-keys.ensures) in
+    let mine = here at.In_ok-sums in
     elim c.if-first-signal.branch [
       | then-first-signal w ↦
           let items = ap (λ (v : Vec (Vec Part Global) Global). v.items) w.kept-is in
           let own : first_member lists round (class_of lists round signal) ≡ signal = ap (first_member lists round) (sym is) ∙ sym c.first.ensures.value
           ∙ w.if-first-signal.true in
-          let put : set kept (class - 1) sums ≡ set kept (class_of lists round signal - 1) sums = ap (λ (j : ℕ). set kept (j - 1) sums) is in
+          let fit = w.shrink_to_fit.new.self in
+          let put : set kept (class - 1) fit ≡ set kept (class_of lists round signal - 1) fit = ap (λ (j : ℕ). set kept (j - 1) fit) is in
+          let shrunk = subst (AreAmounts f lists side round signal) (sym w.shrink_to_fit.ensures.items) mine in
           record {
-            long = ap (λ (v : List (Vec Part Global)). length v) items ∙ length-set kept (class - 1) sums ∙ c.loop-signal.invariant.long;
+            long = ap (λ (v : List (Vec Part Global)). length v) items ∙ length-set kept (class - 1) fit ∙ c.loop-signal.invariant.long;
             stored = subst (StoredBelow f lists side round (signal + 1)) (sym (items ∙ put))
-                (stored_first f lists side round signal kept n c.loop-signal.invariant.stored sums
-                (omega (arith, is, in_class.0, in_class.1, c.loop-signal.invariant.long)) (omega (arith, is, in_class.0)) own here);
+                (stored_first f lists side round signal kept n c.loop-signal.invariant.stored fit
+                (omega (arith, is, in_class.0, in_class.1, c.loop-signal.invariant.long)) (omega (arith, is, in_class.0)) own shrunk);
             stand = standing at.In_ok-firsts;
             agree = agree_more f lists side round signal c.loop-signal.invariant.agree (agree_self f lists side round signal own);
           }
@@ -164,7 +170,7 @@ loop-signal-preserved c =
           let yes : w.are_same.result ≡ true = search rules in
           let same = ap (λ (v : Vec Part Global). v.items) (sym w.index.ensures) ∙ sym w.deref-else-first-signal.ensures.value ∙ w.are_same.ensures.0 yes
           ∙ w.deref-else-first-signal-2.ensures.value in
-          let agrees = agree_if_same f lists side round (first_member lists round class) signal (get_or kept (class - 1) d).items sums.items first here same in
+          let agrees = agree_if_same f lists side round (first_member lists round class) signal (get_or kept (class - 1) d).items sums.items first mine same in
           record {
             long = ap (λ (v : List (Vec Part Global)). length v) items ∙ c.loop-signal.invariant.long;
             stored = subst (StoredBelow f lists side round (signal + 1)) (sym items)
