@@ -4,14 +4,13 @@ ghost use Rattle.std.specs.{Prelude.{◌≡◌, ◌+◌, ◌-◌, ◌<◌, ℕ, 
 ghost use Rattle.gs_game.specs.GoingOn.{StopsAfter, ways_on as ways_after};
 ghost use Rattle.gs_model.specs.{Classes.{IsClass, list_of}, Frame.{last_round}, Game.{round_count}, Lossless.{IsLossless}};
 ghost use Rattle.gs_tree.specs.Trees.{rules_of};
-ghost use Rattle.gs_lossless.specs.Amounts.{keys_of};
 ghost use Rattle.gs_lossless.specs.declared.sides.Side.TheVariants as sides;
 ghost use Rattle.gs_seq.specs.{Games.{frame_in}, Rows.{AreRowsIn, IsRow}, declared.pair.Pair.{Pair as Paired}};
 
 use crate::pair::Pair;
 use crate::rows::{row_of, rows_in};
 use gs_filter::Classes;
-use gs_lossless::{Lossless, Side, side_keys, side_sums, stopped_classes};
+use gs_lossless::{Lossless, Side, SideKeys, stopped_classes};
 use gs_tree::Signals;
 use std::alloc::{AllocError, Global};
 
@@ -43,17 +42,19 @@ fn ways_on(at: &StoppedRound<'_>) -> u64
 fn row_by(
     alloc: Global,
     at: &StoppedRound<'_>,
-    keys: &[u32],
+    deals: &SideKeys<'_>,
     ways: u64,
     class: u32,
 ) -> Result<Vec<Pair>, AllocError>
-    requires keys { keys.now ≡ keys_of (frame_in at.now.stopped.now.game.now) at.now.seen.now.lists sides.Deals at.now.round }
+    requires signals { deals.now.signals.now ≡ at.now.stopped.now }
+    requires classes { deals.now.classes.now ≡ at.now.seen.now }
+    requires side { (deals.now.side ≡ sides.Deals) × (deals.now.round ≡ at.now.round) }
     requires ways { ways ≡ ways_after (rules_of at.now.signals.now) at.now.round }
     requires class { IsClass at.now.classes.now.lists at.now.round class }
     ensures { IfOk result (λ v. IsRow (frame_in at.now.signals.now.game.now) at.now.classes.now.lists at.now.round class v.items) }
 {
     let first = at.classes.first(at.round, class);
-    let sums = side_sums(alloc, at.stopped, Side::Deals, at.round, keys, first)?;
+    let sums = deals.sums(alloc, first)?;
     row_of(
         alloc,
         &sums,
@@ -65,12 +66,12 @@ fn row_by(
 fn rows_by(alloc: Global, at: &StoppedRound<'_>) -> Result<Vec<Vec<Pair>>, AllocError>
     ensures { IfOk result (λ v. AreRowsIn (frame_in at.now.signals.now.game.now) at.now.classes.now.lists at.now.round v.items) }
 {
-    let keys = side_keys(alloc, at.stopped, at.seen, Side::Deals, at.round)?;
+    let deals = SideKeys::of(alloc, at.stopped, at.seen, Side::Deals, at.round)?;
     let ways = ways_on(at);
     let count = at.classes.classes(at.round);
     let mut rows = Vec::with_capacity(alloc, count as usize)?;
     for before in 0..count {
-        let row = row_by(alloc, at, &keys, ways, before + 1)?;
+        let row = row_by(alloc, at, &deals, ways, before + 1)?;
         rows.push(row)?;
     }
     Ok(rows)

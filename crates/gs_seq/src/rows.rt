@@ -2,7 +2,6 @@
 
 ghost use Rattle.std.specs.Prelude.{◌≡◌, ◌+◌, ◌*◌, ◌<◌, ◌≤◌, ◌^◌, IfOk, OnOk, All, map, pos, reverse, sum_by, unsigned_abs, ◌+ℤ◌, ◌*ℤ◌};
 ghost use Rattle.gs_model.specs.{Classes.{IsClass}, Frame.{last_round}, Lossless.{IsLossless}};
-ghost use Rattle.gs_lossless.specs.Amounts.{keys_of};
 ghost use Rattle.gs_lossless.specs.declared.sides.Side.TheVariants as sides;
 ghost use Rattle.gs_seq.specs.{Cells.{AreCounts, cell_count}, Games.{frame_in}};
 ghost use Rattle.gs_seq.specs.Rows.{AreRows, AreRowsIn, IsModerate, IsRow, gathered, join, pair_of, pairs_of, together};
@@ -13,7 +12,7 @@ use crate::pair::Pair;
 use crate::single::are_made;
 use gs_filter::Classes;
 use gs_game::ValidGame;
-use gs_lossless::{Lossless, Part, Side, side_keys, side_sums};
+use gs_lossless::{Lossless, Part, Side, SideKeys};
 use gs_tree::Signals;
 use std::alloc::{AllocError, Global};
 
@@ -103,25 +102,16 @@ pub(crate) fn row_of(alloc: Global, sums: &[Part], members: u64) -> Result<Vec<P
 }
 
 /// Returns the row of a class in a round, from the sums of its first member: all members have the same sums.
-fn class_row(
-    alloc: Global,
-    signals: &Signals,
-    classes: &Classes,
-    round: u8,
-    keys: &[u32],
-    class: u32,
-) -> Result<Vec<Pair>, AllocError>
-    requires parents { classes.now.parents ≡ (frame_in signals.now.game.now).parents }
-    requires lossless { IsLossless (frame_in signals.now.game.now) classes.now.lists }
-    requires some { 0 < round }
-    requires top { round ≤ last_round (frame_in signals.now.game.now) }
-    requires keys { keys.now ≡ keys_of (frame_in signals.now.game.now) classes.now.lists sides.Deals round }
-    requires class { IsClass classes.now.lists round class }
-    ensures { IfOk result (λ v. IsRow (frame_in signals.now.game.now) classes.now.lists round class v.items) }
+fn class_row(alloc: Global, deals: &SideKeys<'_>, class: u32) -> Result<Vec<Pair>, AllocError>
+    requires side { deals.now.side ≡ sides.Deals }
+    requires lossless { IsLossless (frame_in deals.now.signals.now.game.now) deals.now.classes.now.lists }
+    requires class { IsClass deals.now.classes.now.lists deals.now.round class }
+    ensures { IfOk result (λ v. IsRow (frame_in deals.now.signals.now.game.now) deals.now.classes.now.lists deals.now.round class v.items) }
 {
-    let first = classes.first(round, class);
-    let sums = side_sums(alloc, signals, Side::Deals, round, keys, first)?;
-    row_of(alloc, &sums, u64::from(classes.size(round, class)))
+    let first = deals.classes.first(deals.round, class);
+    let sums = deals.sums(alloc, first)?;
+    let members = deals.classes.size(deals.round, class);
+    row_of(alloc, &sums, u64::from(members))
 }
 
 /// Returns the rows of all classes of a round.
@@ -137,11 +127,11 @@ pub(crate) fn rows_in(
     requires top { round ≤ last_round (frame_in signals.now.game.now) }
     ensures { IfOk result (λ v. AreRowsIn (frame_in signals.now.game.now) classes.now.lists round v.items) }
 {
-    let keys = side_keys(alloc, signals, classes, Side::Deals, round)?;
+    let deals = SideKeys::of(alloc, signals, classes, Side::Deals, round)?;
     let count = classes.classes(round);
     let mut rows = Vec::with_capacity(alloc, count as usize)?;
     for before in 0..count {
-        rows.push(class_row(alloc, signals, classes, round, &keys, before + 1)?)?;
+        rows.push(class_row(alloc, &deals, before + 1)?)?;
     }
     Ok(rows)
 }

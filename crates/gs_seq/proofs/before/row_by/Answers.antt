@@ -1,12 +1,12 @@
-use Rattle.std.proofs.{Common.{◌≡◌, ◌*◌, ◌≤◌, sum_by, length, ap, sym, ◌∙◌, subst, arith}, Math.Nat.{mul-le-mul_right}, lemmas.List.{length-map}}
-use Rattle.std.proofs.{lemmas.List.FromFn.{length-range_with_len}, lemmas.List.Sums.{count_by-le-length}}
+use Rattle.std.proofs.{Common.{◌≡◌, ◌*◌, ◌<◌, ◌≤◌, sum_by, length, ap, sym, ◌∙◌, subst, arith}, Math.Nat.{mul-le-mul_right}}
+use Rattle.std.proofs.lemmas.List.Sums.{count_by-le-length}
 use Rattle.std.specs.Prelude.{◌==◌}
 use Rattle.gs_lossless.specs.{Amounts.{AreAmounts}, declared.parts.Part.{Part}, declared.sides.Side.TheVariants.{Deals}}
-use Rattle.gs_lossless.proofs.{Descent.{count_last, list_long, playable}, Settled.{if_ok}}
-use Rattle.gs_model.specs.{Classes.{class_of, list_of}, Frame.{at_round, last_round, signal_count, signals_in}, Game.{round_count}}
+use Rattle.gs_lossless.proofs.{Descent.{list_long}, Settled.{if_ok}, SideOf.{as_asked}}
+use Rattle.gs_model.specs.{Classes.{list_of}, Game.{round_count}, Signals.{signals}}
 use Rattle.gs_tree.specs.Trees.{rules_of}
 use Rattle.gs_seq.specs.{Games.{frame_in}, Rows.{IsRow, gathered}}
-use Rattle.gs_seq.proofs.{Stopped.{in_stopped, row_fits, row_is, same_signals, ways_few}, before.row_by.Goals.{After-deref, Start}}
+use Rattle.gs_seq.proofs.{Stopped.{row_fits, row_is, same_signals, ways_few}, before.row_by.Goals.{After-deref, Start}}
 use Rattle.gs_seq.proofs.before.row_by.Goals as goal
 
 top : (c : Start) → c.args.at.now.round ≤ round_count (rules_of c.args.at.now.signals.now)
@@ -18,31 +18,22 @@ amounts : (c : After-deref) → AreAmounts (frame_in c.args.at.now.stopped.now.g
 amounts c =
     subst (AreAmounts (frame_in c.args.at.now.stopped.now.game.now) c.args.at.now.seen.now.lists Deals c.args.at.now.round c.first-first.result)
     (sym c.deref.ensures.value)
-    (c.in_ok-sums.ensures c.args.at.now.seen.now.lists c.requires.keys)
+    (as_asked (λ s k a m. AreAmounts (frame_in s.game.now) k.lists a m c.first-first.result c.in_ok-sums.sums.items) c.requires.signals c.requires.classes
+    c.requires.side c.in_ok-sums.ensures)
 
-pub side_sums-requires-clause-side : goal.side_sums-requires-clause-side
-side_sums-requires-clause-side c = in_stopped c.args.at.now.signals.now.game.now c.args.at.now.stopped.now.game.now c.args.at.now.round c.args.at.now.some
-    (omega (arith, c.args.at.now.before_last)) c.args.at.now.stops
-
-pub side_sums-requires-clause-all : goal.side_sums-requires-clause-all
-side_sums-requires-clause-all c =
-    let f = frame_in c.args.at.now.stopped.now.game.now in
-    ap length c.requires.keys ∙ length-map (signals_in f (last_round f))
-    (λ x. class_of c.args.at.now.seen.now.lists c.args.at.now.round (at_round f c.args.at.now.round x))
-    ∙ length-range_with_len 0 (signal_count f (last_round f)) ∙ count_last (rules_of c.args.at.now.stopped.now) (playable c.args.at.now.stopped.now)
-
-pub side_sums-requires-clause-in_range : goal.side_sums-requires-clause-in_range
-side_sums-requires-clause-in_range c =
-    let few = top (goal.at.side_sums-requires-clause-in_range c).Start in
+pub sums-requires : goal.sums-requires
+sums-requires c =
+    let few = top (goal.at.sums-requires c).Start in
     let same = ap length (same_signals c.args.at.now.signals.now.game.now c.args.at.now.stopped.now.game.now c.args.at.now.round c.args.at.now.some few
     c.args.at.now.stops) in
-    omega (
+    as_asked (λ s k a m. c.first-first.result < length (signals (rules_of s) m)) (sym c.requires.signals) (sym c.requires.classes)
+    (sym c.requires.side.0, sym c.requires.side.1) (omega (
       arith,
       c.first-first.ensures.within,
       list_long (rules_of c.args.at.now.signals.now) c.args.at.now.classes.now c.args.at.now.parents
           c.args.at.now.round c.args.at.now.some few,
       same,
-    )
+    ))
 
 pub overflow_mul-from : goal.overflow_mul-from
 overflow_mul-from c =

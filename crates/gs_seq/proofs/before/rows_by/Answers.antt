@@ -6,8 +6,8 @@ use Rattle.gs_seq.proofs.{CellLaws.{pushed_to}, SlotLaws.{over}, Stopped.{in_sto
 use Rattle.gs_seq.proofs.before.rows_by.Goals as goal
 use Rattle.gs_model.proofs.Walked.{last_round_of}
 
-pub side_keys-requires-clause-side : goal.side_keys-requires-clause-side
-side_keys-requires-clause-side c = in_stopped c.args.at.now.signals.now.game.now c.args.at.now.stopped.now.game.now c.args.at.now.round c.args.at.now.some
+pub of-requires-clause-side : goal.of-requires-clause-side
+of-requires-clause-side c = in_stopped c.args.at.now.signals.now.game.now c.args.at.now.stopped.now.game.now c.args.at.now.round c.args.at.now.some
     (omega (arith, c.args.at.now.before_last)) c.args.at.now.stops
 
 pub classes-count-requires-clause-top : goal.classes-count-requires-clause-top
