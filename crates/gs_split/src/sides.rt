@@ -3,12 +3,12 @@
 ghost use Rattle.std.specs.Prelude.{◌≡◌, ◌<◌, ◌≤◌, ℕ, IfOk, List, length};
 ghost use Rattle.gs_model.specs.{Classes.{ClassLists, list_of}, Frame.{frame_of, last_round}};
 ghost use Rattle.gs_tree.specs.Trees.{rules_of};
-ghost use Rattle.gs_lossless.specs.Amounts.{AreSideFirsts, HasSide, key_count, keys_of};
+ghost use Rattle.gs_lossless.specs.Amounts.{AreSideFirsts, HasSide};
 ghost use Rattle.gs_split.specs.Turns.{AreSettled, AreSideNumbers, AreTurnNumbers};
 
 use gs_filter::Classes;
 use gs_iso::number_of_list;
-use gs_lossless::{Boards, Grouped, Side, side_keys, side_sums};
+use gs_lossless::{Boards, Grouped, Side, SideKeys};
 use gs_tree::Signals;
 use indexmap::IndexSet;
 use std::alloc::{AllocError, Global};
@@ -17,22 +17,16 @@ use std::alloc::{AllocError, Global};
 /// In the last round the stand-in sees the same deals; before it, the stand-in is the signal itself.
 fn side_firsts(
     alloc: Global,
-    signals: &Signals,
     boards: &Boards<'_>,
-    side: Side,
-    round: u8,
-    keys: &[u32],
+    at: &SideKeys<'_>,
 ) -> Result<Vec<u32>, AllocError>
-    requires boards { boards.now.signals.now ≡ signals.now }
-    requires side { HasSide (frame_of (rules_of signals.now)) side round }
-    requires all { length keys.now ≡ key_count (rules_of signals.now) side round }
-    ensures { IfOk result (λ v. (lists : ClassLists) → keys.now ≡ keys_of (frame_of (rules_of signals.now)) lists side round
-        → AreSideFirsts (frame_of (rules_of signals.now)) lists side round v.items) }
+    requires { boards.now.signals.now ≡ at.now.signals.now }
+    ensures { IfOk result (λ v. AreSideFirsts (frame_of (rules_of at.now.signals.now)) at.now.classes.now.lists at.now.side at.now.round v.items) }
 {
-    if round == signals.rounds() {
-        return boards.stand_ins(alloc, keys);
+    if at.round == at.signals.rounds() {
+        return boards.stand_ins(alloc, &at.keys);
     }
-    let count = signals.count(round);
+    let count = at.signals.count(at.round);
     let mut firsts = Vec::with_capacity(alloc, count as usize)?;
     for signal in 0..count {
         firsts.push(signal)?;
@@ -93,8 +87,8 @@ pub(crate) fn side_numbers(
 {
     let Grouped { signals, classes } = *grouped;
     let side = side_at(signals, round);
-    let keys = side_keys(alloc, signals, classes, side, round)?;
-    let firsts = side_firsts(alloc, signals, boards, side, round, &keys)?;
+    let at = SideKeys::of(alloc, signals, classes, side, round)?;
+    let firsts = side_firsts(alloc, boards, &at)?;
     let settled = settled_classes(alloc, classes, round, &firsts)?;
     let count = signals.count(round);
     let mut seen = IndexSet::new(alloc);
@@ -110,7 +104,7 @@ pub(crate) fn side_numbers(
         let sums = if settled[class as usize - 1] {
             Vec::new(alloc)
         } else {
-            side_sums(alloc, signals, side, round, &keys, signal)?
+            at.sums(alloc, signal)?
         };
         let number = number_of_list(alloc, &mut seen, &sums)?;
         numbers.push(number)?;

@@ -7,5 +7,5 @@ use Rattle.gs_split.proofs.sides.side_numbers.Given as goal
 
 abbrev pub invariant-loop-signal : goal.invariant-loop-signal
 invariant-loop-signal l =
-    AreNumbered part_eq part_decides (λ i a. AreClassSums (frame_of (rules_of l.grouped.signals.now)) l.grouped.classes.now.lists l.side l.round
+    AreNumbered part_eq part_decides (λ i a. AreClassSums (frame_of (rules_of l.grouped.signals.now)) l.grouped.classes.now.lists l.at.side l.round
     l.settled.items i a) l.seen.keys l.numbers.items l.signal
