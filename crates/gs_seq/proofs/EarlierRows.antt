@@ -16,7 +16,7 @@ use Rattle.gs_game.specs.declared.valid.ValidGame.{ValidGame}
 use Rattle.gs_lossless.specs.declared.parts.Part.{Part}
 use Rattle.gs_lossless.proofs.Merge.{part_lt}
 use Rattle.gs_model.specs.{Classes.{IsClass, IsClasses, class_count, class_of, first_member, list_of}, Deals.{Deal}}
-use Rattle.gs_model.specs.{Frame.{ancestor, ancestor_up, at_round, last_round, signal_count}, Pairs.{pair_sum}}
+use Rattle.gs_model.specs.{Frame.{ancestor, at_round, last_round, signal_count}, Pairs.{pair_sum}}
 use Rattle.gs_model.proofs.{Gather.{class_in, firsts_from}, Regroup.{sum_z-pos}, Total.{sum_z-same}}
 use Rattle.gs_model.proofs.{Basics.{pos-injective, every-append, sum-same, not_eq, sum_by-map}, Alike.{ancestor-parent}}
 use Rattle.gs_seq.specs.{Games.{frame_in}, Rows.{AreBelow, AreRowsIn, IsRow, below_class, class_up, gathered, pair_of, part_up, row_at, weight_in}}

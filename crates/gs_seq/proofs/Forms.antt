@@ -1,12 +1,12 @@
 -- What a game in sequence form reads of its game and classes.
 use Rattle.std.proofs.Common.{◌≡◌, ℕ, ◌<◌, ◌≤◌, List, [], None, length, map, get_or, refl, ap, ◌∙◌, sym, subst, inl, inr, ⊎_elim, arith}
-use Rattle.std.proofs.{lemmas.Bool.{cases_eq}, lemmas.List.{get_or-map, length-map}}
+use Rattle.std.proofs.{lemmas.Bool.{cases_eq}, lemmas.List.{get_or-map}}
 use Rattle.std.specs.Prelude.{◌⊎◌}
 use Rattle.gs_game.specs.{Games.{game_of}, Seen.{OwnPoint, arrow_of, end_of, own_point, point_of, target_of}, declared.positions.Arrow.{Arrow as StoredArrow}}
 use Rattle.gs_game.specs.{declared.positions.End.{End as StoredEnd}, declared.positions.Point.{Point as StoredPoint}, declared.valid.ValidGame.{ValidGame}}
 use Rattle.gs_model.specs.Classes.{ClassLists, IsClasses, class_count}
 use Rattle.gs_model.specs.Frame.{Frame, end_at, end_count, last_round, leads_to, move_count, point, point_count, round_of, signal_count}
-use Rattle.gs_model.specs.{FrameFacts.{InRange, IsWalked}, Game.{round_count}, Lossless.{IsLossless}, Positions.{Arrow, End, Show, at_end}, Signals.{signals}}
+use Rattle.gs_model.specs.{FrameFacts.{InRange, IsWalked}, Game.{round_count}, Lossless.{IsLossless}, Positions.{Arrow, at_end}, Signals.{signals}}
 use Rattle.gs_model.proofs.{Ranges.{in_range as in_range_of, signal_count_is}, Walked.{last_round_of}}
 use Rattle.gs_tree.specs.{Trees.{rules_of}, declared.signals.Signals.{Signals}}
 use Rattle.gs_seq.specs.{Abstracts.{abstract_frame, game_in, lists_of}, Games.{frame_in}, declared.form.Abstract.{Abstract}}

@@ -31,4 +31,6 @@ pub mod Signed
 pub mod Singles
 pub mod Stopped
 pub mod Turns
+pub mod Wholed
+pub mod Wholes
 pub mod PlanSlots

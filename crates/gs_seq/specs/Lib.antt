@@ -8,6 +8,7 @@ pub mod Singles
 pub mod Stops
 pub mod Plans
 pub mod Abstracts
+pub mod AtEnds
 pub mod Exchange
 pub mod Payoffs
 pub mod Firsts

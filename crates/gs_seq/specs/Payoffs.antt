@@ -2,7 +2,7 @@
 use Rattle.std.specs.Prelude.{ℕ, ◌-◌, ◌<◌, ◌≤◌, ◌≡◌, ◌==◌, ◌^◌, List, ℤ, pos, neg_ℤ, ◌*ℤ◌, if◌then◌else◌, slice_index}
 use Rattle.gs_model.specs.{Classes.{ClassLists, IsClass, class_count, classes_in}, Frame.{Frame, other_player, payoff_to, round_of}}
 use Rattle.gs_model.specs.{Pairs.{class_number, pair_sum}, Plans.{Plan}, Positions.{End, EndKind, Folded1, Folded2, Show, at_end}, Sums.{sum_z}}
-use Rattle.gs_seq.specs.declared.pair.Pair.{Pair}
+use Rattle.gs_seq.specs.{Rows.{AreWholesIn}, declared.pair.Pair.{Pair}}
 
 -- what an end pays a player at the player's class `c` against a plan of the other player:
 -- the sum, over the other's classes, of the plan's number at the end times what the end pays in the deals of both classes
@@ -47,3 +47,8 @@ abbrev pub number_sum : Frame → ClassLists → ℕ → List ℕ → ℕ → �
 number_sum f lists player numbers z c =
     let round = round_of f (at_end z) in
     sum_z (λ e. pos (slice_index numbers (e - 1)) *ℤ pair_sum f lists lists round (payoff_to f player z) c e) (classes_in lists round)
+
+-- the numbers of an end's classes are all the same, and `wholes` has for each class all pairs of its row as one
+pub record AreWholesFor (f : Frame) (lists : ClassLists) (z : ℕ) (numbers : List ℕ) (wholes : List Pair) : Type 0 where
+  pub same : (k : ℕ) → k < end_classes f lists z → slice_index numbers k ≡ slice_index numbers 0
+  pub wholes_are : AreWholesIn f lists (round_of f (at_end z)) wholes

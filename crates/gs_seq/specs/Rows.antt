@@ -1,5 +1,5 @@
 -- The pairs of a class as a list, one for each class of the other player that it meets.
-use Rattle.std.specs.Prelude.{All, map, filter, ℕ, ◌+◌, ◌-◌, ◌*◌, ◌<◌, ◌≤◌, ◌≡◌, ◌==◌, List, [], ◌∷◌, length, ℤ, pos, ◌+ℤ◌, ◌*ℤ◌, unsigned_abs, get_or}
+use Rattle.std.specs.Prelude.{All, map, filter, ℕ, ◌+◌, ◌-◌, ◌*◌, ◌^◌, ◌<◌, ◌≤◌, ◌≡◌, ◌==◌, List, [], ◌∷◌, length, ℤ, pos, ◌+ℤ◌, ◌*ℤ◌, unsigned_abs, get_or}
 use Rattle.std.specs.Prelude.{if◌then◌else◌, sum_by, Vec, vec_len}
 use Rattle.std.specs.{declared.alloc.Global.{Global}, List.{range_with_len}}
 use Rattle.gs_filter.specs.Filter.{Filter}
@@ -69,6 +69,26 @@ gathered members (p ∷ ps) = join (pair_of members p) (gathered members ps)
 -- the signed weight is at most 128 times the weight in size
 abbrev pub IsModerate : Pair → Type 0
 IsModerate p = unsigned_abs p.signed ≤ 128 * p.weight
+
+-- ---- all pairs of a row as one
+
+-- all pairs of a row as one
+abbrev pub whole : List Pair → Pair
+whole row = record { two = 0; weight = sum_by (λ p. p.weight) row; signed = sum_z (λ p. p.signed) row }
+
+-- for each row all its pairs as one, round by round
+abbrev pub AreWholes : List (Vec (Vec Pair Global) Global) → List (Vec Pair Global) → Type 0
+AreWholes rows wholes = map (λ v. v.items) wholes ≡ map (λ v. map (λ r. whole r.items) v.items) rows
+
+-- for each class of a round all pairs of its row as one
+pub record AreWholesIn (f : Frame) (lists : ClassLists) (round : ℕ) (wholes : List Pair) : Type 0 where
+  pub long : length wholes ≡ class_count lists round
+  pub each : (c : ℕ) (d : Pair) → IsClass lists round c → (row : List Pair) × IsRow f lists round c row × (get_or wholes (c - 1) d ≡ whole row)
+
+-- the pairs of a row weigh less than 2^32, and are moderate
+pub record IsSlim (row : List Pair) : Type 0 where
+  pub few : sum_by (λ p. p.weight) row < 2 ^ 32
+  pub moderate : All IsModerate row
 
 -- ---- rows from those of the next round
 

@@ -3,18 +3,18 @@
 ghost use Rattle.std.specs.Prelude.{◌≡◌, ◌<◌, ◌≤◌, ◌^◌, IfOk, Some};
 ghost use Rattle.gs_boards.specs.declared.board_order.BoardOrder.{BoardOrder as Along};
 ghost use Rattle.gs_model.specs.Frame.{last_round};
-ghost use Rattle.gs_seq.specs.{Games.{frame_in}, Rows.{AreRows, IsSingleIn}, Singles.{HasSumsOf}, Slots.{AreOffsets, slot_count as slots_in}};
+ghost use Rattle.gs_seq.specs.{Games.{frame_in}, Rows.{AreRows, AreWholes, IsSingleIn}, Singles.{HasSumsOf}, Slots.{AreOffsets, slot_count as slots_in}};
 ghost use Rattle.gs_seq.specs.Stops.{HasSequencesWithin};
 ghost use Rattle.gs_tree.specs.Trees.{rules_of};
 
 use crate::fault::PlanFault;
 use crate::flows::plan_fault;
 use crate::limits::Limits;
-use crate::numbers::{end_source, number_by};
+use crate::numbers::{PlanAtEnd, end_source};
 use crate::pair::Pair;
 use crate::pairs::{Pairs, first_after};
 use crate::plan::Plan;
-use crate::rows::{cells, rows_of};
+use crate::rows::{cells, rows_of, wholes_of};
 use crate::slots::{few_slots, offsets_of};
 use crate::stop::SeqStop;
 use gs_boards::BoardOrder;
@@ -40,6 +40,8 @@ pub struct Abstract<'a> {
     two: u32,
     // for each round and class of player 1 its pairs; the last round is left out if its pairs are made from deals
     rows: Vec<Vec<Vec<Pair>>>,
+    // for each of these rows all its pairs as one
+    pub(crate) wholes: Vec<Vec<Pair>>,
     // the signals of the last round along their boards, if the pairs of its classes are made from deals
     order: Option<BoardOrder<'a>>,
     ghost few: { HasSequencesWithin (2 ^ 30) (frame_in lossless.now.signals.now.game.now) lossless.now.classes.now.lists },
@@ -47,6 +49,7 @@ pub struct Abstract<'a> {
     ghost ones: { one ≡ slots_in (frame_in lossless.now.signals.now.game.now) lossless.now.classes.now.lists 1 },
     ghost twos: { two ≡ slots_in (frame_in lossless.now.signals.now.game.now) lossless.now.classes.now.lists 2 },
     ghost paired: { AreRows (frame_in lossless.now.signals.now.game.now) lossless.now.classes.now.lists rows.items },
+    ghost wholed: { AreWholes rows.items wholes.items },
     ghost ordered: { (b : Along) → order ≡ Some b → HasSumsOf (rules_of b.signals.now) (rules_of lossless.now.signals.now) },
     ghost single: { (b : Along) → order ≡ Some b → IsSingleIn lossless.now.classes.now.lists (last_round (frame_in lossless.now.signals.now.game.now)) },
 }
@@ -73,7 +76,7 @@ impl<'a> Abstract<'a> {
     ghost use Rattle.std.specs.Prelude.{◌+◌, IfOk, IfErr, IfSome, MatchOption};
     ghost use Rattle.gs_model.specs.{Classes.{IsClass}, Frame.{end_count, last_round, move_count, player_at, point_count, round_of}};
     ghost use Rattle.gs_model.specs.{Pairs.{class_number}, Positions.{at_end, at_point}};
-    ghost use Rattle.gs_seq.specs.{Abstracts.{abstract_frame, lists_of}, Cells.{IsPairAfter, MeetsNoneAfter}, Faults.{IsFaultOf}};
+    ghost use Rattle.gs_seq.specs.{Abstracts.{abstract_frame, lists_of}, AtEnds.{IsOfForm}, Cells.{IsPairAfter, MeetsNoneAfter}, Faults.{IsFaultOf}};
     ghost use Rattle.gs_seq.specs.{Plans.{IsPlanOf, class_plan}, Rows.{IsRow, IsSingleIn}, Singles.{HasSumsOf}};
     ghost use Rattle.gs_seq.specs.{Slots.{IsPlan, sequence_count, slot_of}, Stops.{IsSmall, IsStopAt, IsUsualStop, IsWithin}};
     ghost use Rattle.gs_tree.specs.Trees.{rules_of};
@@ -106,6 +109,7 @@ impl<'a> Abstract<'a> {
         let (one, two) = few_slots(game, classes, most.sequences)?;
         let offsets = offsets_of(alloc, game, classes)?;
         let rows = rows_of(alloc, lossless)?;
+        let wholes = wholes_of(alloc, &rows)?;
         let order = order_of(alloc, lossless, rows.len())?;
         let count = cells(alloc, game, classes, &rows)?;
         if count > most.cells {
@@ -117,6 +121,7 @@ impl<'a> Abstract<'a> {
             one,
             two,
             rows,
+            wholes,
             order,
         })
     }
@@ -206,6 +211,39 @@ impl<'a> Abstract<'a> {
         &self.offsets
     }
 
+    /// Returns a plan, at an end.
+    pub(crate) fn plan_at<'s>(&'s self, plan: &'s Plan, end: u32) -> PlanAtEnd<'s>
+        requires some { 0 < plan.now.player }
+        requires two { plan.now.player ≤ 2 }
+        requires plan { IsPlanOf (abstract_frame self.now) (lists_of self.now) plan.now.player plan.now }
+        requires end { end < end_count (abstract_frame self.now) }
+        ensures form { IsOfForm self.now result }
+        ensures plan { result.plan.now ≡ plan.now }
+        ensures end { result.end ≡ end }
+    {
+        let game = self.game();
+        let classes = self.classes();
+        let source = end_source(game, self.offsets(), plan.player, end);
+        PlanAtEnd {
+            game,
+            classes,
+            plan,
+            end,
+            source,
+        }
+    }
+
+    /// Returns the number of a plan at an end, at a class of the end's round.
+    pub(crate) fn number_at(&self, at: &PlanAtEnd<'_>, class: u32) -> u64
+        requires form { IsOfForm self.now at.now }
+        requires class { IsClass (lists_of self.now) (round_of (abstract_frame self.now) (at_end at.now.end)) class }
+        ensures value { let f = abstract_frame self.now in let lists = lists_of self.now in let p = at.now.plan.now in
+            result ≡ class_number f lists p.player (class_plan f lists p) at.now.end class }
+        ensures within { result ≤ at.now.plan.now.total }
+    {
+        at.number(class)
+    }
+
     /// Returns a plan's number at an end and a class of the end's round: the weight of the player's last step before the end, at the class above.
     /// If the player made no step, the number is the total.
     pub fn number_at_end(&self, plan: &Plan, end: u32, class: u32) -> u64
@@ -218,9 +256,7 @@ impl<'a> Abstract<'a> {
             (class_plan (abstract_frame self.now) (lists_of self.now) plan.now) end class }
         ensures within { result ≤ plan.now.total }
     {
-        let game = self.game();
-        let source = end_source(game, self.offsets(), plan.player, end);
-        number_by(game, self.classes(), plan, source, end, class)
+        self.number_at(&self.plan_at(plan, end), class)
     }
 
     /// Makes a plan of a player from a total and weights in slot order. Errors: the first reason why they do not form a plan.

@@ -26,7 +26,7 @@ pub use flows::{MOST_TOTAL, StepSource, class_above, plan_fault};
 pub use form::Abstract;
 pub use laws::{pairs_are_exchanged, plans_have_no_fault};
 pub use limits::Limits;
-pub use numbers::{end_step, number_by, plus, scaled, source_at_end};
+pub use numbers::{PlanAtEnd, end_step, plus, scaled, source_at_end};
 pub use pair::Pair;
 pub use pairs::Pairs;
 pub use plan::Plan;

@@ -90,32 +90,38 @@ pub fn source_at_end(
     })
 }
 
-/// Returns a plan's number at an end and a class of the end's round: the weight of the player's last step, at the class above.
-/// If the player made no step, the number is the total. `source` is the player's last step before the end.
-pub fn number_by(
-    game: &ValidGame,
-    classes: &Classes,
-    plan: &Plan,
-    source: Option<StepSource>,
-    end: u32,
-    class: u32,
-) -> u64
-    requires parents { classes.now.parents ≡ (frame_in game.now).parents }
-    requires some { 0 < plan.now.player }
-    requires two { plan.now.player ≤ 2 }
-    requires plan { IsPlanOf (frame_in game.now) classes.now.lists plan.now.player plan.now }
-    requires end { end < end_count (frame_in game.now) }
-    requires source { MatchSource (frame_in game.now) classes.now.lists plan.now.player (at_end end) source }
-    requires class { IsClass classes.now.lists (round_of (frame_in game.now) (at_end end)) class }
-    ensures value { result ≡ class_number (frame_in game.now) classes.now.lists plan.now.player
-        (class_plan (frame_in game.now) classes.now.lists plan.now) end class }
-    ensures within { result ≤ plan.now.total }
-{
-    match source {
-        None => plan.total,
-        Some(step) => {
-            let round = game.ends()[end as usize].round;
-            weight_above(classes, &plan.weights, step, round, class)
+/// A plan of a player, at an end.
+#[derive(Clone, Copy)]
+pub struct PlanAtEnd<'a> {
+    pub game: &'a ValidGame,
+    pub classes: &'a Classes,
+    pub plan: &'a Plan,
+    pub end: u32,
+    /// The player's last step before the end.
+    pub source: Option<StepSource>,
+    pub ghost parents: { classes.now.parents ≡ (frame_in game.now).parents },
+    pub ghost some: { 0 < plan.now.player },
+    pub ghost two: { plan.now.player ≤ 2 },
+    pub ghost plan_is: { IsPlanOf (frame_in game.now) classes.now.lists plan.now.player plan.now },
+    pub ghost within: { end < end_count (frame_in game.now) },
+}
+
+impl<'a> PlanAtEnd<'a> {
+    /// Returns the plan's number at the end and a class of the end's round: the weight of the player's last step, at the class above.
+    /// If the player made no step, the number is the total.
+    pub fn number(&self, class: u32) -> u64
+        requires source { MatchSource (frame_in self.now.game.now) self.now.classes.now.lists self.now.plan.now.player (at_end self.now.end) self.now.source }
+        requires class { IsClass self.now.classes.now.lists (round_of (frame_in self.now.game.now) (at_end self.now.end)) class }
+        ensures value { let f = frame_in self.now.game.now in let lists = self.now.classes.now.lists in let p = self.now.plan.now in
+            result ≡ class_number f lists p.player (class_plan f lists p) self.now.end class }
+        ensures within { result ≤ self.now.plan.now.total }
+    {
+        match self.source {
+            None => self.plan.total,
+            Some(step) => {
+                let round = self.game.ends()[self.end as usize].round;
+                weight_above(self.classes, &self.plan.weights, step, round, class)
+            }
         }
     }
 }

@@ -1,14 +1,15 @@
 //! What an end pays all classes of its round, from the other player's numbers there.
 
-ghost use Rattle.std.specs.Prelude.{◌≡◌, ◌-◌, ◌<◌, ◌≤◌, ◌*ℤ◌, length, pos, slice_index};
+ghost use Rattle.std.specs.Prelude.{◌≡◌, ◌-◌, ◌<◌, ◌≤◌, ◌*ℤ◌, ℕ, length, pos, slice_index, true};
 ghost use Rattle.gs_boards.specs.Boards.{paid};
 ghost use Rattle.gs_game.specs.Seen.{end_of};
 ghost use Rattle.gs_model.specs.Deals.{Deal as Dealt};
 ghost use Rattle.gs_seq.specs.{Payoffs.{pair_pays}, Singles.{deal_pair}};
 
 use crate::form::Abstract;
+use crate::pair::Pair;
 use crate::pairs::Pairs;
-use crate::payoff::add_pays;
+use crate::payoff::{add_pays, times_pays};
 use crate::plan::Plan;
 use gs_boards::{BoardOrder, Pays};
 use gs_game::{End, EndKind};
@@ -20,6 +21,19 @@ fn number_of(numbers: &[u64], class: u32) -> u64
     ensures { result ≡ slice_index numbers.now (class - 1) }
 {
     numbers[class as usize - 1]
+}
+
+/// Returns whether the first `count` numbers of a list are all the same.
+fn are_same(numbers: &[u64], count: usize) -> bool
+    requires { count ≤ length numbers.now }
+    ensures { result ≡ true → (k : ℕ) → k < count → slice_index numbers.now k ≡ slice_index numbers.now 0 }
+{
+    for place in 0..count {
+        if numbers[place] != numbers[0] {
+            return false;
+        }
+    }
+    true
 }
 
 /// Returns what an end pays a player in a deal, as a function of the player's outcome.
@@ -36,9 +50,9 @@ fn pays_at(player: u8, end: End) -> Pays
 }
 
 impl<'a> Abstract<'a> {
-    ghost use Rattle.std.specs.Prelude.{◌+◌, ℕ, get_or};
+    ghost use Rattle.std.specs.Prelude.{◌+◌, IfSome, get_or};
     ghost use Rattle.gs_model.specs.{Classes.{IsClass}, Frame.{end_at, end_count, last_round, other_player, round_of}, Positions.{at_end}};
-    ghost use Rattle.gs_seq.specs.{Abstracts.{abstract_frame, lists_of}, Payoffs.{AreFew, AreNumbersAt, end_classes, end_sum, number_sum}};
+    ghost use Rattle.gs_seq.specs.{Abstracts.{abstract_frame, lists_of}, Payoffs.{AreFew, AreNumbersAt, AreWholesFor, end_classes, end_sum, number_sum}};
     ghost use Rattle.gs_seq.specs.{Plans.{IsPlanOf, class_plan}, Rows.{IsRow, IsSingleIn}, Singles.{HasSumsOf}};
     ghost use Rattle.gs_tree.specs.Trees.{rules_of};
 
@@ -90,6 +104,23 @@ impl<'a> Abstract<'a> {
         }
     }
 
+    /// Returns for each class of an end's round all pairs of its row as one, if that round has rows and the other player's numbers there are all the same.
+    fn wholes_for(&self, end: u32, numbers: &[u64]) -> Option<&[Pair]>
+        requires end { end < end_count (abstract_frame self.now) }
+        requires wide { end_classes (abstract_frame self.now) (lists_of self.now) end ≤ length numbers.now }
+        ensures { IfSome result (λ wholes. AreWholesFor (abstract_frame self.now) (lists_of self.now) end numbers.now wholes.now) }
+    {
+        let round = usize::from(self.end_in(end).round);
+        let count = self.end_class_total(end) as usize;
+        if round > self.wholes.len() {
+            return None;
+        }
+        if !are_same(numbers, count) {
+            return None;
+        }
+        Some(&self.wholes[round - 1])
+    }
+
     /// Writes into `sums` what `pay_all` writes, for an end of the last round where each signal is a class of its own. Sums along the boards.
     fn pay_along(
         &self,
@@ -127,8 +158,9 @@ impl<'a> Abstract<'a> {
             AreNumbersAt f lists plan.now.player (class_plan f lists plan.now) end numbers.new }
         ensures few { AreFew (end_classes (abstract_frame self.now) (lists_of self.now) end) numbers.new }
     {
+        let at = self.plan_at(plan, end);
         for before in 0..self.end_class_total(end) {
-            numbers[before as usize] = self.number_at_end(plan, end, before + 1);
+            numbers[before as usize] = self.number_at(&at, before + 1);
         }
     }
 
@@ -145,23 +177,38 @@ impl<'a> Abstract<'a> {
             (c : ℕ) → IsClass lists (round_of f (at_end end)) c → get_or sums.new (c - 1) (pos 0) ≡ number_sum f lists player numbers.now end c }
         ensures behind { (i : ℕ) → end_classes (abstract_frame self.now) (lists_of self.now) end ≤ i → get_or sums.new i (pos 0) ≡ get_or sums.old i (pos 0) }
     {
+        let wholes = self.wholes_for(end, numbers);
         for before in 0..self.end_class_total(end) {
-            sums[before as usize] = self.paid(player, end, before + 1, numbers);
+            sums[before as usize] = self.paid(player, end, before + 1, numbers, wholes);
         }
     }
 
-    /// Returns what an end pays a player at an own class, from the other player's numbers there.
-    fn paid(&self, player: u8, end: u32, class: u32, numbers: &[u64]) -> i128
+    /// Returns what an end pays a player at an own class, from the other player's numbers there: by one product if `wholes` is given.
+    fn paid(
+        &self,
+        player: u8,
+        end: u32,
+        class: u32,
+        numbers: &[u64],
+        wholes: Option<&[Pair]>,
+    ) -> i128
         requires some { 0 < player }
         requires two { player ≤ 2 }
         requires end { end < end_count (abstract_frame self.now) }
         requires class { IsClass (lists_of self.now) (round_of (abstract_frame self.now) (at_end end)) class }
         requires wide { end_classes (abstract_frame self.now) (lists_of self.now) end ≤ length numbers.now }
         requires few { AreFew (end_classes (abstract_frame self.now) (lists_of self.now) end) numbers.now }
+        requires wholes { IfSome wholes (λ w. AreWholesFor (abstract_frame self.now) (lists_of self.now) end numbers.now w.now) }
         ensures { result ≡ number_sum (abstract_frame self.now) (lists_of self.now) player numbers.now end class }
     {
-        let row = self.pairs(self.end_in(end).round, class);
-        self.row_paid(player, end, class, numbers, row)
+        let at = self.end_in(end);
+        match wholes {
+            Some(wholes) => {
+                let number = number_of(numbers, class);
+                times_pays(number, player, at, wholes[class as usize - 1])
+            }
+            None => self.row_paid(player, end, class, numbers, self.pairs(at.round, class)),
+        }
     }
 
     /// Returns what an end pays a player at an own class, from the other player's numbers there and the pairs `row` of the class.

@@ -4,16 +4,15 @@ ghost use Rattle.std.specs.Prelude.{◌≡◌, ◌*◌, ◌<◌, ◌≤◌, ◌^
 ghost use Rattle.gs_game.specs.Seen.{end_of};
 ghost use Rattle.gs_seq.specs.Payoffs.{pair_pays};
 
-use crate::flows::StepSource;
 use crate::form::Abstract;
-use crate::numbers::{end_source, number_by, plus, scaled};
+use crate::numbers::{PlanAtEnd, plus, scaled};
 use crate::pair::Pair;
 use crate::pairs::Pairs;
 use crate::plan::Plan;
 use gs_game::{End, EndKind};
 
 /// Returns what an end pays a player in the deals of a pair.
-pub(crate) fn pays(player: u8, end: End, pair: Pair) -> i128
+fn pays(player: u8, end: End, pair: Pair) -> i128
     requires few { pair.weight ≤ 67108864 }
     requires moderate { unsigned_abs pair.signed ≤ 9 * pair.weight }
     ensures { result ≡ pair_pays player (end_of end) pair }
@@ -28,6 +27,16 @@ pub(crate) fn pays(player: u8, end: End, pair: Pair) -> i128
     stake * i128::from(pair.weight)
 }
 
+/// Returns `number` times what an end pays a player in the deals of a pair.
+pub(crate) fn times_pays(number: u64, player: u8, end: End, pair: Pair) -> i128
+    requires few { pair.weight ≤ 67108864 }
+    requires moderate { unsigned_abs pair.signed ≤ 9 * pair.weight }
+    requires number { number ≤ 2 ^ 36 }
+    ensures { result ≡ pos number *ℤ pair_pays player (end_of end) pair }
+{
+    scaled(number, pays(player, end, pair))
+}
+
 /// Returns `sum` plus `number` times what an end pays a player in the deals of a pair.
 pub(crate) fn add_pays(sum: i128, number: u64, player: u8, end: End, pair: Pair) -> i128
     requires few { pair.weight ≤ 67108864 }
@@ -36,13 +45,13 @@ pub(crate) fn add_pays(sum: i128, number: u64, player: u8, end: End, pair: Pair)
     requires fits { unsigned_abs (sum +ℤ pos number *ℤ pair_pays player (end_of end) pair) < 2 ^ 127 }
     ensures { result ≡ sum +ℤ pos number *ℤ pair_pays player (end_of end) pair }
 {
-    plus(sum, scaled(number, pays(player, end, pair)))
+    plus(sum, times_pays(number, player, end, pair))
 }
 
 impl<'a> Abstract<'a> {
     ghost use Rattle.gs_model.specs.{Classes.{IsClass}, Frame.{end_count, other_player, round_of}, Payoff.{raw_payoff}, Positions.{at_end}};
-    ghost use Rattle.gs_seq.specs.{Abstracts.{abstract_frame, lists_of}, Payoffs.{end_classes, end_sum, payoff_at}, Plans.{IsPlanOf, class_plan, lifted}};
-    ghost use Rattle.gs_seq.specs.{Rows.{IsRow}, Sources.{MatchSource}};
+    ghost use Rattle.gs_seq.specs.{Abstracts.{abstract_frame, lists_of}, AtEnds.{IsOfForm}, Payoffs.{end_classes, end_sum, payoff_at}};
+    ghost use Rattle.gs_seq.specs.{Plans.{IsPlanOf, class_plan, lifted}, Rows.{IsRow}};
 
     /// Returns what an end pays a player at the player's class against a plan of the other player.
     /// This is the sum, over the other's classes, of the plan's number times what the end pays in the deals of both classes.
@@ -55,36 +64,26 @@ impl<'a> Abstract<'a> {
         ensures { result ≡ end_sum (abstract_frame self.now) (lists_of self.now) player
             (class_plan (abstract_frame self.now) (lists_of self.now) other.now) end class }
     {
-        let source = end_source(self.game(), self.offsets(), other.player, end);
+        let at = self.plan_at(other, end);
         let row = self.pairs(self.end_in(end).round, class);
-        self.row_worth(player, other, source, end, class, row)
+        self.row_worth(player, &at, class, row)
     }
 
-    /// Returns `end_sum` from the pairs `row` of the class. `source` is the other player's last step before the end.
-    fn row_worth(
-        &self,
-        player: u8,
-        other: &Plan,
-        source: Option<StepSource>,
-        end: u32,
-        class: u32,
-        row: Pairs<'_>,
-    ) -> i128
+    /// Returns `end_sum` from the pairs `row` of the class. `other` is the other player's plan, at the end.
+    fn row_worth(&self, player: u8, other: &PlanAtEnd<'_>, class: u32, row: Pairs<'_>) -> i128
         requires some { 0 < player }
         requires two { player ≤ 2 }
-        requires other { IsPlanOf (abstract_frame self.now) (lists_of self.now) (other_player player) other.now }
-        requires end { end < end_count (abstract_frame self.now) }
-        requires source { MatchSource (abstract_frame self.now) (lists_of self.now) (other_player player) (at_end end) source }
-        requires row { IsRow (abstract_frame self.now) (lists_of self.now) (round_of (abstract_frame self.now) (at_end end)) class row }
+        requires other { IsPlanOf (abstract_frame self.now) (lists_of self.now) (other_player player) other.now.plan.now }
+        requires form { IsOfForm self.now other.now }
+        requires end { other.now.end < end_count (abstract_frame self.now) }
+        requires row { IsRow (abstract_frame self.now) (lists_of self.now) (round_of (abstract_frame self.now) (at_end other.now.end)) class row }
         ensures { result ≡ end_sum (abstract_frame self.now) (lists_of self.now) player
-            (class_plan (abstract_frame self.now) (lists_of self.now) other.now) end class }
+            (class_plan (abstract_frame self.now) (lists_of self.now) other.now.plan.now) other.now.end class }
     {
-        let classes = self.classes();
-        let game = self.game();
-        let at = self.end_in(end);
+        let at = self.end_in(other.end);
         let mut sum = 0i128;
         for pair in row {
-            let number = number_by(game, classes, other, source, end, pair.two);
+            let number = self.number_at(other, pair.two);
             sum = add_pays(sum, number, player, at, pair);
         }
         sum
@@ -159,9 +158,10 @@ impl<'a> Abstract<'a> {
             (class_plan (abstract_frame self.now) (lists_of self.now) y.now) end }
     {
         self.end_sums(1, y, end, sums, numbers);
+        let own = self.plan_at(x, end);
         let mut sum = 0i128;
         for before in 0..self.end_class_total(end) {
-            let number = self.number_at_end(x, end, before + 1);
+            let number = self.number_at(&own, before + 1);
             sum = plus(sum, scaled(number, sums[before as usize]));
         }
         sum

@@ -4,7 +4,7 @@ ghost use Rattle.std.specs.Prelude.{◌≡◌, ◌+◌, ◌*◌, ◌<◌, ◌≤
 ghost use Rattle.gs_model.specs.{Classes.{IsClass}, Frame.{last_round}, Lossless.{IsLossless}};
 ghost use Rattle.gs_lossless.specs.declared.sides.Side.TheVariants as sides;
 ghost use Rattle.gs_seq.specs.{Cells.{AreCounts, cell_count}, Games.{frame_in}};
-ghost use Rattle.gs_seq.specs.Rows.{AreRows, AreRowsIn, IsModerate, IsRow, gathered, join, pair_of, pairs_of, together};
+ghost use Rattle.gs_seq.specs.Rows.{AreRows, AreRowsIn, AreWholes, IsModerate, IsRow, IsSlim, gathered, join, pair_of, pairs_of, together, whole};
 
 use crate::before::rows_before;
 use crate::earlier::rows_above;
@@ -134,6 +134,49 @@ pub(crate) fn rows_in(
         rows.push(class_row(alloc, &deals, before + 1)?)?;
     }
     Ok(rows)
+}
+
+/// Returns all pairs of a row as one.
+fn whole_of(row: &[Pair]) -> Pair
+    requires { IsSlim row.now }
+    ensures { result ≡ whole row.now }
+{
+    let mut all = Pair {
+        two: 0,
+        weight: 0,
+        signed: 0,
+    };
+    for pair in row {
+        all = joined(all, *pair);
+    }
+    all
+}
+
+/// Returns for each row all its pairs as one.
+fn wholes_in(alloc: Global, rows: &[Vec<Pair>]) -> Result<Vec<Pair>, AllocError>
+    requires { All (λ v. IsSlim v.items) rows.now }
+    ensures { IfOk result (λ v. v.items ≡ map (λ r. whole r.items) rows.now) }
+{
+    let mut wholes = Vec::with_capacity(alloc, rows.len())?;
+    for row in rows {
+        wholes.push(whole_of(row))?;
+    }
+    Ok(wholes)
+}
+
+/// Returns for each row of each round all its pairs as one.
+pub(crate) fn wholes_of(
+    alloc: Global,
+    rows: &[Vec<Vec<Pair>>],
+) -> Result<Vec<Vec<Pair>>, AllocError>
+    requires { All (λ v. All (λ r. IsSlim r.items) v.items) rows.now }
+    ensures { IfOk result (λ v. AreWholes rows.now v.items) }
+{
+    let mut wholes = Vec::with_capacity(alloc, rows.len())?;
+    for in_round in rows {
+        wholes.push(wholes_in(alloc, in_round)?)?;
+    }
+    Ok(wholes)
 }
 
 /// Returns the rows of all rounds. Makes those of the last round from its deals, and those of each earlier round from the rows of the next.

@@ -1,11 +1,72 @@
-use Rattle.std.proofs.Common.{sym, subst}
-use Rattle.gs_model.specs.Classes.{IsClass}
-use Rattle.gs_seq.specs.{Abstracts.{abstract_frame, lists_of}, Rows.{IsRow}}
+use Rattle.std.proofs.Common.{rules, ◌-◌, ◌∙◌, ap, sym, subst, arith, get_or}
+use Rattle.std.specs.Prelude.{IfSome, pos, ◌*ℤ◌, unsigned_abs}
+use Rattle.gs_model.specs.{Classes.{IsClass}, Frame.{end_at}}
+use Rattle.gs_seq.specs.{Abstracts.{abstract_frame, lists_of}, Payoffs.{AreWholesFor, pair_pays}, Rows.{IsRow}, declared.pair.Pair.{Pair}}
+use Rattle.gs_seq.proofs.{Forms.{given_in, one_or_two}, Signed.{read_back}, Wholes.{same_sum, whole_few, whole_moderate}}
+use Rattle.gs_seq.proofs.form.Abstract.paid.Goals.{In-Some}
 use Rattle.gs_seq.proofs.form.Abstract.paid.Goals as goal
 
-pub pairs-row-requires-clause-class : goal.pairs-row-requires-clause-class
-pairs-row-requires-clause-class c = subst (λ r. IsClass (lists_of c.args.self.now) r c.args.class) (sym c.end_in.ensures.round) c.requires.class
+pub pairs-requires-clause-class : goal.pairs-requires-clause-class
+pairs-requires-clause-class c = subst (λ r. IsClass (lists_of c.args.self.now) r c.args.class) (sym c.end_in-at.ensures.round) c.requires.class
 
 pub row_paid-requires-clause-row : goal.row_paid-requires-clause-row
-row_paid-requires-clause-row c = subst (λ r. IsRow (abstract_frame c.args.self.now) (lists_of c.args.self.now) r c.args.class c.pairs-row.result)
-    c.end_in.ensures.round c.pairs-row.ensures
+row_paid-requires-clause-row c = subst (λ r. IsRow (abstract_frame c.args.self.now) (lists_of c.args.self.now) r c.args.class c.pairs.result)
+    c.end_in-at.ensures.round c.pairs.ensures
+
+-- what is known of the whole rows
+given_wholes : (c : In-Some) → AreWholesFor (abstract_frame c.args.self.now) (lists_of c.args.self.now) c.args.end c.args.numbers.now c.in-Some.wholes.now
+given_wholes c = subst
+    (λ o. IfSome o (λ w. AreWholesFor (abstract_frame c.args.self.now) (lists_of c.args.self.now) c.args.end c.args.numbers.now w.now))
+    c.in-Some.is c.requires.wholes
+
+abbrev no_pair : Pair
+no_pair = record { two = 0; weight = 0; signed = pos 0 }
+
+pub times_pays-requires-clause-few : goal.times_pays-requires-clause-few
+times_pays-requires-clause-few c =
+    let a = c.args.self.now in
+    let g = given_in a in
+    let row = (given_wholes (goal.at.times_pays-requires-clause-few c).In-Some).wholes_are.each c.args.class no_pair c.requires.class in
+    omega (
+      arith,
+      whole_few (abstract_frame a) g.in_range (lists_of a) g.classes c.args.player (g.walked c.args.player c.requires.some c.requires.two) g.modest
+          c.args.end c.requires.end c.args.class row.0 row.1,
+      ap (λ (p : Pair). p.weight) row.2,
+    )
+
+pub times_pays-requires-clause-moderate : goal.times_pays-requires-clause-moderate
+times_pays-requires-clause-moderate c =
+    let a = c.args.self.now in
+    let g = given_in a in
+    let row = (given_wholes (goal.at.times_pays-requires-clause-moderate c).In-Some).wholes_are.each c.args.class no_pair c.requires.class in
+    omega (
+      arith,
+      whole_moderate (abstract_frame a) g.in_range (lists_of a) g.classes c.args.player (g.walked c.args.player c.requires.some c.requires.two) g.modest
+          c.args.end c.requires.end c.args.class row.0 row.1,
+      ap (λ (p : Pair). p.weight) row.2,
+      ap (λ (p : Pair). unsigned_abs p.signed) row.2,
+    )
+
+pub times_pays-requires-clause-number : goal.times_pays-requires-clause-number
+times_pays-requires-clause-number c = omega (
+  arith,
+  c.number_of-number.ensures,
+  c.requires.few (c.args.class - 1) (omega (arith, c.requires.class.0, c.requires.class.1)),
+)
+
+pub returns-in-Some : goal.returns-in-Some
+returns-in-Some c =
+    let a = c.args.self.now in
+    let g = given_in a in
+    let player = c.args.player in
+    let number = c.number_of-number.result in
+    let row = (given_wholes (goal.at.returns-in-Some c).In-Some).wholes_are.each c.args.class no_pair c.requires.class in
+    let all = same_sum (abstract_frame a) g.in_range (lists_of a) g.classes player (g.walked player c.requires.some c.requires.two) g.modest
+    c.args.end c.requires.end c.args.class row.0 row.1 (one_or_two player c.requires.some c.requires.two) c.args.numbers.now number
+    (λ i l. (given_wholes (goal.at.returns-in-Some c).In-Some).same i l
+    ∙ sym ((given_wholes (goal.at.returns-in-Some c).In-Some).same (c.args.class - 1) (omega (arith, c.requires.class.0, c.requires.class.1)))
+    ∙ sym c.number_of-number.ensures) in
+    read_back c.times_pays.result _ (search rules) (c.times_pays.ensures
+    ∙ ap (λ e. pos number *ℤ pair_pays player e (get_or c.in-Some.wholes.now (c.args.class - 1) no_pair)) c.end_in-at.ensures.value
+    ∙ ap (λ p. pos number *ℤ pair_pays player (end_at (abstract_frame a) c.args.end) p) row.2
+    ∙ all)

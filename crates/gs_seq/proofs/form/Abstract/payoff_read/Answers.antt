@@ -1,9 +1,9 @@
-use Rattle.std.proofs.Common.{rules, ◌≡◌, ◌+◌, ◌-◌, ℕ, List, ap, ◌∙◌, arith, get_or, pos, FitsSigned, of_z, subst, to_z}
+use Rattle.std.proofs.Common.{rules, ◌≡◌, ◌+◌, ◌-◌, ℕ, List, ap, ◌∙◌, arith, get_or, pos, FitsSigned, of_z, subst, sym, to_z}
 use Rattle.std.specs.{Int.{w128}, Prelude.{ℤ}}
 use Rattle.gs_model.specs.{Classes.{IsClass}, Frame.{round_of}, Pairs.{class_number}, Positions.{at_end}}
-use Rattle.gs_seq.specs.{Abstracts.{abstract_frame, lists_of}, Plans.{class_plan}}
+use Rattle.gs_seq.specs.{Abstracts.{abstract_frame, lists_of}, Plans.{class_plan}, declared.plan.Plan.{Plan}}
 use Rattle.gs_seq.proofs.{EndTotals.{IsNext, next_fits, next_put, next_within}, Forms.{given_in}, Signed.{read_back}}
-use Rattle.gs_seq.proofs.form.Abstract.payoff_read.Goals.{After-number_at_end-number}
+use Rattle.gs_seq.proofs.form.Abstract.payoff_read.Goals.{After-number_at-number}
 use Rattle.gs_seq.proofs.form.Abstract.payoff_read.Goals as goal
 
 -- what the list has of a class
@@ -11,9 +11,9 @@ read_at : (sums : List ℤ) (n : ℕ) (w : ℤ) → get_or sums (n + 1 - 1) (pos
 read_at sums n w h = let at : n ≡ n + 1 - 1 = omega arith in ap (λ i. get_or sums i (pos 0)) at ∙ h
 
 -- the class, its number and what the end pays there
-next : (c : After-number_at_end-number) → FitsSigned w128 (get_or c.end_sums.new.sums c.loop-before.before (pos 0))
+next : (c : After-number_at-number) → FitsSigned w128 (get_or c.end_sums.new.sums c.loop-before.before (pos 0))
     → let f = abstract_frame c.args.self.now in let ls = lists_of c.args.self.now in
-    IsNext f ls (class_plan f ls c.args.x.now) (class_plan f ls c.args.y.now) c.args.end c.loop-before.before c.number_at_end-number.result
+    IsNext f ls (class_plan f ls c.args.x.now) (class_plan f ls c.args.y.now) c.args.end c.loop-before.before c.number_at-number.result
     (to_z w128 (of_z w128 (get_or c.end_sums.new.sums c.loop-before.before (pos 0))))
 next c fits =
     let f = abstract_frame c.args.self.now in
@@ -25,25 +25,33 @@ next c fits =
     (omega arith, omega (arith, c.end_class_total-before-end.ensures, c.loop-before-test.true)) in
     record {
       class = class;
-      number = subst (λ p. c.number_at_end-number.result ≡ class_number f ls p x c.args.end (n + 1)) c.requires.x.player_is
-          c.number_at_end-number.ensures.value;
+      number = c.number_at-number.ensures.value
+          ∙ ap (λ (q : Plan). class_number f ls q.player (class_plan f ls q) c.plan_at-own.result.end (n + 1)) c.plan_at-own.ensures.plan
+          ∙ ap (λ z. class_number f ls c.args.x.now.player x z (n + 1)) c.plan_at-own.ensures.end
+          ∙ ap (λ p. class_number f ls p x c.args.end (n + 1)) c.requires.x.player_is;
       worth = read_back (get_or sums n (pos 0)) _ fits (read_at sums n _ (c.end_sums.ensures.here (n + 1) class));
     }
+
+pub number_at-number-requires-clause-class : goal.number_at-number-requires-clause-class
+number_at-number-requires-clause-class c =
+    subst (λ z. IsClass (lists_of c.args.self.now) (round_of (abstract_frame c.args.self.now) (at_end z)) (c.loop-before.before + 1))
+    (sym c.plan_at-own.ensures.end)
+    (omega arith, omega (arith, c.end_class_total-before-end.ensures, c.loop-before-test.true))
 
 pub scaled-requires : goal.scaled-requires
 scaled-requires c =
     next_fits _ _ (given_in c.args.self.now) _ _ c.requires.x.plan.plan c.requires.y.plan.plan c.args.end _ _ _ c.requires.end
-    (next (goal.at.scaled-requires c).After-number_at_end-number (search rules))
+    (next (goal.at.scaled-requires c).After-number_at-number (search rules))
 
 pub plus-sum-requires : goal.plus-sum-requires
 plus-sum-requires c =
     next_within _ _ (given_in c.args.self.now) _ _ c.requires.x.plan.plan c.requires.y.plan.plan c.args.end _ _ _ c.requires.end
-    (next (goal.at.plus-sum-requires c).After-number_at_end-number (search rules)) _ _ c.loop-before.invariant
+    (next (goal.at.plus-sum-requires c).After-number_at-number (search rules)) _ _ c.loop-before.invariant
     (read_back c.scaled.result _ (search rules) c.scaled.ensures)
 
 pub loop-before-preserved : goal.loop-before-preserved
 loop-before-preserved c =
     read_back c.plus-sum.result _ (search rules) (c.plus-sum.ensures
     ∙ next_put _ _ (given_in c.args.self.now) _ _ c.requires.x.plan.plan c.requires.y.plan.plan c.args.end _ _ _ c.requires.end
-    (next (goal.at.loop-before-preserved c).After-number_at_end-number (search rules)) _ _ c.loop-before.invariant
+    (next (goal.at.loop-before-preserved c).After-number_at-number (search rules)) _ _ c.loop-before.invariant
     (read_back c.scaled.result _ (search rules) c.scaled.ensures))

@@ -1,105 +1,86 @@
-use Rattle.std.proofs.Common.{rules, ◌≡◌, ◌≤◌, ◌^◌, ap, sym, ◌∙◌, arith, subst, ℕ, List, pos, to_z}
+use Rattle.std.proofs.Common.{rules, ◌≡◌, ◌≤◌, ◌^◌, ap, ◌∙◌, arith, ℕ, List, pos, to_z}
 use Rattle.std.specs.{Int.{w128}, Prelude.{◌*ℤ◌}}
 use Rattle.gs_game.specs.Seen.{end_of}
 use Rattle.gs_model.specs.{Classes.{IsClass}, Frame.{other_player, round_of}, Pairs.{class_number}, Positions.{at_end}}
-use Rattle.gs_seq.specs.{Abstracts.{abstract_frame, lists_of}, Games.{frame_in}, Payoffs.{pair_pays}, Plans.{IsPlanOf, class_plan}, Sources.{MatchSource}}
+use Rattle.gs_seq.specs.{Abstracts.{abstract_frame, lists_of}, Payoffs.{pair_pays}, Plans.{class_plan}}
 use Rattle.gs_seq.specs.{declared.form.Abstract.{Abstract}, declared.pair.Pair.{Pair}, declared.plan.Plan.{Plan}}
-use Rattle.gs_seq.proofs.{EndSums.{pair_term}, Ends.{number_few}, Forms.{carried, given_in}, Signed.{read_back}}
+use Rattle.gs_seq.proofs.{EndSums.{pair_term}, Ends.{number_few}, Forms.{given_in}, Signed.{read_back}}
 use Rattle.gs_seq.proofs.Turns.{IsAlong, IsHere, come_begun, here_in, paid, paid_as, sum_is_all}
-use Rattle.gs_seq.proofs.form.Abstract.row_worth.Goals.{After-game-game, After-number_by-number, In-Some}
+use Rattle.gs_seq.proofs.form.Abstract.row_worth.Goals.{After-end_in-at, After-number_at-number, In-Some}
 use Rattle.gs_seq.proofs.form.Abstract.row_worth.Goals as goal
 
 -- the other player's number at a class
 abbrev number_at : Abstract → ℕ → Plan → ℕ → ℕ → ℕ
 number_at a player other z e = class_number (abstract_frame a) (lists_of a) (other_player player) (class_plan (abstract_frame a) (lists_of a) other) z e
 
-along : (c : After-game-game) → IsAlong c.args.self.now c.args.player c.args.end c.args.class c.args.row
+along : (c : After-end_in-at) → IsAlong c.args.self.now c.args.player c.args.other.now.end c.args.class c.args.row
 along c = record { some = c.requires.some; two = c.requires.two; inside = c.requires.end; is_row = c.requires.row }
 
 here : (c : In-Some)
-    → IsHere c.args.self.now c.args.player c.args.end c.args.row c.next.new.self c.in-Some.pair
-    (number_at c.args.self.now c.args.player c.args.other.now c.args.end) (to_z w128 c.loop-pair.sum-bits)
+    → IsHere c.args.self.now c.args.player c.args.other.now.end c.args.row c.next.new.self c.in-Some.pair
+    (number_at c.args.self.now c.args.player c.args.other.now.plan.now c.args.other.now.end) (to_z w128 c.loop-pair.sum-bits)
 here c =
-    here_in c.args.self.now c.args.player c.args.end c.args.class c.args.row (along (goal.at.In-Some c).After-game-game)
-    (number_at c.args.self.now c.args.player c.args.other.now c.args.end) c.loop-pair.pair-iterator
+    here_in c.args.self.now c.args.player c.args.other.now.end c.args.class c.args.row (along (goal.at.In-Some c).After-end_in-at)
+    (number_at c.args.self.now c.args.player c.args.other.now.plan.now c.args.other.now.end) c.loop-pair.pair-iterator
     c.next.new.self c.in-Some.pair _ c.loop-pair.invariant c.in-Some.ensures.steps
 
 -- the number, as it was looked up
-number_is : (c : After-number_by-number)
-    → c.number_by-number.result ≡ class_number (abstract_frame c.args.self.now) (lists_of c.args.self.now) (other_player c.args.player)
-    (class_plan (abstract_frame c.args.self.now) (lists_of c.args.self.now) c.args.other.now) c.args.end c.in-Some.pair.two
+number_is : (c : After-number_at-number)
+    → c.number_at-number.result ≡ class_number (abstract_frame c.args.self.now) (lists_of c.args.self.now) (other_player c.args.player)
+    (class_plan (abstract_frame c.args.self.now) (lists_of c.args.self.now) c.args.other.now.plan.now) c.args.other.now.end c.in-Some.pair.two
 number_is c =
     let f = abstract_frame c.args.self.now in
     let ls = lists_of c.args.self.now in
-    let q = c.args.other.now in
-    carried (λ f ls. c.number_by-number.result ≡ class_number f ls q.player (class_plan f ls q) c.args.end c.in-Some.pair.two)
-    (ap frame_in c.game-game.ensures) c.classes-classes.ensures.lists c.number_by-number.ensures.value
-    ∙ ap (λ p. class_number f ls p (class_plan f ls q) c.args.end c.in-Some.pair.two) c.requires.other.player_is
+    let q = c.args.other.now.plan.now in
+    c.number_at-number.ensures.value ∙ ap (λ p. class_number f ls p (class_plan f ls q) c.args.other.now.end c.in-Some.pair.two) c.requires.other.player_is
 
 -- the pair's part
-part_is : (c : After-number_by-number)
-    → pos c.number_by-number.result *ℤ pair_pays c.args.player (end_of c.end_in-at.result) c.in-Some.pair ≡ paid c.args.self.now c.args.player c.args.end
-    (number_at c.args.self.now c.args.player c.args.other.now c.args.end) c.in-Some.pair
+part_is : (c : After-number_at-number)
+    → pos c.number_at-number.result *ℤ pair_pays c.args.player (end_of c.end_in-at.result) c.in-Some.pair ≡ paid c.args.self.now c.args.player
+    c.args.other.now.end
+    (number_at c.args.self.now c.args.player c.args.other.now.plan.now c.args.other.now.end) c.in-Some.pair
 part_is c = paid_as c.args.player _ _ _ _ c.in-Some.pair c.end_in-at.ensures.value (number_is c)
 
 pub loop-pair-init : goal.loop-pair-init
 loop-pair-init c =
     let begins : ◌≡◌ {A = List Pair} c.into_iter-pair-iterator.result c.args.row = cc in
     come_begun (pair_term (abstract_frame c.args.self.now) (lists_of c.args.self.now) c.args.player
-    (class_plan (abstract_frame c.args.self.now) (lists_of c.args.self.now) c.args.other.now) c.args.end) c.args.row _ begins
+    (class_plan (abstract_frame c.args.self.now) (lists_of c.args.self.now) c.args.other.now.plan.now) c.args.other.now.end) c.args.row _ begins
 
-pub number_by-number-requires-clause-plan : goal.number_by-number-requires-clause-plan
-number_by-number-requires-clause-plan c =
-    let f = abstract_frame c.args.self.now in
-    let ls = lists_of c.args.self.now in
-    carried (λ f ls. IsPlanOf f ls c.args.other.now.player c.args.other.now) (sym (ap frame_in c.game-game.ensures)) (sym c.classes-classes.ensures.lists)
-    (subst (λ p. IsPlanOf f ls p c.args.other.now) (sym c.requires.other.player_is) c.requires.other)
-
-pub number_by-number-requires-clause-source : goal.number_by-number-requires-clause-source
-number_by-number-requires-clause-source c =
-    let f = abstract_frame c.args.self.now in
-    let ls = lists_of c.args.self.now in
-    let z = c.args.end in
-    carried (λ f ls. MatchSource f ls c.args.other.now.player (at_end z) c.args.source) (sym (ap frame_in c.game-game.ensures))
-    (sym c.classes-classes.ensures.lists)
-    (subst (λ p. MatchSource f ls p (at_end z) c.args.source) (sym c.requires.other.player_is) c.requires.source)
-
-pub number_by-number-requires-clause-class : goal.number_by-number-requires-clause-class
-number_by-number-requires-clause-class c =
-    carried (λ f ls. IsClass ls (round_of f (at_end c.args.end)) c.in-Some.pair.two) (sym (ap frame_in c.game-game.ensures))
-    (sym c.classes-classes.ensures.lists) (here (goal.at.number_by-number-requires-clause-class c).In-Some).known.class
+pub number_at-number-requires-clause-class : goal.number_at-number-requires-clause-class
+number_at-number-requires-clause-class c = (here (goal.at.number_at-number-requires-clause-class c).In-Some).known.class
 
 pub add_pays-sum-requires : goal.add_pays-sum-requires
 add_pays-sum-requires c =
     let at = goal.at.add_pays-sum-requires c in
     let f = abstract_frame c.args.self.now in
     let ls = lists_of c.args.self.now in
-    let y = class_plan f ls c.args.other.now in
+    let y = class_plan f ls c.args.other.now.plan.now in
     let own = other_player c.args.player in
     let g = given_in c.args.self.now in
     let k = here at.In-Some in
     let most = c.requires.other.plan.plan.total_in.1 in
-    let few : (e : _) → IsClass ls (round_of f (at_end c.args.end)) e → class_number f ls own y c.args.end e ≤ 2 ^ 36 = λ e h.
+    let few : (e : _) → IsClass ls (round_of f (at_end c.args.other.now.end)) e → class_number f ls own y c.args.other.now.end e ≤ 2 ^ 36 = λ e h.
     omega (
       arith,
-      number_few f ls own y c.args.end e g.in_range (g.walked own (omega (arith, c.requires.two)) (omega (arith, c.requires.some))) g.classes
+      number_few f ls own y c.args.other.now.end e g.in_range (g.walked own (omega (arith, c.requires.two)) (omega (arith, c.requires.some))) g.classes
           c.requires.other.plan.plan c.requires.end h,
       most,
     ) in
     record {
       few = k.known.weight;
       moderate = k.known.signed;
-      number = omega (arith, c.number_by-number.ensures.within, most);
-      fits = k.fits _ (part_is at.After-number_by-number) few;
+      number = omega (arith, c.number_at-number.ensures.within, most);
+      fits = k.fits _ (part_is at.After-number_at-number) few;
     }
 
 pub loop-pair-preserved : goal.loop-pair-preserved
 loop-pair-preserved c =
     let at = goal.at.loop-pair-preserved c in
-    (here at.In-Some).further _ _ (part_is at.After-number_by-number) (read_back c.add_pays-sum.result _ (search rules) c.add_pays-sum.ensures)
+    (here at.In-Some).further _ _ (part_is at.After-number_at-number) (read_back c.add_pays-sum.result _ (search rules) c.add_pays-sum.ensures)
 
 pub returns : goal.returns
 returns c =
-    sum_is_all c.args.self.now c.args.player c.args.end c.args.class c.args.row (along (goal.at.returns c).After-game-game)
-    (number_at c.args.self.now c.args.player c.args.other.now c.args.end) c.loop-pair.pair-iterator _
+    sum_is_all c.args.self.now c.args.player c.args.other.now.end c.args.class c.args.row (along (goal.at.returns c).After-end_in-at)
+    (number_at c.args.self.now c.args.player c.args.other.now.plan.now c.args.other.now.end) c.loop-pair.pair-iterator _
     c.loop-pair.invariant c.in-None.ensures.steps.0

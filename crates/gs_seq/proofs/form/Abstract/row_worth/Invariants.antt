@@ -6,4 +6,4 @@ abbrev pub invariant-loop-pair : goal.invariant-loop-pair
 invariant-loop-pair l =
     let f = abstract_frame l.self in
     let lists = lists_of l.self in
-    IsCome (pair_term f lists l.player (class_plan f lists l.other) l.end) l.fn.row l.pair-iterator l.sum
+    IsCome (pair_term f lists l.player (class_plan f lists l.other.plan.now) l.other.end) l.fn.row l.pair-iterator l.sum

@@ -1,11 +1,12 @@
-use Rattle.std.proofs.{Common.{◌≡◌, ap, sym, ◌∙◌, subst, arith, ⊎_elim}, lemmas.Result.{err_from_is_err_and}}
-use Rattle.std.specs.Prelude.{IfErr}
+use Rattle.std.proofs.{Common.{◌≡◌, List, Vec, ap, sym, ◌∙◌, subst, arith, ⊎_elim}, lemmas.Result.{err_from_is_err_and}}
+use Rattle.std.specs.{declared.alloc.Global.{Global}, Prelude.{All, IfErr}}
 use Rattle.gs_model.specs.{Classes.{ClassLists}, Frame.{Frame}}
 use Rattle.gs_tree.specs.declared.signals.Signals.{Signals}
-use Rattle.gs_seq.specs.{Cells.{cell_count}, Games.{frame_in}, Rows.{AreRows}, Slots.{AreOffsets, slot_count}, Stops.{HasSequencesWithin, IsStopAt, IsTooLong}}
-use Rattle.gs_seq.specs.{declared.limits.Limits.{Limits}, declared.stop.SeqStop.{SeqStop}}
+use Rattle.gs_seq.specs.{Cells.{cell_count}, Games.{frame_in}, Rows.{AreRows, AreWholes, IsSlim}, Slots.{AreOffsets, slot_count}}
+use Rattle.gs_seq.specs.Stops.{HasSequencesWithin, IsStopAt, IsTooLong}
+use Rattle.gs_seq.specs.{declared.limits.Limits.{Limits}, declared.pair.Pair.{Pair}, declared.stop.SeqStop.{SeqStop}}
 use Rattle.gs_seq.specs.declared.stop.SeqStop.TheVariants.{TooManySequences, TooManyCells, Memory}
-use Rattle.gs_seq.proofs.{Carried.{carried}, form.Abstract.within.Goals.{After-game-game, In_ok-count}}
+use Rattle.gs_seq.proofs.{Carried.{carried}, Wholed.{rows_slim}, form.Abstract.within.Goals.{After-game-game, In_ok-count}}
 use Rattle.gs_seq.proofs.form.Abstract.within.Goals as goal
 
 too_long : (most : Limits) (f : Frame) (lists : ClassLists) (e : SeqStop) → IsTooLong most.sequences f lists e → IsStopAt most f lists e
@@ -36,13 +37,19 @@ returns-in_err-one-clause-refused c =
     subst (λ r. IfErr r (IsStopAt c.args.most f lists)) (sym e.1)
     (subst (IsStopAt c.args.most f lists) (sym e.2) (too_long c.args.most f lists c.in_err-one.field-0.0 long))
 
+pub wholes_of-requires : goal.wholes_of-requires
+wholes_of-requires c =
+    let s = c.args.lossless.now in
+    subst (All (λ (v : Vec (Vec Pair Global) Global). All (λ (r : Vec Pair Global). IsSlim r.items) v.items)) (sym c.deref.ensures.value)
+    (rows_slim s.signals.now.game.now s.classes.now s.parents c.in_ok-rows.rows.items c.in_ok-rows.ensures)
+
 pub cells-requires-clause-rows : goal.cells-requires-clause-rows
 cells-requires-clause-rows c =
     let s = c.args.lossless.now in
     let game = c.game-game.result.now in
     let classes = c.classes-classes.result.now in
     let same : s.signals.now.game.now ≡ game = sym (c.game-game.ensures ∙ ap (λ (x : Signals). x.game.now) c.signals-signals.ensures.held) in
-    subst (AreRows (frame_in game) classes.lists) (sym c.deref.ensures.value)
+    subst (AreRows (frame_in game) classes.lists) (sym c.deref-2.ensures.value)
     (carried s.signals.now.game.now game s.classes.now classes (λ f lists. AreRows f lists c.in_ok-rows.rows.items) same
     (sym c.classes-classes.ensures.held) c.in_ok-rows.ensures)
 
@@ -59,6 +66,7 @@ invariant_of-result c =
       ones = moved at (λ f lists. c.in_ok-one.one ≡ slot_count f lists 1) c.in_ok-one.ensures.one;
       twos = moved at (λ f lists. c.in_ok-one.two ≡ slot_count f lists 2) c.in_ok-one.ensures.two;
       paired = c.in_ok-rows.ensures;
+      wholed = subst (λ (rows : List (Vec (Vec Pair Global) Global)). AreWholes rows c.in_ok-wholes.wholes.items) c.deref.ensures.value c.in_ok-wholes.ensures;
       ordered = λ b is. (c.in_ok-order.ensures b is).0;
       single = λ b is. c.in_ok-rows.ensures.single (omega (arith, (c.in_ok-order.ensures b is).1, c.len.ensures, c.in_ok-rows.rows.ok.0));
     }
