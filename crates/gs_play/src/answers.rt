@@ -248,7 +248,8 @@ fn renew_at(
     requires point { point < point_count (side_frame side.now) }
     requires answer { HasAnswer (side_frame side.now) (side_lists side.now) side.now.player now answer.old }
     requires own { HasTallyRoom (side_frame side.now) (side_lists side.now) own.now }
-    requires moves { let f = side_frame side.now in let lists = side_lists side.now in AreInMoves f lists side.now.player (moves_of f lists own.now.picks.items) }
+    requires moves { let f = side_frame side.now in let lists = side_lists side.now in
+        AreInMoves f lists side.now.player (moves_of f lists own.now.picks.items) }
     requires right { let f = side_frame side.now in let lists = side_lists side.now in player_at f point ≡ side.now.player
         → IsStill f point own.now.moved.items answer.old.turned.items → (c : ℕ) → IsClass lists (round_of f (at_point point)) c
         → IsRight f lists (moves_of f lists answer.old.taken.items) (moves_of f lists own.now.picks.items) point c }
@@ -286,7 +287,8 @@ pub(crate) fn renew(
     requires answer { HasAnswer (side_frame side.now) (side_lists side.now) side.now.player now answer.old }
     requires own { HasTallyRoom (side_frame side.now) (side_lists side.now) own.old }
     requires room { HasTallyRoom (side_frame side.now) (side_lists side.now) tally.old }
-    requires moves { let f = side_frame side.now in let lists = side_lists side.now in AreInMoves f lists side.now.player (moves_of f lists own.old.picks.items) }
+    requires moves { let f = side_frame side.now in let lists = side_lists side.now in
+        AreInMoves f lists side.now.player (moves_of f lists own.old.picks.items) }
     requires right { let f = side_frame side.now in let lists = side_lists side.now in (q c : ℕ) → q < point_count f → player_at f q ≡ side.now.player
         → IsClass lists (round_of f (at_point q)) c → (HasMoved own.old q → ⊥)
         → IsRight f lists (moves_of f lists answer.old.taken.items) (moves_of f lists own.old.picks.items) q c }
