@@ -39,13 +39,6 @@ pub record IsAgain (f : Frame) (lists : ClassLists) (player n : ℕ) (move : ℕ
   pub behind : (q c : ℕ) → q < n → get_or now.turned.items q false ≡ false → IsClass lists (round_of f (at_point q)) c
       → moves_of f lists now.taken.items q c ≡ moves_of f lists start.taken.items q c
 
-pub again_none : (f : Frame) (lists : ClassLists) (player : ℕ) (move : ℕ → ℕ → ℕ) (start : Answer) → IsAgain f lists player 0 move start start
-again_none f lists player move start = record {
-  right = λ q c less. absurd (omega (arith, less));
-  ahead = λ q c less lq lc. refl;
-  behind = λ q c less no_one lc. refl;
-}
-
 module _ (f : Frame) (r : InRange f) (lists : ClassLists) (k : IsClasses f.parents lists) (player : ℕ) (w : IsWalked f player) where
   pub gate_facts : (q c : ℕ) (u : Step) → q < point_count f → player_at f q ≡ player → IsClass lists (round_of f (at_point q)) c
       → last_step f (player_at f q) (at_point q) ≡ Some u → IsGateOf f lists q c u

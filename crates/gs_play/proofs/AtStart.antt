@@ -2,8 +2,8 @@
 use Rattle.std.proofs.Common.{◌≡◌, ℕ, ◌+◌, ◌-◌, ◌<◌, ◌≤◌, Bool, true, false, cond, Vec, refl, sym, ap, ◌∙◌, subst, arith}
 use Rattle.std.specs.{Prelude.{◌==◌, get_or, slice_index, ℤ, pos, ◌-ℤ◌, ◌*ℤ◌}, declared.alloc.Global.{Global}}
 use Rattle.std.proofs.lemmas.Int.{ints}
-use Rattle.gs_model.specs.{BestAnswers.{Values}, Classes.{ClassLists, IsClass, class_count}}
-use Rattle.gs_model.specs.Frame.{Frame, end_count, leads_to, other_player, point_count, round_of}
+use Rattle.gs_model.specs.{BestAnswers.{Values}, Classes.{ClassLists, class_count}}
+use Rattle.gs_model.specs.Frame.{Frame, end_count, leads_to, other_player, round_of}
 use Rattle.gs_model.specs.{FrameFacts.{IsWalked}, Play.{IsFirstMoves}, Plans.{Plan}, Positions.{Target, at_end, at_point}}
 use Rattle.gs_model.proofs.Sparse.{sum_none}
 use Rattle.gs_seq.specs.{Abstracts.{abstract_frame, lists_of}, Payoffs.{end_sum}, declared.form.Abstract.{Abstract}}

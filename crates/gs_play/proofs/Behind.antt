@@ -1,6 +1,5 @@
 -- Numbers that stay behind others: part by part, and for equal numbers.
 use Rattle.std.proofs.{Common.{◌≡◌, ℕ, ◌+◌, ◌<◌, ◌≤◌, Bool, subst, arith, ⊎_elim}, lemmas.Bool.{cases_lt}}
-use Rattle.std.proofs.lemmas.Int.{ints}
 use Rattle.std.specs.Prelude.{ℤ, IsTrue, nat_lt}
 use Rattle.gs_play.specs.Lasting.{IsBehind}
 

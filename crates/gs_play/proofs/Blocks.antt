@@ -1,13 +1,10 @@
 -- Blocks of 64 places.
-use Rattle.std.proofs.Common.{◌≡◌, ℕ, ◌+◌, ◌*◌, ◌/◌, ◌<◌, ◌≤◌, List, length, get_or, set, sym, subst, arith, ⊎_elim, get_or-set_other, get_or-set_same}
+use Rattle.std.proofs.Common.{◌≡◌, ℕ, ◌*◌, ◌/◌, ◌<◌, ◌≤◌, List, length, get_or, set, sym, subst, arith, ⊎_elim, get_or-set_other, get_or-set_same}
 use Rattle.std.proofs.lemmas.Bool.{cases_eq}
-use Rattle.std.proofs.Math.Nat.{div-mul-le_self, lt-div-mul-add}
+use Rattle.std.proofs.Math.Nat.{div-mul-le_self}
 
 pub in_block : (k : ℕ) → (k / 64) * 64 ≤ k
 in_block k = div-mul-le_self k 64
-
-pub block_end : (k : ℕ) → k < (k / 64) * 64 + 64
-block_end k = lt-div-mul-add {a = k} {b = 64} (omega arith)
 
 pub renewed : (turns soonest : List ℕ) (block from stop n : ℕ) → block < length soonest → from ≡ block * 64
     → ((k : ℕ) → k < length turns → k / 64 ≡ block → k < stop) → ((k : ℕ) → from ≤ k → k < stop → n ≤ get_or turns k 0)

@@ -40,9 +40,6 @@ first_kept u n place most l h = record {
   none_before = h.none_before;
 }
 
-pub first_read : (u : ℕ → ℤ) (n place : ℕ) (most : ℤ) → IsFirstGreatest u n most place → IsFirstGreatest u n (u place) place
-first_read u n place most h = subst (λ x. IsFirstGreatest u n x place) h.reached h
-
 -- ---- no line overtakes
 
 module _ (lines : List Line) (best now : ℕ) where

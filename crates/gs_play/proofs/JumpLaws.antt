@@ -1,6 +1,5 @@
 -- What moves are worth moves on straight lines with the class totals; best totals are best against all plans that are alike.
-use Rattle.std.proofs.{Common.{◌≡◌, ℕ, Bool, true, false, cond, refl, sym, ap, ◌∙◌, arith}, Math.IntN.{*ℤ-zero}}
-use Rattle.std.proofs.lemmas.Int.{ints}
+use Rattle.std.proofs.{Common.{◌≡◌, ℕ, Bool, true, false, cond, refl, sym, ap, ◌∙◌}, Math.IntN.{*ℤ-zero}}
 use Rattle.std.specs.Prelude.{◌==◌, ℤ, pos, ◌+ℤ◌, ◌*ℤ◌}
 use Rattle.gs_model.specs.{BestAnswers.{Values}, Classes.{ClassLists, IsClasses, classes_in}}
 use Rattle.gs_model.specs.Frame.{Frame, leads_to, other_player, payoff_to, round_of}

@@ -1,5 +1,5 @@
 -- Plans that are alike: one is a plan, takes first moves and comes from turns of play as the other does. Plans that put all on the same moves are alike.
-use Rattle.std.proofs.Common.{◌≡◌, ℕ, zero, suc, ◌+◌, ◌-◌, ◌*◌, ◌<◌, ◌≤◌, Bool, cond, eqb, Option, Some, None, refl, sym, ap, ◌∙◌, arith}
+use Rattle.std.proofs.Common.{◌≡◌, ℕ, zero, suc, ◌<◌, Bool, cond, eqb, Option, Some, None, refl, sym, ap, ◌∙◌, arith}
 use Rattle.std.proofs.lemmas.Bool.{ne_eqb}
 use Rattle.gs_model.specs.{Classes.{ClassLists, IsClass, IsClasses, class_of, first_member}}
 use Rattle.gs_model.specs.{Frame.{Frame, ancestor, last_step, move_count, player_at, point_count, round_of}, FrameFacts.{InRange, IsWalked}}
@@ -9,9 +9,6 @@ use Rattle.gs_best.specs.Tables.{AreInMoves}
 use Rattle.gs_play.specs.PlanSums.{ArePlansAlike}
 use Rattle.gs_play.proofs.Taken.{PutsAll}
 
-pub alike_back : (f : Frame) (lists : ClassLists) (player : ℕ) (x y : Plan) → ArePlansAlike f lists player x y → ArePlansAlike f lists player y x
-alike_back f lists player x y a = record { total = sym a.total; numbers = λ q c m lq own lc lm. sym (a.numbers q c m lq own lc lm) }
-
 pub alike_on : (f : Frame) (lists : ClassLists) (player : ℕ) (x y z : Plan) → ArePlansAlike f lists player x y → ArePlansAlike f lists player y z
     → ArePlansAlike f lists player x z
 alike_on f lists player x y z a b = record {
@@ -20,7 +17,7 @@ alike_on f lists player x y z a b = record {
 }
 
 -- what comes to a class at a point
-abbrev comes : Frame → ClassLists → ℕ → Plan → ℕ → ℕ → ℕ
+abbrev pub comes : Frame → ClassLists → ℕ → Plan → ℕ → ℕ → ℕ
 comes f lists player x q c =
     number_before f (lift f lists x) (last_step f player (at_point q)) (round_of f (at_point q)) (first_member lists (round_of f (at_point q)) c)
 

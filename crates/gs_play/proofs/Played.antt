@@ -1,11 +1,11 @@
 -- Turns in which the answers stay: by class totals that are settled, the answer by their choices is the first best one as long as nothing is due.
-use Rattle.std.proofs.Common.{◌≡◌, ℕ, zero, suc, ◌+◌, ◌-◌, ◌*◌, ◌<◌, ◌≤◌, Bool, true, false, cond, refl, sym, ap, ◌∙◌, subst, arith}
+use Rattle.std.proofs.Common.{◌≡◌, ℕ, zero, suc, ◌+◌, ◌-◌, ◌*◌, ◌<◌, ◌≤◌, Bool, true, false, cond, refl, ap, ◌∙◌, arith}
 use Rattle.std.specs.Prelude.{◌==◌, length, slice_index, ℤ, pos, ◌+ℤ◌, ◌-ℤ◌, ◌*ℤ◌}
 use Rattle.std.proofs.Math.IntN.{*ℤ_comm}
 use Rattle.std.proofs.lemmas.Int.{ints}
 use Rattle.gs_model.specs.{BestAnswers.{Values}, Classes.{ClassLists, IsClass, IsClasses}}
 use Rattle.gs_model.specs.Frame.{Frame, end_count, other_player, payoff_to, point_count, round_of}
-use Rattle.gs_model.specs.{FrameFacts.{InRange, IsWalked}, Lossless.{IsLossless}, Plans.{Plan}, Positions.{at_end, at_point}}
+use Rattle.gs_model.specs.{FrameFacts.{InRange, IsWalked}, Lossless.{IsLossless}, Plans.{Plan}, Positions.{at_point}}
 use Rattle.gs_model.proofs.Total.{mul-add_right}
 use Rattle.gs_seq.specs.Payoffs.{end_sum}
 use Rattle.gs_best.specs.Tables.{AreInMoves, classes_at, moves_of, start_of}

@@ -241,17 +241,6 @@ spans_more f z spans middle h one w two = record {
       (cases_eq y z);
 }
 
--- no end yet
-pub spans_none : (f : Frame) (n : ℕ) (s : Span) → n ≡ point_count f → s.stop ≡ 0 → AreSpans f 0 (replicate n s)
-spans_none f n s many none = record {
-  long = length-replicate n s ∙ many;
-  within = λ q l.
-      let same = get_or-replicate n q s (record { first = 0; stop = 0 }) (omega (arith, l, many)) in
-      let at : (span_in (replicate n s) q).stop ≡ s.stop = ap (λ (x : Span). x.stop) same in
-      omega (arith, at, none);
-  all = λ z player l. absurd (omega (arith, l));
-}
-
 -- the span of a point, changed
 abbrev pub widened : List Span → ℕ → ℕ → ℕ → List Span
 widened spans p first stop = set spans p (record { first = first; stop = stop })

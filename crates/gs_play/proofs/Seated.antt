@@ -1,9 +1,9 @@
 -- What a turn makes of what both players hold.
 use Rattle.std.specs.declared.alloc.Global.{Global}
 use Rattle.std.proofs.Common.{◌≡◌, ℕ, Vec, Bool, false, true, get_or, ◌+◌, ◌-◌, ◌*◌, ◌<◌, ◌≤◌, refl, sym, ap, ◌∙◌, subst, arith}
-use Rattle.std.specs.Prelude.{length, slice_index, ℤ, pos}
+use Rattle.std.specs.Prelude.{length, slice_index, ℤ}
 use Rattle.gs_model.specs.{Classes.{ClassLists, IsClass, IsClasses}, Frame.{Frame, move_count, other_player, player_at, point_count, round_of}}
-use Rattle.gs_model.specs.{FrameFacts.{InRange, IsWalked}, Plans.{IsClassPlan, Plan}, Play.{IsFictitiousPlay, IsFirstMoves}, Positions.{at_point}}
+use Rattle.gs_model.specs.{FrameFacts.{InRange, IsWalked}, Plans.{IsClassPlan, Plan}, Play.{IsFictitiousPlay}, Positions.{at_point}}
 use Rattle.gs_model.proofs.PlanLaws.{played_are_plans}
 use Rattle.gs_seq.specs.{Abstracts.{abstract_frame, lists_of}, Payoffs.{end_sum}, Plans.{IsPlanOf, class_plan}, Slots.{slot_count}}
 use Rattle.gs_seq.specs.{declared.form.Abstract.{Abstract}, declared.plan.Plan.{Plan as KeptPlan}}

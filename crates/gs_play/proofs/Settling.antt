@@ -122,9 +122,3 @@ pub all_settled : (f : Frame) (lists : ClassLists) (player : ℕ) (at slope : Va
     → AreSettledUntil f lists player at slope pick due now → AreLinesSettled f lists player at slope pick now until
 all_settled f lists player at slope pick due now until late least all q c lq lc =
     settled_less f lists player at slope q c (pick q c) now (due q c) now until (omega arith) (least q c lq lc) (all q c lq lc (late q c lq lc))
-
--- and some turns later as well, for what is not due by then
-pub settled_later : (f : Frame) (lists : ClassLists) (player : ℕ) (at slope : Values) (pick due : ℕ → ℕ → ℕ) (now later : ℕ) → now ≤ later
-    → AreSettledUntil f lists player at slope pick due now → AreSettledUntil f lists player at slope pick due later
-settled_later f lists player at slope pick due now later l all q c lq lc d =
-    settled_less f lists player at slope q c (pick q c) now (due q c) later (due q c) l (omega arith) (all q c lq lc (omega (arith, l, d)))

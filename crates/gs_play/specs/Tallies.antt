@@ -1,5 +1,5 @@
 -- Class totals of a player that move with the turns, and worths that are kept with them.
-use Rattle.std.specs.Prelude.{ℕ, ◌+◌, ◌-◌, ◌*◌, ◌^◌, ◌<◌, ◌≤◌, ◌≡◌, ◌≢◌, ◌==◌, if◌then◌else◌, Bool, true, false, List, length, get_or, set, take, drop}
+use Rattle.std.specs.Prelude.{ℕ, ◌+◌, ◌-◌, ◌*◌, ◌^◌, ◌<◌, ◌≤◌, ◌≡◌, ◌≢◌, ◌==◌, if◌then◌else◌, true, false, List, length, get_or, set, take, drop}
 use Rattle.std.specs.Prelude.{slice_index, ℤ, pos, ◌+ℤ◌, ◌-ℤ◌, ◌*ℤ◌, unsigned_abs}
 use Rattle.gs_model.specs.BestAnswers.{Values}
 use Rattle.gs_model.specs.Classes.{ClassLists, IsClass}

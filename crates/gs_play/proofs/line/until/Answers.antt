@@ -7,7 +7,7 @@ use Rattle.gs_play.proofs.Behind.{behind_same}
 use Rattle.gs_play.specs.Lines.{value_in}
 use Rattle.gs_play.proofs.Turning.{behind_by, stays_by}
 use Rattle.gs_play.proofs.Sizes.{Fits, gap_small}
-use Rattle.gs_play.proofs.line.until.Goals.{After-value-2, After-behind-gap}
+use Rattle.gs_play.proofs.line.until.Goals.{After-value-2}
 use Rattle.gs_play.proofs.line.until.Goals as goal
 
 value_is : (c : After-value-2) → to_z w128 (of_z w128 c.value.result) ≡ value_in c.args.ahead c.args.now

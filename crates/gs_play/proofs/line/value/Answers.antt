@@ -3,9 +3,7 @@ use Rattle.std.specs.Prelude.{pos, ◌+ℤ◌, ◌*ℤ◌, unsigned_abs}
 use Rattle.std.specs.Int.RustNames.{FitsSigned}
 use Rattle.std.proofs.Math.Nat.{mul-le-mul_left}
 use Rattle.std.proofs.lemmas.Int.{ints, to_z-of_z}
-use borrow.Author.Differences.{abs_is}
-use mir.Syntax.{w64, w128}
-use Rattle.gs_play.specs.Lines.{value_in}
+use mir.Syntax.{w128}
 use Rattle.gs_play.proofs.Sizes.{Fits, fits_abs, value_small}
 use Rattle.gs_play.proofs.line.value.Goals.{After-from, After-scaled}
 use Rattle.gs_play.proofs.line.value.Goals as goal

@@ -16,7 +16,7 @@ use Rattle.gs_play.specs.Tables.{raise_sum}
 use Rattle.gs_play.specs.declared.plot.Span.{Span}
 use Rattle.gs_play.proofs.Pushed.{walked}
 use Rattle.gs_play.proofs.Risen.{renewed_all, renewed_before, renewed_begun, renewed_kept, renewed_more}
-use Rattle.gs_play.proofs.pushing.push.Goals.{After-end_step, After-index-span, In-loop-end}
+use Rattle.gs_play.proofs.pushing.push.Goals.{After-end_step, After-index-span}
 use Rattle.gs_play.proofs.pushing.push.Goals as goal
 
 -- ---- steps that are compared
