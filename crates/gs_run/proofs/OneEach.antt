@@ -7,12 +7,12 @@ use Rattle.gs_model.specs.{Classes.{ClassLists}, Plans.{Plan}, Play.{IsFictitiou
 use Rattle.gs_seq.specs.declared.plan.Plan.{Plan as ClassPlan}
 use Rattle.gs_solve.specs.Solutions.{IsGameSolution}
 use Rattle.gs_strategy.specs.{Checks.{AreClasses}, Values.{file_frame}, Views.{weights_of}}
-use Rattle.gs_run.specs.Answers.{SameNumbers}
+use Rattle.gs_play.specs.PlanSums.{ArePlansAlike}
 use Rattle.gs_run.proofs.{OnePlay.{play_one}, OneSolve.{solution_one}}
 
 pub told_play_one : (version : Version) (g : FileGame) (lists : ClassLists) (turns : ℕ) (x y z w : Plan) → IsTold version g → AreClasses g lists
     → IsFictitiousPlay (file_frame g) lists turns x y → IsFictitiousPlay (file_frame g) lists turns z w
-    → SameNumbers (file_frame g) lists 1 x z × SameNumbers (file_frame g) lists 2 y w
+    → ArePlansAlike (file_frame g) lists 1 x z × ArePlansAlike (file_frame g) lists 2 y w
 told_play_one version g lists turns x y z w t c h k =
     let p = told_playable version g t in
     let r = file_rules g in

@@ -1,80 +1,17 @@
 -- What `play` says is one: the plans after so many turns have the same numbers.
-use Rattle.std.proofs.Common.{◌≡◌, ℕ, zero, suc, ◌*◌, ◌<◌, ◌==◌, Bool, cond, eqb, get_or, Option, Some, None, pos, ◌*ℤ◌, refl, sym, ap, ◌∙◌, arith}
-use Rattle.std.proofs.lemmas.Bool.{ne_eqb}
-use Rattle.gs_model.proofs.{BestOnce.{best_values_are_one}, FirstBest.{one_choice, sum-same_range}, Gather.{class_before, class_in}, Tables.{kept}}
-use Rattle.gs_model.proofs.Total.{sum_z-same_all}
-use Rattle.gs_model.specs.{BestAnswers.{IsBestValues, IsFirstBestPlan, Values, end_worth}, Classes.{ClassLists, IsClass, IsClasses, class_of, first_member}}
-use Rattle.gs_model.specs.Deals.{Deal}
-use Rattle.gs_model.specs.Frame.{Frame, ancestor, at_round, end_count, last_round, last_step, move_count, other_player, payoff_to, player_at, point_count}
-use Rattle.gs_model.specs.Frame.{round_of, signal_count}
+use Rattle.std.proofs.Common.{◌≡◌, ℕ, zero, suc, ◌*◌, ◌<◌, ◌==◌, cond, eqb, get_or, Option, Some, None, pos, ◌*ℤ◌, refl, sym, ap, ◌∙◌, arith}
+use Rattle.gs_model.proofs.{BestOnce.{best_values_are_one}, Gather.{class_in}, Tables.{kept}, Total.{sum_z-same_all}}
+use Rattle.gs_model.specs.{BestAnswers.{IsBestValues, IsFirstBestPlan, Values, end_worth}, Classes.{ClassLists, IsClasses, class_of, first_member}, Deals.{Deal}}
+use Rattle.gs_model.specs.Frame.{Frame, ancestor, at_round, end_count, last_round, last_step, other_player, payoff_to, round_of, signal_count}
 use Rattle.gs_model.specs.{FrameFacts.{InRange, IsWalked}, Payoff.{number_at_end}, Plans.{Plan, lift, number_before}}
-use Rattle.gs_model.specs.{Play.{IsFictitiousPlay, IsFirstMoves, IsPlanSum}, Positions.{Step, at_end, at_point}}
-use Rattle.gs_run.specs.Answers.{SameNumbers}
-
--- what comes to a class at a point
-abbrev comes : Frame → ClassLists → ℕ → Plan → ℕ → ℕ → ℕ
-comes f lists player x q c =
-    number_before f (lift f lists x) (last_step f player (at_point q)) (round_of f (at_point q)) (first_member lists (round_of f (at_point q)) c)
+use Rattle.gs_model.specs.{Play.{IsFictitiousPlay, IsPlanSum}, Positions.{Step, at_end, at_point}}
+use Rattle.gs_play.specs.PlanSums.{ArePlansAlike}
+use Rattle.gs_play.proofs.PlansAlike.{comes, firsts_same, puts_same}
 
 module _ (f : Frame) (lists : ClassLists) (player : ℕ) (r : InRange f) (w : IsWalked f player) (k : IsClasses f.parents lists) where
-  module _ (x y : Plan) (total : x.total ≡ y.total) (n : ℕ) (below : (q c m : ℕ) → q < n → q < point_count f → player_at f q ≡ player
-      → IsClass lists (round_of f (at_point q)) c → m < move_count f q → x.number q c m ≡ y.number q c m) where
-    comes_at : (q c : ℕ) (o : Option Step) → q ≡ n → q < point_count f → IsClass lists (round_of f (at_point q)) c → last_step f player (at_point q) ≡ o
-        → number_before f (lift f lists x) o (round_of f (at_point q)) (first_member lists (round_of f (at_point q)) c)
-        ≡ number_before f (lift f lists y) o (round_of f (at_point q)) (first_member lists (round_of f (at_point q)) c)
-    comes_at q c None same lq lc e = total
-    comes_at q c (Some u) same lq lc e =
-        let l = w.earlier q u lq e in
-        let ch = w.chosen q u lq e in
-        let lu : u.point < point_count f = omega arith in
-        let s = ancestor f (round_of f (at_point q)) (round_of f (at_point u.point)) (first_member lists (round_of f (at_point q)) c) in
-        below u.point (class_of lists (round_of f (at_point u.point)) s) u.choice (omega arith) lu ch.0
-        (class_before f lists player r w k (round_of f (at_point q)) (round_of f (at_point u.point)) c (w.some_round u.point lu) (w.past q u lq e)
-        (w.point_in q lq) lc) ch.1
-
-    comes_same : (q c : ℕ) → q ≡ n → q < point_count f → IsClass lists (round_of f (at_point q)) c → comes f lists player x q c ≡ comes f lists player y q c
-    comes_same q c same lq lc = comes_at q c (last_step f player (at_point q)) same lq lc refl
-
-  -- plans that put all that comes on the same moves have the same numbers
-  abbrev Puts : Plan → (ℕ → ℕ → ℕ) → Type 0
-  Puts x move = (q c m : ℕ) → q < point_count f → player_at f q ≡ player → IsClass lists (round_of f (at_point q)) c → m < move_count f q
-      → x.number q c m ≡ cond (eqb m (move q c)) (comes f lists player x q c) 0
-
-  module _ (x y : Plan) (move other : ℕ → ℕ → ℕ) (total : x.total ≡ y.total) (moves : (q c : ℕ) → q < point_count f → player_at f q ≡ player
-      → IsClass lists (round_of f (at_point q)) c → move q c ≡ other q c) (px : Puts x move) (py : Puts y other) where
-    below : (n q c m : ℕ) → q < n → q < point_count f → player_at f q ≡ player → IsClass lists (round_of f (at_point q)) c → m < move_count f q
-        → x.number q c m ≡ y.number q c m
-    below zero q c m l lq hp lc lm = absurd (omega arith)
-    below (suc n) q c m l lq hp lc lm =
-        let e = comes_same x y total q (λ p d i lp. below n p d i (omega arith)) q c refl lq lc in
-        px q c m lq hp lc lm
-        ∙ ap (λ (i : ℕ). cond (eqb m i) (comes f lists player x q c) 0) (moves q c lq hp lc)
-        ∙ ap (λ (i : ℕ). cond (eqb m (other q c)) i 0) e
-        ∙ sym (py q c m lq hp lc lm)
-
-    puts_same : SameNumbers f lists player x y
-    puts_same = record { total = total; numbers = λ q c m lq hp lc lm. below (suc q) q c m (omega arith) lq hp lc lm }
-
-  -- the first moves
-  first_puts : (x : Plan) → IsFirstMoves f lists player x → Puts x (λ q c. 0)
-  first_puts x h q c zero lq hp lc lm =
-      let each : (m : ℕ) → m < move_count f q → x.number q c m ≡ cond (eqb m 0) (x.number q c 0) 0 = λ m l. at m l in
-      sym (one_choice (x.number q c 0) 0 (move_count f q) lm)
-      ∙ sym (sum-same_range (λ m. x.number q c m) (λ m. cond (eqb m 0) (x.number q c 0) 0) (move_count f q) each)
-      ∙ h.plan.flow q c lq hp lc
-    where
-      at : (m : ℕ) → m < move_count f q → x.number q c m ≡ cond (eqb m 0) (x.number q c 0) 0
-      at zero l = refl
-      at (suc m) l = h.first q c (suc m) lq hp lc (omega arith) l ∙ ap (λ (b : Bool). cond b (x.number q c 0) 0) (sym (ne_eqb (suc m) 0 (λ e. omega arith)))
-  first_puts x h q c (suc m) lq hp lc lm =
-      h.first q c (suc m) lq hp lc (omega arith) lm ∙ ap (λ (b : Bool). cond b (comes f lists player x q c) 0) (sym (ne_eqb (suc m) 0 (λ e. omega arith)))
-
-  pub first_moves_one : (x y : Plan) → IsFirstMoves f lists player x → IsFirstMoves f lists player y → SameNumbers f lists player x y
-  first_moves_one x y h g = puts_same x y (λ q c. 0) (λ q c. 0) (h.one ∙ sym g.one) (λ q c a b d. refl) (first_puts x h) (first_puts y g)
-
   -- sums
-  pub sums_one : (x y z x' y' z' : Plan) → SameNumbers f lists player x x' → SameNumbers f lists player y y' → IsPlanSum f lists player x y z
-      → IsPlanSum f lists player x' y' z' → SameNumbers f lists player z z'
+  pub sums_one : (x y z x' y' z' : Plan) → ArePlansAlike f lists player x x' → ArePlansAlike f lists player y y' → IsPlanSum f lists player x y z
+      → IsPlanSum f lists player x' y' z' → ArePlansAlike f lists player z z'
   sums_one x y z x' y' z' a b h g = record {
     total = let p = a.total in let q = b.total in let s = h.total in let t = g.total in omega arith;
     numbers = λ q c m lq hp lc lm. (let p = a.numbers q c m lq hp lc lm in let i = b.numbers q c m lq hp lc lm in let s = h.numbers q c m lq hp lc lm in
@@ -82,7 +19,7 @@ module _ (f : Frame) (lists : ClassLists) (player : ℕ) (r : InRange f) (w : Is
   }
 
   -- what an end reads of plans with the same numbers
-  end_at : (x y : Plan) (z s : ℕ) (o : Option Step) → SameNumbers f lists player x y → z < end_count f → s < signal_count f (round_of f (at_end z))
+  end_at : (x y : Plan) (z s : ℕ) (o : Option Step) → ArePlansAlike f lists player x y → z < end_count f → s < signal_count f (round_of f (at_end z))
       → last_step f player (at_end z) ≡ o
       → number_before f (lift f lists x) o (round_of f (at_end z)) s ≡ number_before f (lift f lists y) o (round_of f (at_end z)) s
   end_at x y z s None same lz ls e = same.total
@@ -96,13 +33,13 @@ module _ (f : Frame) (lists : ClassLists) (player : ℕ) (r : InRange f) (w : Is
       same.numbers u.point (class_of lists (round_of f (at_point u.point)) a) u.choice lu ch.0
       (class_in f lists k (round_of f (at_point u.point)) a some (w.point_in u.point lu) inside) ch.1
 
-  pub end_same : (x y : Plan) (z s : ℕ) → SameNumbers f lists player x y → z < end_count f → s < signal_count f (round_of f (at_end z))
+  pub end_same : (x y : Plan) (z s : ℕ) → ArePlansAlike f lists player x y → z < end_count f → s < signal_count f (round_of f (at_end z))
       → number_at_end f player (lift f lists x) z s ≡ number_at_end f player (lift f lists y) z s
   end_same x y z s same lz ls = end_at x y z s (last_step f player (at_end z)) same lz ls refl
 
 -- what an end is worth to the other player is the same
 worth_same : (f : Frame) (lists : ClassLists) (player : ℕ) (x y : Plan) (z s : ℕ) → InRange f → IsWalked f (other_player player) → IsClasses f.parents lists
-    → SameNumbers f lists (other_player player) x y → z < end_count f → end_worth f player (lift f lists x) z s ≡ end_worth f player (lift f lists y) z s
+    → ArePlansAlike f lists (other_player player) x y → z < end_count f → end_worth f player (lift f lists x) z s ≡ end_worth f player (lift f lists y) z s
 worth_same f lists player x y z s r w k same lz =
     let round = round_of f (at_end z) in
     sum_z-same_all
@@ -117,7 +54,7 @@ worth_same f lists player x y z s r w k same lz =
     ap (λ (m : ℕ). cond (at_round f round e.one == s) (pos (e.weight * m) *ℤ payoff_to f player z e.outcome) (pos 0)) n))
 
 pub best_same : (f : Frame) (lists : ClassLists) (player : ℕ) (x y : Plan) (v : Values) (move : ℕ → ℕ → ℕ) → InRange f → IsWalked f (other_player player)
-    → IsClasses f.parents lists → SameNumbers f lists (other_player player) x y → IsBestValues f lists player (lift f lists x) v move
+    → IsClasses f.parents lists → ArePlansAlike f lists (other_player player) x y → IsBestValues f lists player (lift f lists x) v move
     → IsBestValues f lists player (lift f lists y) v move
 best_same f lists player x y v move r w k same h = record {
   at_ends = λ z c lz lc. h.at_ends z c lz lc
@@ -131,17 +68,20 @@ best_same f lists player x y v move r w k same h = record {
 
 -- first best plans against plans with the same numbers have the same numbers
 first_best_one : (f : Frame) (lists : ClassLists) (player : ℕ) (x y b c : Plan) → InRange f → IsWalked f player → IsWalked f (other_player player)
-    → IsClasses f.parents lists → SameNumbers f lists (other_player player) x y → IsFirstBestPlan f lists player (lift f lists x) b
-    → IsFirstBestPlan f lists player (lift f lists y) c → SameNumbers f lists player b c
+    → IsClasses f.parents lists → ArePlansAlike f lists (other_player player) x y → IsFirstBestPlan f lists player (lift f lists x) b
+    → IsFirstBestPlan f lists player (lift f lists y) c → ArePlansAlike f lists player b c
 first_best_one f lists player x y b c r w w' k same h g =
     let best = best_same f lists player x y h.values h.move r w' k same h.best in
     let one = best_values_are_one f lists player (lift f lists y) h.values g.values h.move g.move w k best g.best in
-    puts_same f lists player r w k b c h.move g.move (h.one ∙ sym g.one) one.2 h.puts g.puts
+    puts_same f lists player r w k b c h.move (record { one = h.one; puts = h.puts }) (record {
+      one = g.one;
+      puts = λ q d m lq own ld lm. g.puts q d m lq own ld lm ∙ ap (λ (i : ℕ). cond (eqb m i) (comes f lists player c q d) 0) (sym (one.2 q d lq own ld));
+    })
 
 pub play_one : (f : Frame) (lists : ClassLists) → InRange f → IsWalked f 1 → IsWalked f 2 → IsClasses f.parents lists → (n : ℕ) (x y x' y' : Plan)
-    → IsFictitiousPlay f lists n x y → IsFictitiousPlay f lists n x' y' → SameNumbers f lists 1 x x' × SameNumbers f lists 2 y y'
+    → IsFictitiousPlay f lists n x y → IsFictitiousPlay f lists n x' y' → ArePlansAlike f lists 1 x x' × ArePlansAlike f lists 2 y y'
 play_one f lists r w1 w2 k zero x y x' y' h g =
-    (first_moves_one f lists 1 r w1 k x x' h.0 g.0, first_moves_one f lists 2 r w2 k y y' h.1 g.1)
+    (firsts_same f lists 1 r w1 k x x' h.0 g.0, firsts_same f lists 2 r w2 k y y' h.1 g.1)
 play_one f lists r w1 w2 k (suc n) x y x' y' (a, b, ba, bb, p, f1, f2, s1, s2) (a', b', ba', bb', p', g1, g2, t1, t2) =
     let both = play_one f lists r w1 w2 k n a b a' b' p p' in
     let one = first_best_one f lists 1 b b' ba ba' r w1 w2 k both.1 f1 g1 in

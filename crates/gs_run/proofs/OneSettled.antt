@@ -5,7 +5,7 @@ use Rattle.gs_file.specs.{Faults.{Fault}, JsonLaws.{IsTold}, Reading.{FileGame, 
 use Rattle.gs_game_commands.specs.{Checking.{IsGrouping}, Playing.{Plays}, Settling.{OfForm, OfGrouping, Settles}, Texts.{IsSettledText}}
 use Rattle.gs_filter.proofs.ClassLaws.{single_are_classes}
 use Rattle.gs_model.proofs.{Ranges.{in_range, signal_count_is}, Walked.{last_round_of, walked_one, walked_two}}
-use Rattle.gs_model.specs.{Classes.{ClassLists, IsClasses}, Frame.{Frame, point_count, total_weight}, Game.{round_count}, Lossless.{IsLossless}, Plans.{lift}}
+use Rattle.gs_model.specs.{Classes.{ClassLists}, Frame.{Frame, point_count, total_weight}, Game.{round_count}, Lossless.{IsLossless}, Plans.{lift}}
 use Rattle.gs_model.specs.Verdict.{IsVerdict}
 use Rattle.gs_reply.specs.Replies.{OfReading, Reply, Prints, Refuses}
 use Rattle.gs_seq.specs.{Plans.{class_plan}, Slots.{IsPlan, plan_of}, declared.plan.Plan.{Plan}}
@@ -14,7 +14,7 @@ use Rattle.gs_words.specs.{declared.request.Grouping.{Grouping}, declared.reques
 use Rattle.gs_run.proofs.{Confirming.{small_passes}, OneGame.{groupings_one, not_both, not_lossless_one}, OnePlay.{play_one}, OneStrategy.{limit_one}}
 use Rattle.gs_strategy.proofs.Verdicts.{verdicts_one}
 use Rattle.gs_file.proofs.Dealt.{told_dealt, told_playable}
-use Rattle.gs_run.specs.Answers.{SameNumbers}
+use Rattle.gs_play.specs.PlanSums.{ArePlansAlike}
 use Rattle.gs_seq.proofs.PlanSlots.{place_at}
 use Rattle.gs_file.proofs.Told.{file_told}
 use Rattle.gs_strategy.proofs.Verdicts.{scale_some}
@@ -68,7 +68,7 @@ settles_one says h grouping bytes one two p q = by (read_at bytes) refl p q
 
 -- plans of the program with the same numbers have the same weights
 pub weights_one : (f : Frame) (lists : ClassLists) (player : ℕ) (x y : Plan) → IsPlan f lists player x.total x.weights.items
-    → IsPlan f lists player y.total y.weights.items → SameNumbers f lists player (class_plan f lists x) (class_plan f lists y) → weights_of x ≡ weights_of y
+    → IsPlan f lists player y.total y.weights.items → ArePlansAlike f lists player (class_plan f lists x) (class_plan f lists y) → weights_of x ≡ weights_of y
 weights_one f lists player x y h k same =
     let lx = h.long in
     let ly = k.long in
@@ -142,12 +142,6 @@ second_plan g lists one two text h =
     subst (λ (w : Weights). IsPlan (file_frame g) lists 2 w.total w.weights) h.second
     (subst (λ (l : ClassLists). IsPlan (file_frame g) l 2 h.strategy.two.total h.strategy.two.weights) h.classes
     (subst (λ (x : FileGame). IsPlan (file_frame x) h.strategy.classes 2 h.strategy.two.total h.strategy.two.weights) h.game h.second_is))
-
-pub text_classes : (g : FileGame) (lists : ClassLists) (one two : Plan) (text : List ℕ) → IsSettledText g lists one two text
-    → IsClasses (file_frame g).parents lists
-text_classes g lists one two text h =
-    subst (λ (l : ClassLists). IsClasses (file_frame g).parents l) h.classes
-    (subst (λ (x : FileGame). IsClasses (file_frame x).parents h.strategy.classes) h.game h.are_classes)
 
 -- ---- `play`
 

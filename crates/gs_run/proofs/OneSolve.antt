@@ -20,7 +20,8 @@ use Rattle.gs_solve.specs.Solutions.{AreEndPlans, AreShares, IsFirstOver, IsGame
 use Rattle.gs_solve.specs.Solutions.{most_pivots, table_numbers}
 use Rattle.gs_solve.specs.Weights.{sequence_weight}
 use Rattle.gs_strategy.specs.{Values.{Weights}, Views.{weights_of}, Values.{file_frame}}
-use Rattle.gs_run.proofs.{OnePlay.{best_same, first_moves_one}, OneProgram.{Same, SameEnds, SameFractions, best_one, best_over, programs_same, stops_over}}
+use Rattle.gs_play.proofs.PlansAlike.{firsts_same}
+use Rattle.gs_run.proofs.{OnePlay.{best_same}, OneProgram.{Same, SameEnds, SameFractions, best_one, best_over, programs_same, stops_over}}
 use Rattle.gs_run.proofs.OneSettled.{SaysOne, settles_one, text_of_one}
 use Rattle.gs_strategy.proofs.OneReading.{one_least}
 use Rattle.gs_file.proofs.Dealt.{told_playable}
@@ -74,7 +75,7 @@ pub record SamePath (f : Frame) (lists : ClassLists) (p : Program) (o : Listing)
 module _ (f : Frame) (lists : ClassLists) (r : InRange f) (w1 : IsWalked f 1) (w2 : IsWalked f 2) (k : IsClasses f.parents lists) where
   pub opening_one : (o l : Listing) → IsGameOpening f lists o → IsGameOpening f lists l → o ≡ l
   opening_one o l h g =
-      let firsts = first_moves_one f lists 1 r w1 k (plan_of f lists 1 h.first) (plan_of f lists 1 g.first) h.first_moves g.first_moves in
+      let firsts = firsts_same f lists 1 r w1 k (plan_of f lists 1 h.first) (plan_of f lists 1 g.first) h.first_moves g.first_moves in
       let best = best_same f lists 2 (plan_of f lists 1 h.first) (plan_of f lists 1 g.first) h.values h.move r w1 k firsts h.best in
       let moves = (best_values_are_one f lists 2 (lift f lists (plan_of f lists 1 g.first)) h.values g.values h.move g.move w2 k best g.best).2 in
       h.list

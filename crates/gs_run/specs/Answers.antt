@@ -1,9 +1,9 @@
 -- What the definitions say of one input is one: the signal classes, the plans after turns of play, the solution, and the reply of each task.
-use Rattle.std.specs.Prelude.{◌≡◌, ◌<◌, ℕ, List}
+use Rattle.std.specs.Prelude.{◌≡◌, ℕ, List}
 use Rattle.gs_run.specs.Asking.{Asks}
 use Rattle.gs_file.specs.{JsonLaws.{IsTold}, Reading.{FileGame}, declared.version.Version.{Version}}
-use Rattle.gs_model.specs.{Classes.{ClassLists, IsClass}, Frame.{Frame, move_count, player_at, point_count, round_of}, Game.{Game}, Plans.{Plan}}
-use Rattle.gs_model.specs.{Play.{IsFictitiousPlay}, Positions.{at_point}, SignalClasses.{IsSignalClasses}}
+use Rattle.gs_model.specs.{Classes.{ClassLists}, Game.{Game}, Plans.{Plan}, Play.{IsFictitiousPlay}, SignalClasses.{IsSignalClasses}}
+use Rattle.gs_play.specs.PlanSums.{ArePlansAlike}
 use Rattle.gs_reply.specs.Replies.{Reply}
 use Rattle.gs_seq.specs.declared.plan.Plan.{Plan as ClassPlan}
 use Rattle.gs_solve.specs.Solutions.{IsGameSolution}
@@ -14,17 +14,11 @@ use Rattle.gs_words.specs.Tasks.{Task}
 abbrev pub SignalClassesAreOne : Type 0
 SignalClassesAreOne = (g : Game) (a b : ClassLists) → IsSignalClasses g a → IsSignalClasses g b → a ≡ b
 
--- two plans over classes have the same total, and the same number at each of the player's points, classes and moves
-pub record SameNumbers (f : Frame) (lists : ClassLists) (player : ℕ) (x y : Plan) : Type 0 where
-  pub total : x.total ≡ y.total
-  pub numbers : (q c m : ℕ) → q < point_count f → player_at f q ≡ player → IsClass lists (round_of f (at_point q)) c → m < move_count f q
-      → x.number q c m ≡ y.number q c m
-
 -- after a number of turns each player has only one plan
 abbrev pub PlaysAreOne : Type 0
 PlaysAreOne = (version : Version) (g : FileGame) (lists : ClassLists) (turns : ℕ) (x y z w : Plan) → IsTold version g → AreClasses g lists
     → IsFictitiousPlay (file_frame g) lists turns x y → IsFictitiousPlay (file_frame g) lists turns z w
-    → SameNumbers (file_frame g) lists 1 x z × SameNumbers (file_frame g) lists 2 y w
+    → ArePlansAlike (file_frame g) lists 1 x z × ArePlansAlike (file_frame g) lists 2 y w
 
 -- a game over classes has only one solution: each player's total and weights are determined
 abbrev pub SolutionsAreOne : Type 0
