@@ -1,6 +1,6 @@
 //! A point whose numbers are checked, and where its moves lead.
 
-ghost use Rattle.std.specs.Prelude.{◌≡◌, ◌<◌};
+ghost use Rattle.std.specs.Prelude.{◌≡◌, ◌<◌, ◌≤◌, length};
 ghost use Rattle.gs_game.specs.Seen.{target_of};
 ghost use Rattle.gs_model.specs.{Frame.{point_count, round_of}, Positions.{at_point}};
 ghost use Rattle.gs_best.specs.{Sides.{frame_at, lists_at}, Tables.{start_of}};
@@ -21,16 +21,15 @@ pub(crate) struct Spot<'a> {
     pub(crate) ghost place_is: { here.place ≡ start_of (frame_at claim.side) (lists_at claim.side) point },
 }
 
-/// Returns where each move of a point leads.
+/// Writes where each move of a point leads.
 #[inline(always)]
-pub(crate) fn ways_of(spot: &Spot<'_>) -> [Way; 26]
-    ensures { let s = spot.now.claim.side in AreWays (frame_at s) (lists_at s) spot.now.point result }
+pub(crate) fn find_ways(spot: &Spot<'_>, ways: &mut [Way])
+    requires { 26 ≤ length ways.old }
+    ensures { let s = spot.now.claim.side in AreWays (frame_at s) (lists_at s) spot.now.point ways.new }
 {
     let form = spot.claim.side.form;
-    let mut ways = [spot.here; 26];
     for choice in 0..form.move_total(spot.point) {
         let to = form.target_at(spot.point, choice);
         ways[usize::from(choice)] = way_from(form, spot.point, spot.here.place, to);
     }
-    ways
 }

@@ -3,7 +3,7 @@ use Rattle.gs_model.specs.{Frame.{leads_to}, FrameFacts.{IsFrom, IsInside}}
 use Rattle.gs_best.specs.Sides.{frame_at}
 use Rattle.gs_best.proofs.Players.{walked}
 use Rattle.gs_certificate.proofs.Together.{not_before}
-use Rattle.gs_certificate.proofs.spot.ways_of.Goals as goal
+use Rattle.gs_certificate.proofs.spot.find_ways.Goals as goal
 
 pub way_from-requires-clause-inside : goal.way_from-requires-clause-inside
 way_from-requires-clause-inside c =
