@@ -8,7 +8,7 @@ use crate::gap::behind;
 use gs_seq::{plus, scaled};
 
 /// A number that in each turn is `at` plus `slope` times the turn. A sum of lines wraps around at 64 bits: where it is small, it is exact.
-#[derive(Clone, Copy, PartialEq, Eq)]
+#[derive(Clone, Copy, PartialEq)]
 pub(crate) struct Line {
     pub(crate) at: i64,
     pub(crate) slope: i64,
