@@ -7,7 +7,7 @@ use Rattle.gs_seq.proofs.{Forms.{form_classes, form_in_range}, Signed.{read_back
 use Rattle.gs_best.specs.{ClassTotals.{gathered_below}, Sides.{frame_at, lists_at}}
 use Rattle.gs_best.proofs.Itself.{gathered_itself}
 use Rattle.gs_certificate.specs.{Claims.{IsWay, claimed_totals}, declared.way.Way.{Way}}
-use Rattle.gs_certificate.proofs.{Together.{here_way, size_few, way_round, worth_at}, worths.worth_of.Goals.{After-from}}
+use Rattle.gs_certificate.proofs.{Together.{here_way, onward, size_few, way_round, worth_at}, worths.worth_of.Goals.{After-from}}
 use Rattle.gs_certificate.proofs.worths.worth_of.Goals as goal
 
 abbrev nowhere : Way
@@ -50,3 +50,17 @@ returns-then-spot-to-clause-small c =
     let r = way_round s (to at) (way at) in
     let few = mul-le-mul_right (2 ^ 90) (size_few s (to at).round c.args.class r.0 r.1) in
     omega (arith, ap unsigned_abs (read_back c.total_at.result c.total_at.result (record { sfits = c.total_at.type_inv }) refl), c.total_at.ensures.small, few)
+
+pub total_below-requires-clause-way : goal.total_below-requires-clause-way
+total_below-requires-clause-way c = way (goal.at.total_below-requires-clause-way c).After-from
+
+pub total_below-requires-clause-onward : goal.total_below-requires-clause-onward
+total_below-requires-clause-onward c =
+    let at = (goal.at.total_below-requires-clause-onward c).After-from in
+    onward c.args.spot.now (to at) (way at) c.args.choice c.requires.choice (leads at)
+
+pub returns-else-spot-to-clause-value : goal.returns-else-spot-to-clause-value
+returns-else-spot-to-clause-value c =
+    let at = (goal.at.returns-else-spot-to-clause-value c).After-from in
+    read_back c.total_below.result _ (record { sfits = c.total_below.type_inv }) c.total_below.ensures.value
+    ∙ worth_at c.args.spot.now (to at) (way at) c.args.choice c.args.class (leads at)
