@@ -3,7 +3,7 @@ use Rattle.std.proofs.Common.{◌≡◌, ℕ, ℤ, pos, ◌+◌, ◌-◌, ◌*�
 use Rattle.std.proofs.Common.{subst, arith, sum_by, mul_left_comm, length-append, ⊎_elim}
 use Rattle.std.proofs.{Math.IntN.{*ℤ-zero}, Math.Nat.{mul-le-mul_left}, lemmas.Bool.Decides.{Decides-eqb}, lemmas.Bool.{cases_eq, false≢true}}
 use Rattle.std.proofs.{lemmas.List.{get_or_append_left, get_or_at}, lemmas.List.Elements.{All-filter}}
-use Rattle.std.specs.Prelude.{◌==◌, ◌*ℤ◌, All, filter, unsigned_abs}
+use Rattle.std.specs.{Prelude.{◌==◌, ◌*ℤ◌, All, filter, unsigned_abs}, List.{range_with_len}}
 use Rattle.gs_filter.specs.Filter.{single_classes}
 use Rattle.gs_filter.proofs.ClassLaws.{single_are_classes}
 use Rattle.gs_lossless.specs.Amounts.{IsRunIn}
@@ -16,7 +16,7 @@ use Rattle.gs_seq.specs.declared.plan.Plan.{Plan as StoredPlan}
 use Rattle.gs_seq.proofs.{Forms.{form_in_range, form_walked, form_signals}, Ends.{number_few}, RowFacts.{abs_all, sum-times}}
 use Rattle.gs_best.proofs.{Chips.{IsModest, form_modest}, Rooms.{pos-product}}
 use Rattle.gs_frac.specs.declared.value.Fraction.{Fraction}
-use Rattle.gs_raw.specs.{Answers.{IsHandValueOf}, Hands.{deal_pays, hand_pays_at, plan_number_at_end, signal_pays, signal_weighs, signals_pay, signals_weigh}}
+use Rattle.gs_raw.specs.{Answers.{IsHandValueOf}, Hands.{deal_pays, hand_pays_at, plan_number_at_end, signal_pays, signal_weighs, signals_pay}}
 use Rattle.gs_raw.proofs.{Numbers.{abs_scaled}, Spread.{single_class, single_member}, Sums.{IsInRun, filter_le, filter_sum, run_sum, run_weight_le}}
 
 -- ---- one signal
@@ -102,6 +102,10 @@ module _ (f : Frame) (r : InRange f) (m : IsModest f) where
 -- the deals of a signal weigh no more than all
 pub signal_weighs_le : (f : Frame) (z s : ℕ) → signal_weighs f z s ≤ sum_by (λ (d : Deal). d.weight) f.deals
 signal_weighs_le f z s = filter_le (λ (d : Deal). d.weight) (λ (d : Deal). at_round f (round_of f (at_end z)) d.one == s) f.deals
+
+-- the weight of the deals of `count` signals of an end's round, from `first` on
+abbrev pub signals_weigh : Frame → ℕ → ℕ → ℕ → ℕ
+signals_weigh f first count z = sum_by (signal_weighs f z) (range_with_len first count)
 
 -- the deals of a run of signals weigh no more than all
 pub signals_weigh_le : (f : Frame) (z first count : ℕ) → signals_weigh f first count z ≤ sum_by (λ (d : Deal). d.weight) f.deals

@@ -3,7 +3,7 @@ use Rattle.std.proofs.Common.{◌≡◌, ℕ, ◌+◌, ◌-◌, ◌*◌, ◌<◌
 use Rattle.std.proofs.Common.{length-append, length-drop, Option, Some, None, true}
 use Rattle.std.proofs.{Math.Nat.{mul-le-mul_right}, lemmas.Bool.{cases_eq, cases_lt}, lemmas.Bool.Decides.{Decides-eqb}}
 use Rattle.std.proofs.{lemmas.List.{get_or-append-add, get_or-drop, get_or-take, get_or_append_left, length-take}, lemmas.List.FromFn.{get_or-range_with_len}}
-use Rattle.std.specs.Prelude.{◌==◌}
+use Rattle.std.specs.Prelude.{◌==◌, slice_index}
 use Rattle.gs_filter.specs.Filter.{Filter, single_classes}
 use Rattle.gs_filter.proofs.{ClassLaws.{single_are_classes, single_at}, TallyLaws.{first_in, first_member_of}}
 use Rattle.gs_game.specs.{Seen.{own_point, point_of}, declared.positions.Point.{Point as StoredPoint}, declared.valid.ValidGame.{ValidGame}}
@@ -14,7 +14,7 @@ use Rattle.gs_model.proofs.{Alike.{keeps_from}, Deviations.{lift_is_raw_plan}, F
 use Rattle.gs_model.proofs.Tables.{is_table}
 use Rattle.gs_seq.specs.{Slots.{IsPlan, plan_of, slot_count, slot_of, slots_at, slots_before}, Games.{frame_in}}
 use Rattle.gs_seq.proofs.{Coming.{slot_before}, Leaks.{row_room, slots_none}, Points.{point_reads, walked}, SlotLaws.{over, slots_more}}
-use Rattle.gs_raw.specs.Lifts.{AreSame, AreSpreadBefore, IsSpreadBehind}
+use Rattle.gs_raw.specs.Lifts.{AreSame, IsSpreadBehind}
 
 -- ---- the signals of a point
 
@@ -90,6 +90,13 @@ module _ (f : Frame) (round : ℕ) (some : 0 < round) (top : round ≤ last_roun
       omega arith
 
 -- ---- the points of a player
+
+-- at the player's points before q, each single signal's slot has the weight of its class's slot
+abbrev pub AreSpreadBefore : Frame → ClassLists → ℕ → List ℕ → List ℕ → ℕ → Type 0
+AreSpreadBefore f lists player weights spread q =
+    (p s m : ℕ) → p < q → player_at f p ≡ player → s < signal_count f (round_of f (at_point p)) → m < move_count f p
+    → slice_index spread (slot_of f (single_classes f.parents) p (s + 1) m)
+    ≡ slice_index weights (slot_of f lists p (class_of lists (round_of f (at_point p)) s) m)
 
 pub before_none : (f : Frame) (lists : ClassLists) (player : ℕ) (weights spread : List ℕ) → AreSpreadBefore f lists player weights spread 0
 before_none f lists player weights spread p s m l own ls lm = absurd (omega arith)

@@ -3,8 +3,8 @@ use mir.Val.{to_z}
 use mir.Syntax.{w128}
 use Rattle.gs_seq.specs.{Abstracts.{abstract_frame, lists_of}, Plans.{lifted}}
 use Rattle.gs_best.proofs.Chips.{form_modest}
-use Rattle.gs_raw.specs.Hands.{signal_pays, signal_weighs, signals_pay, signals_weigh}
-use Rattle.gs_raw.proofs.{Running.{IsAdded, run_added}, SignalPays.{signals_weigh_le}, paired.signals_gain.Goals.{After-signal_gain}}
+use Rattle.gs_raw.specs.Hands.{signal_pays, signal_weighs, signals_pay}
+use Rattle.gs_raw.proofs.{Running.{IsAdded, run_added}, SignalPays.{signals_weigh, signals_weigh_le}, paired.signals_gain.Goals.{After-signal_gain}}
 use Rattle.gs_raw.proofs.paired.signals_gain.Goals as goal
 
 -- the sum with the signal's part

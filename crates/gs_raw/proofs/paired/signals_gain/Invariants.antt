@@ -1,7 +1,8 @@
 use Rattle.std.proofs.Common.{◌≡◌, ◌-◌, ◌*◌, ◌≤◌, ◌^◌}
 use Rattle.std.specs.Prelude.{unsigned_abs}
 use Rattle.gs_seq.specs.{Abstracts.{abstract_frame, lists_of}, Plans.{lifted}}
-use Rattle.gs_raw.specs.Hands.{signals_pay, signals_weigh}
+use Rattle.gs_raw.specs.Hands.{signals_pay}
+use Rattle.gs_raw.proofs.SignalPays.{signals_weigh}
 use Rattle.gs_raw.proofs.paired.signals_gain.Given as goal
 
 abbrev pub invariant-loop-signal : goal.invariant-loop-signal
