@@ -9,7 +9,6 @@ pub mod Confirming
 mod OneGame
 mod OneStrategy
 mod OneCertificate
-mod OnePlay
 mod OneSettled
 mod OneProgram
 mod OneSolve

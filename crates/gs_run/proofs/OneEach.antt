@@ -8,7 +8,8 @@ use Rattle.gs_seq.specs.declared.plan.Plan.{Plan as ClassPlan}
 use Rattle.gs_solve.specs.Solutions.{IsGameSolution}
 use Rattle.gs_strategy.specs.{Checks.{AreClasses}, Values.{file_frame}, Views.{weights_of}}
 use Rattle.gs_play.specs.PlanSums.{ArePlansAlike}
-use Rattle.gs_run.proofs.{OnePlay.{play_one}, OneSolve.{solution_one}}
+use Rattle.gs_play.proofs.OnePlay.{play_one}
+use Rattle.gs_run.proofs.OneSolve.{solution_one}
 
 pub told_play_one : (version : Version) (g : FileGame) (lists : ClassLists) (turns : ℕ) (x y z w : Plan) → IsTold version g → AreClasses g lists
     → IsFictitiousPlay (file_frame g) lists turns x y → IsFictitiousPlay (file_frame g) lists turns z w

@@ -11,7 +11,8 @@ use Rattle.gs_reply.specs.Replies.{OfReading, Reply, Prints, Refuses}
 use Rattle.gs_seq.specs.{Plans.{class_plan}, Slots.{IsPlan, plan_of}, declared.plan.Plan.{Plan}}
 use Rattle.gs_strategy.specs.{Checks.{AreClasses}, Confirmed.{over}, Texts.{strategy_text}, Values.{Numbers, Strategy, Weights, file_frame}, Views.{weights_of}}
 use Rattle.gs_words.specs.{declared.request.Grouping.{Grouping}, declared.request.Grouping.TheVariants.{Isomorphism, Coarsest, Single}}
-use Rattle.gs_run.proofs.{Confirming.{small_passes}, OneGame.{groupings_one, not_both, not_lossless_one}, OnePlay.{play_one}, OneStrategy.{limit_one}}
+use Rattle.gs_play.proofs.OnePlay.{play_one}
+use Rattle.gs_run.proofs.{Confirming.{small_passes}, OneGame.{groupings_one, not_both, not_lossless_one}, OneStrategy.{limit_one}}
 use Rattle.gs_strategy.proofs.Verdicts.{verdicts_one}
 use Rattle.gs_file.proofs.Dealt.{told_dealt, told_playable}
 use Rattle.gs_play.specs.PlanSums.{ArePlansAlike}

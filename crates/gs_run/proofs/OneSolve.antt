@@ -20,8 +20,8 @@ use Rattle.gs_solve.specs.Solutions.{AreEndPlans, AreShares, IsFirstOver, IsGame
 use Rattle.gs_solve.specs.Solutions.{most_pivots, table_numbers}
 use Rattle.gs_solve.specs.Weights.{sequence_weight}
 use Rattle.gs_strategy.specs.{Values.{Weights}, Views.{weights_of}, Values.{file_frame}}
-use Rattle.gs_play.proofs.PlansAlike.{firsts_same}
-use Rattle.gs_run.proofs.{OnePlay.{best_same}, OneProgram.{Same, SameEnds, SameFractions, best_one, best_over, programs_same, stops_over}}
+use Rattle.gs_play.proofs.{OnePlay.{best_same}, PlansAlike.{firsts_same}}
+use Rattle.gs_run.proofs.{OneProgram.{Same, SameEnds, SameFractions, best_one, best_over, programs_same, stops_over}}
 use Rattle.gs_run.proofs.OneSettled.{SaysOne, settles_one, text_of_one}
 use Rattle.gs_strategy.proofs.OneReading.{one_least}
 use Rattle.gs_file.proofs.Dealt.{told_playable}

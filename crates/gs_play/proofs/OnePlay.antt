@@ -1,4 +1,4 @@
--- What `play` says is one: the plans after so many turns have the same numbers.
+-- The plans after so many turns are one: all that the definition allows are alike.
 use Rattle.std.proofs.Common.{◌≡◌, ℕ, zero, suc, ◌*◌, ◌<◌, ◌==◌, cond, eqb, get_or, Option, Some, None, pos, ◌*ℤ◌, refl, sym, ap, ◌∙◌, arith}
 use Rattle.gs_model.proofs.{BestOnce.{best_values_are_one}, Gather.{class_in}, Tables.{kept}, Total.{sum_z-same_all}}
 use Rattle.gs_model.specs.{BestAnswers.{IsBestValues, IsFirstBestPlan, Values, end_worth}, Classes.{ClassLists, IsClasses, class_of, first_member}, Deals.{Deal}}
