@@ -1,4 +1,4 @@
-use Rattle.std.proofs.Common.{◌≡◌, ◌-◌, false, true, get_or, refl, sym, ap, ◌∙◌, subst, arith}
+use Rattle.std.proofs.Common.{◌≡◌, false, true, get_or, refl, sym, ap, ◌∙◌, subst, arith}
 use Rattle.gs_model.specs.Classes.{IsClass}
 use Rattle.gs_model.specs.Frame.{point_count}
 use Rattle.gs_seq.specs.Abstracts.{abstract_frame, lists_of}
