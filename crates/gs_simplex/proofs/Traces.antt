@@ -1,14 +1,16 @@
 -- The pivots and bases noted on the way, with the aim's value at both ends, are the trace of the path; no basis comes twice.
-use Rattle.std.proofs.Common.{◌≡◌, ℕ, ◌+◌, ◌<◌, ◌≤◌, List, Vec, Global, inl, inr, [], ◌∷◌, ◌++◌, length, slice_index, slice_index_or, ℤ, ◌*ℤ◌, refl, sym, ap}
+use Rattle.std.proofs.Common.{◌≡◌, ℕ, ◌+◌, ◌<◌, ◌≤◌, List, Vec, Global, inl, inr, [], ◌∷◌, ◌++◌, length, slice_index, slice_index_or, slice_set, suc, ℤ, ◌*ℤ◌}
+use Rattle.std.proofs.Common.{refl, sym, ap}
 use Rattle.std.proofs.Common.{subst, ◌∙◌, arith}
 use Rattle.std.proofs.{lemmas.Bool.{cases_lt}, lemmas.List.{length_push, get_or_append_left, get_or_push, get_or_default}}
 use Rattle.std.specs.{Prelude.{Contains}, List.{HoldsAt}}
 use Rattle.gs_frac.specs.declared.value.Fraction.{Fraction}
-use Rattle.gs_simplex.specs.{declared.program.Program.{Program}, Program.{Listing, ColListed, IsPairList, IsOpening}}
+use Rattle.gs_simplex.specs.{declared.program.Program.{Program}, Program.{Listing, ColListed, IsPairList, IsRegularList, IsOpening}}
 use Rattle.gs_simplex.specs.{Path.{States, IsPath, NoneEnters, ends, Stops, PathStops}, declared.answer.Turn.{Turn}, declared.answer.PathTrace.{PathTrace}}
 use Rattle.gs_simplex.specs.{Table.{table_aim, IsTable}, State.{IsSoFar, IsTurnAt}, Answer.{IsSmallTable}}
-use Rattle.gs_simplex.specs.Trace.{IsBasis, IsBasisAt, IsAimValue, IsTurnOf, IsTrace, IsNoted}
-use Rattle.gs_simplex.proofs.{Opening.{path_trail, bases_differ}, PairLists.{pair_list_is_list}, Agree.{Agree, lists_same, paths_agree}}
+use Rattle.gs_simplex.specs.Trace.{IsBasis, IsBasisAt, IsAimValue, IsTurnOf, IsTrace, IsReached, AreTurns, AreBases}
+use Rattle.gs_simplex.proofs.{Opening.{path_trail, bases_differ}, PairLists.{pair_list_is_list, pivot_keeps_regular_lem, taken_is_regular_lem}}
+use Rattle.gs_simplex.proofs.Agree.{Agree, lists_same, paths_agree}
 use Rattle.gs_simplex.proofs.{Multiples.{down_fraction}, Paths.{turn_same_as, ends_stops}}
 
 -- the listed columns among the first `count`, counted from 1, in rising order
@@ -26,20 +28,21 @@ holds_push P xs x n long old new k h d = elim (cases_lt k n) [
       let R : ℕ → Type 0 = λ t. P t x in let Q = P k in subst Q (sym (get_or_push xs x d k q)) (subst R (sym e) new))
 ]
 
--- one more pivot and basis noted
-pub noted_more : (p : Program) (o : Listing) (n : ℕ) (turns new_turns : List Turn) (bases new_bases : List (Vec ℕ Global)) (turn : Turn)
-    (basis : Vec ℕ Global) → IsNoted p o n turns bases
-    → new_turns ≡ turns ++ turn ∷ [] → new_bases ≡ bases ++ basis ∷ [] → IsTurnAt p o (length o + n) turn → IsBasisAt p o (length o + (n + 1)) basis.items
-    → IsNoted p o (n + 1) new_turns new_bases
-noted_more p o n turns new_turns bases new_bases turn basis u et eb t b =
-    let P : List Turn → Type 0 = λ x. IsNoted p o (n + 1) x new_bases in let Q : List (Vec ℕ Global)
-    → Type 0 = λ x. IsNoted p o (n + 1) (turns ++ turn ∷ []) x in
-    subst P (sym et) (subst Q (sym eb) (record {
-      turns_long = omega (arith, length_push turns turn, u.turns_long);
-      turns = holds_push (λ k. IsTurnAt p o (length o + k)) turns turn n u.turns_long u.turns t;
-      bases_long = omega (arith, length_push bases basis, u.bases_long);
-      bases = holds_push (λ k v. IsBasisAt p o (length o + k) v.items) bases basis (n + 1) u.bases_long u.bases b;
-    }))
+-- one more pivot noted, and one more basis
+pub turns_more : (p : Program) (o : Listing) (turns : List Turn) (turn : Turn) → AreTurns p o turns → IsTurnAt p o (length o + length turns) turn
+    → AreTurns p o (turns ++ turn ∷ [])
+turns_more p o turns turn u t k h =
+    holds_push (λ k. IsTurnAt p o (length o + k)) turns turn (length turns) refl u t k (omega (arith, h, length_push turns turn))
+
+pub bases_none : (p : Program) (o : Listing) → AreBases p o 0 []
+bases_none p o = record { long = refl; bases = λ k h. absurd (omega arith) }
+
+pub bases_more : (p : Program) (o : Listing) (n : ℕ) (bases : List (Vec ℕ Global)) (basis : Vec ℕ Global) → AreBases p o n bases
+    → IsBasisAt p o (length o + n) basis.items → AreBases p o (n + 1) (bases ++ basis ∷ [])
+bases_more p o n bases basis u b = record {
+  long = omega (arith, length_push bases basis, u.long);
+  bases = holds_push (λ k v. IsBasisAt p o (length o + k) v.items) bases basis n u.long u.bases b;
+}
 
 -- ---- the columns of a list
 pub basis_skip : (l : Listing) (j : ℕ) (cs : List ℕ) → IsBasisBelow l j cs → (ColListed l j → ⊥) → IsBasisBelow l (j + 1) cs
@@ -150,8 +153,8 @@ module _ (p : Program) (o : Listing) (n : ℕ) (s : States) (ok : IsOpening p o)
 pub trace_of : (p : Program) (o : Listing) (limit n : ℕ) (t : PathTrace) (l0 l : Listing) (xs0 xs : List ℤ) → IsSmallTable p → IsOpening p o
     → IsSoFar p o (length o) l0 xs0 → IsAimValue p (table_aim p xs0) t.start
     → IsSoFar p o (length o + n) l xs → IsTable p xs → n ≤ limit → NoneEnters p l (table_aim p xs) → IsAimValue p (table_aim p xs) t.aim
-    → IsNoted p o n t.turns.items t.bases.items → IsTrace p o limit t
-trace_of p o limit n t l0 l xs0 xs small ok u0 start u table within none aim noted =
+    → length t.turns.items ≡ n → AreTurns p o t.turns.items → AreBases p o (n + 1) t.bases.items → IsTrace p o limit t
+trace_of p o limit n t l0 l xs0 xs small ok u0 start u table within none aim long turns noted =
     let stop : PathStops p o limit (ends n l) = ends_stops n u table within none in
     let s = stop.stops.1 in
     let W : ℕ → Type 0 = λ x. Stops p o limit x s (ends n l) in
@@ -167,17 +170,54 @@ trace_of p o limit n t l0 l xs0 xs small ok u0 start u table within none aim not
         s,
         w,
         record {
-          turns_long = noted.turns_long;
-          turns = λ k h d. turn_is p o n s ok path k h (slice_index_or t.turns.items k d) (noted.turns k h d);
-          bases_long = noted.bases_long;
+          turns_long = long;
+          turns = λ k h d. turn_is p o n s ok path k h (slice_index_or t.turns.items k d) (turns k (omega arith) d);
+          bases_long = noted.long;
           bases = λ k h d. basis_is p o n s ok path k h (slice_index_or t.bases.items k d).items (noted.bases k (omega arith) d);
           start = subst V (sym q) (value_is p o n s ok path 0 (omega arith) l0 xs0 t.start (subst S q u0) start);
           aim = value_is p o n s ok path n (omega arith) l xs t.aim u aim;
         },
       );
       bases_differ = λ k h kh hl x y e.
-          let hn : h ≤ n = omega (arith, noted.bases_long) in
+          let hn : h ≤ n = omega (arith, noted.long) in
           bases_apart p o n s ok path k h kh hn (slice_index_or t.bases.items k x).items (slice_index_or t.bases.items h y).items
           (basis_is p o n s ok path k (omega arith) (slice_index_or t.bases.items k x).items (noted.bases k (omega arith) x))
           (basis_is p o n s ok path h hn (slice_index_or t.bases.items h y).items (noted.bases h (omega arith) y)) e;
     }
+
+-- ---- the list after each pivot, made anew
+pub record IsReplayed (p : Program) (o : Listing) (n : ℕ) (l : Listing) : Type 0 where
+  pub pairs : IsPairList p l
+  pub regular : IsRegularList p l
+  pub reached : IsReached p o n l
+
+pub replayed_none : (p : Program) (o : Listing) → IsOpening p o → IsReached p o 0 o → IsReplayed p o 0 o
+replayed_none p o ok r = let w = taken_is_regular_lem p o ok.taken in record { pairs = w.0; regular = w.1; reached = r }
+
+pub replayed_more : (p : Program) (o : Listing) (n : ℕ) (l next : Listing) (turn : Turn) → IsOpening p o → IsReplayed p o n l → IsTurnAt p o (length o + n) turn
+    → ((q : ℕ) → q < length l → (slice_index_or l q (0, 0)).1 ≡ turn.leave → next ≡ slice_set l q ((slice_index_or l q (0, 0)).0, turn.enter))
+    → IsReplayed p o (n + 1) next
+replayed_more p o n l next turn ok u w replaced =
+    let t = length o + n in let r = w.0 in let path = w.1 in let v = path.pivots t (omega arith) (omega arith) in
+    let same : l ≡ r.lists t = sym u.reached.2 ∙ lists_same ok u.reached.1 path n (omega arith) (omega arith) in
+    let more : suc t ≡ length o + (n + 1) = omega arith in
+    let pair : slice_index_or l v.place.0 (0, 0) ≡ (v.place.1 + 1, r.leaving t + 1) = ap (λ x. slice_index_or x v.place.0 (0, 0)) same ∙ v.place.3 in
+    let is : next ≡ r.lists (suc t) =
+    replaced v.place.0 (omega (arith, ap length same, v.place.2)) (ap (λ (x : ℕ × ℕ). x.1) pair ∙ sym w.3)
+    ∙ ap (λ (x : ℕ × ℕ). slice_set l v.place.0 (x.0, turn.enter)) pair ∙ ap (λ x. slice_set l v.place.0 (v.place.1 + 1, x)) w.2
+    ∙ ap (λ x. slice_set x v.place.0 (v.place.1 + 1, r.entering t + 1)) same ∙ sym v.place.5 in
+    let P : Listing → Type 0 = λ x. IsPairList p x × IsRegularList p x in
+    let kept = pivot_keeps_regular_lem p (r.lists t) (r.rows t) (r.aim t) (r.lists (suc t)) (r.entering t) (r.leaving t) (subst P same (u.pairs, u.regular)).0
+    (subst P same (u.pairs, u.regular)).1 (path.rows t (omega arith)) v in
+    let Q : ℕ → Type 0 = λ k. IsPath p o k r in let L : ℕ → Type 0 = λ k. r.lists k ≡ next in
+    let e : t + 1 ≡ length o + (n + 1) = omega arith in
+    record {
+      pairs = (subst P (sym is) kept).0;
+      regular = (subst P (sym is) kept).1;
+      reached = (r, subst Q e path, subst L more (sym is));
+    }
+
+-- its columns are the basis there
+pub basis_at : (p : Program) (o : Listing) (n : ℕ) (l : Listing) (columns : List ℕ) → IsReplayed p o n l → IsBasis l columns
+    → IsBasisAt p o (length o + n) columns
+basis_at p o n l columns u b = let P : Listing → Type 0 = λ x. IsBasis x columns in (u.reached.0, u.reached.1, subst P (sym u.reached.2) b)

@@ -3,7 +3,7 @@ use Rattle.std.specs.{Prelude.{◌≡◌, ℕ, ◌+◌, ◌<◌, ◌≤◌, ◌^
 use Rattle.std.specs.declared.alloc.Global.{Global}
 use Rattle.gs_frac.specs.declared.value.Fraction.{Fraction}
 use Rattle.gs_simplex.specs.{declared.program.Program.{Program}, Program.{Listing, ColListed, IsShaped, IsOpening}, Path.{States, IsPath, ends, Stops}}
-use Rattle.gs_simplex.specs.{declared.answer.Turn.{Turn}, declared.answer.PathTrace.{PathTrace}, declared.answer.Stop.{Stop}, declared.tracing.Log.{Log}}
+use Rattle.gs_simplex.specs.{declared.answer.Turn.{Turn}, declared.answer.PathTrace.{PathTrace}, declared.answer.Stop.{Stop}}
 use Rattle.gs_simplex.specs.{declared.path.Position.{Position}, declared.table.Table.{Table}, State.{IsState, IsTurnAt}, Answer.{IsSmallTable, IsStop}}
 
 -- the listed columns, counted from 1, in rising order
@@ -45,16 +45,18 @@ IsTraceAnswer p o limit (Err s) = IsStop p o limit s
 abbrev pub IsBasisAt : Program → Listing → ℕ → List ℕ → Type 0
 IsBasisAt p o t columns = (s : States) × (IsPath p o t s) × IsBasis (s.lists t) columns
 
--- the first n pivots, and the n + 1 bases before and after them
-pub record IsNoted (p : Program) (o : Listing) (n : ℕ) (made : List Turn) (found : List (Vec ℕ Global)) : Type 0 where
-  pub turns_long : length made ≡ n
-  pub turns : (k : ℕ) → k < n → HoldsAt (IsTurnAt p o (length o + k)) made k
-  pub bases_long : length found ≡ n + 1
-  pub bases : (k : ℕ) → k < n + 1 → HoldsAt (λ b. IsBasisAt p o (length o + k) b.items) found k
+-- the list after the opening and so many pivots
+abbrev pub IsReached : Program → Listing → ℕ → Listing → Type 0
+IsReached p o n l = (s : States) × (IsPath p o (length o + n) s) × (s.lists (length o + n) ≡ l)
 
--- the log holds the first n pivots and their bases
-abbrev pub IsLog : Program → Listing → ℕ → Log → Type 0
-IsLog p o n log = IsNoted p o n log.turns.items log.bases.items
+-- these are the first pivots
+abbrev pub AreTurns : Program → Listing → List Turn → Type 0
+AreTurns p o made = (k : ℕ) → k < length made → HoldsAt (IsTurnAt p o (length o + k)) made k
+
+-- these are the first n bases, from that of the opening on
+pub record AreBases (p : Program) (o : Listing) (n : ℕ) (found : List (Vec ℕ Global)) : Type 0 where
+  pub long : length found ≡ n
+  pub bases : (k : ℕ) → k < n → HoldsAt (λ b. IsBasisAt p o (length o + k) b.items) found k
 
 -- the list and the table after the opening
 pub record IsBegun (p : Program) (o : Listing) (at : Position) : Type 0 where

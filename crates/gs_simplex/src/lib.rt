@@ -28,7 +28,7 @@ use best::best;
 use path::{Position, begin, follow};
 pub use program::Program;
 use std::alloc::Global;
-use tracing::{Log, aim_value};
+use tracing::{aim_value, bases_of, follow_noting};
 
 /// The most numbers that a table may have, counted as `(rows + 1) * (cols + 1)`.
 pub const MOST_NUMBERS: u64 = 1_048_576;
@@ -72,11 +72,10 @@ pub fn trace(
         mut table,
     } = begin(alloc, p, opening)?;
     let start = aim_value(p, &table.numbers);
-    let mut log = Log::start(alloc, p, opening, &basis)?;
-    // the log has the number of pivots, which this call returns
-    log.follow(alloc, p, opening, limit, &mut basis, &mut table)?;
+    let mut turns = Vec::new(alloc);
+    follow_noting(p, opening, limit, &mut basis, &mut table, &mut turns)?;
     let aim = aim_value(p, &table.numbers);
-    let Log { turns, bases } = log;
+    let bases = bases_of(alloc, p, opening, &turns)?;
     Ok(PathTrace {
         start,
         turns,

@@ -1,8 +1,8 @@
-//! The log of a path: its pivots, its bases, and the aim's value.
+//! The pivots of a path, its bases, and the aim's value.
 
-ghost use Rattle.std.specs.Prelude.{MatchResult, IfOk, OnOk, ℕ, ◌+◌, ◌<◌, ◌^◌, ℤ, pos, ◌<ℤ◌, List, length};
-ghost use Rattle.gs_simplex.specs.{Program.{IsPairList}, Table.{table_aim, IsTable}, State.{IsEnd, IsTurnAt}, Answer.{IsStop}, Values.{IsRowIndex}};
-ghost use Rattle.gs_simplex.specs.Trace.{IsAimValue, IsBasis, IsBasisAt, IsLog, CanFollow};
+ghost use Rattle.std.specs.Prelude.{MatchResult, IfOk, OnOk, ◌≡◌, ℕ, ◌+◌, ◌<◌, ◌^◌, [], ◌∷◌, ◌++◌, ℤ, pos, ◌<ℤ◌, length, slice_index_or, slice_set};
+ghost use Rattle.gs_simplex.specs.{Program.{IsPairList, IsOpening}, Table.{table_aim, IsTable}, State.{IsEnd}, Answer.{IsStop}, Values.{IsRowIndex}};
+ghost use Rattle.gs_simplex.specs.Trace.{IsAimValue, IsBasis, IsReached, AreTurns, AreBases, CanFollow};
 
 use crate::answer::{Stop, Turn};
 use crate::best::listed_rows;
@@ -12,13 +12,6 @@ use crate::program::Program;
 use crate::table::Table;
 use gs_frac::Fraction;
 use std::alloc::{AllocError, Global};
-
-/// The pivots and the bases so far.
-#[derive(Drop)]
-pub(crate) struct Log {
-    pub(crate) turns: Vec<Turn>,
-    pub(crate) bases: Vec<Vec<u32>>,
-}
 
 // Returns the aim's value when the unlisted columns are 0.
 pub(crate) fn aim_value(p: &Program, numbers: &[i64]) -> Fraction
@@ -64,74 +57,72 @@ fn listed_columns(alloc: Global, p: &Program, basis: &[(u32, u32)]) -> Result<Ve
     columns_of(alloc, p, basis, &rows)
 }
 
-impl Log {
-    // Returns a log that has the basis of the opening and no pivot.
-    pub(crate) fn start(
-        alloc: Global,
-        p: &Program,
-        opening: &[(u32, u32)],
-        basis: &[(u32, u32)],
-    ) -> Result<Log, AllocError>
-        requires small_rows { p.now.rows < 2 ^ 31 }
-        requires small_cols { p.now.cols < 2 ^ 31 }
-        requires pairs { IsPairList p.now basis.now }
-        requires reached { (columns : List ℕ) → IsBasis basis.now columns → IsBasisAt p.now opening.now (length opening.now) columns }
-        ensures { IfOk result (IsLog p.now opening.now 0) }
-    {
-        let columns = listed_columns(alloc, p, basis)?;
-        let mut bases = Vec::new(alloc);
-        bases.push(columns)?;
-        Ok(Log {
-            turns: Vec::new(alloc),
-            bases,
-        })
-    }
-
-    // Adds one more pivot and the basis after it.
-    fn note(
-        &mut self,
-        alloc: Global,
-        p: &Program,
-        opening: &[(u32, u32)],
-        made: u32,
-        turn: Turn,
-        basis: &[(u32, u32)],
-    ) -> Result<(), AllocError>
-        requires small_rows { p.now.rows < 2 ^ 31 }
-        requires small_cols { p.now.cols < 2 ^ 31 }
-        requires log { IsLog p.now opening.now made self.old }
-        requires pairs { IsPairList p.now basis.now }
-        requires turn { IsTurnAt p.now opening.now (length opening.now + made) turn }
-        requires reached { (columns : List ℕ) → IsBasis basis.now columns → IsBasisAt p.now opening.now (length opening.now + (made + 1)) columns }
-        ensures { OnOk result (IsLog p.now opening.now (made + 1) self.new) }
-    {
-        let columns = listed_columns(alloc, p, basis)?;
-        self.turns.push(turn)?;
-        self.bases.push(columns)?;
-        Ok(())
-    }
-
-    // Makes pivots until the path ends, at most `limit`, and logs each. Returns their number, or what stopped the path.
-    pub(crate) fn follow(
-        &mut self,
-        alloc: Global,
-        p: &Program,
-        opening: &[(u32, u32)],
-        limit: u32,
-        basis: &mut [(u32, u32)],
-        table: &mut Table,
-    ) -> Result<u32, Stop>
-        requires ready { CanFollow p.now opening.now limit basis.old table.old }
-        requires log { IsLog p.now opening.now 0 self.old }
-        ensures { MatchResult result (λ n. IsEnd p.now opening.now limit n basis.new table.new
-            × IsLog p.now opening.now n self.new) (IsStop p.now opening.now limit) }
-    {
-        for made in 0..limit + 1 {
-            match step(p, opening, limit, made, basis, table)? {
-                None => return Ok(made),
-                Some(turn) => self.note(alloc, p, opening, made, turn, basis)?,
-            }
+// Replaces the column that leaves by the one that enters.
+fn replace(basis: &mut [(u32, u32)], turn: Turn)
+    requires { (k h : ℕ) → k < length basis.old → h < length basis.old → (slice_index_or basis.old k (0, 0)).1 ≡ (slice_index_or basis.old h (0, 0)).1 → k ≡ h }
+    ensures { (q : ℕ) → q < length basis.old → (slice_index_or basis.old q (0, 0)).1 ≡ turn.leave
+        → basis.new ≡ slice_set basis.old q ((slice_index_or basis.old q (0, 0)).0, turn.enter) }
+{
+    for place in 0..basis.len() {
+        let (row, column) = basis[place];
+        if column == turn.leave {
+            basis[place] = (row, turn.enter);
+            return;
         }
-        unreachable!()
     }
+}
+
+// Returns the listed columns after the opening and after each of these pivots.
+pub(crate) fn bases_of(
+    alloc: Global,
+    p: &Program,
+    opening: &[(u32, u32)],
+    turns: &[Turn],
+) -> Result<Vec<Vec<u32>>, AllocError>
+    requires small_rows { p.now.rows < 2 ^ 31 }
+    requires small_cols { p.now.cols < 2 ^ 31 }
+    requires opens { IsOpening p.now opening.now }
+    requires path { IsReached p.now opening.now 0 opening.now }
+    requires turns { AreTurns p.now opening.now turns.now }
+    ensures { IfOk result (λ v. AreBases p.now opening.now (length turns.now + 1) v.items) }
+{
+    let mut basis = Vec::from_slice(alloc, opening)?;
+    let mut bases = Vec::new(alloc);
+    bases.push(listed_columns(alloc, p, &basis)?)?;
+    for place in 0..turns.len() {
+        replace(&mut basis, turns[place]);
+        bases.push(listed_columns(alloc, p, &basis)?)?;
+    }
+    Ok(bases)
+}
+
+// Adds a pivot to those before it.
+fn note(turns: &mut Vec<Turn>, turn: Turn) -> Result<(), AllocError>
+    ensures { OnOk result (turns.new.items ≡ turns.old.items ++ turn ∷ []) }
+{
+    turns.push(turn)?;
+    Ok(())
+}
+
+// Makes pivots until the path ends, at most `limit`, and notes each. The error is what stops the path.
+pub(crate) fn follow_noting(
+    p: &Program,
+    opening: &[(u32, u32)],
+    limit: u32,
+    basis: &mut [(u32, u32)],
+    table: &mut Table,
+    turns: &mut Vec<Turn>,
+) -> Result<(), Stop>
+    requires ready { CanFollow p.now opening.now limit basis.old table.old }
+    requires none { turns.old.items ≡ [] }
+    ensures { MatchResult result (λ _. IsEnd p.now opening.now limit (length turns.new.items) basis.new table.new × AreTurns p.now opening.now turns.new.items)
+        (IsStop p.now opening.now limit) }
+{
+    for made in 0..limit + 1 {
+        match step(p, opening, limit, made, basis, table)? {
+            None => return Ok(()),
+            Some(turn) => note(turns, turn)?,
+        }
+    }
+    unreachable!()
 }

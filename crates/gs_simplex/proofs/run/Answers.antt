@@ -1,4 +1,4 @@
-use Rattle.std.proofs.{Common.{Result, Ok, Err, ◌≡◌, ℕ, ◌+◌, List, ◌++◌, ℤ, length, take, drop, sym, subst, ◌∙◌, arith}, lemmas.List.{take_at}}
+use Rattle.std.proofs.{Common.{Result, Ok, Err, ◌≡◌, ℕ, List, ◌++◌, ℤ, length, take, drop, sym, subst, ◌∙◌, arith}, lemmas.List.{take_at}}
 use Rattle.gs_simplex.specs.{declared.program.Program.{Program}, Program.{Listing}, Path.{PathStops, ends}, declared.answer.Best.{Best}}
 use Rattle.gs_simplex.specs.{declared.table.Table.{Table}, Table.{IsTableOf}, State.{IsEnd}}
 use Rattle.gs_simplex.specs.{Answer.{IsSmallTable, IsStop, IsAnswer, IsBest, IsBestAt, IsBestTable}, declared.answer.Stop.{Stop}}

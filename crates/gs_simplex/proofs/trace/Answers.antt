@@ -1,6 +1,7 @@
-use Rattle.std.proofs.Common.{Result, Ok, Err, ◌≡◌, ℕ, ◌+◌, List, ℤ, pos, ◌<ℤ◌, length, sym, subst}
-use Rattle.gs_simplex.specs.{declared.program.Program.{Program}, Program.{Listing}, Path.{NoneEnters}, declared.answer.PathTrace.{PathTrace}}
-use Rattle.gs_simplex.specs.{declared.answer.Stop.{Stop}, Table.{table_aim, IsTable}, State.{IsSoFar}, Answer.{IsStop}, Trace.{IsTraceAnswer}}
+use Rattle.std.proofs.Common.{Result, Ok, Err, ◌≡◌, ℕ, ◌+◌, List, ℤ, pos, ◌<ℤ◌, length, refl, sym, subst, arith}
+use Rattle.gs_simplex.specs.{declared.program.Program.{Program}, Program.{Listing}, Path.{IsPath, NoneEnters}, declared.answer.PathTrace.{PathTrace}}
+use Rattle.gs_simplex.specs.{declared.answer.Stop.{Stop}, Table.{table_aim, IsTable}, State.{IsSoFar}, Answer.{IsStop}}
+use Rattle.gs_simplex.specs.{Trace.{AreTurns, AreBases, IsTraceAnswer}, declared.answer.Turn.{Turn}}
 use Rattle.std.specs.Result.{IsErrAnd}
 use Rattle.gs_simplex.proofs.{Paths.{rows_at}, Kept.{multiple_kept}, Traces.{trace_of}}
 use Rattle.gs_simplex.proofs.trace.Goals as goal
@@ -29,25 +30,35 @@ aim_value-start-requires-clause-multiple c =
 
 pub aim_value-aim-requires-clause-multiple : goal.aim_value-aim-requires-clause-multiple
 aim_value-aim-requires-clause-multiple c =
-    let p = c.args.p.now in let o = c.args.opening.now in let n = c.in_ok-follow.field-0 in let l = c.follow.new.basis in let xs = c.deref-3.result.now in
-    multiple_of p o (length o + n) l xs (same_so_far p o (length o + n) l c.follow.new.table.numbers.items xs c.deref-3.ensures.value
-    c.in_ok-follow.ensures.0.state.so_far)
+    let p = c.args.p.now in let o = c.args.opening.now in let n = length c.follow_noting.new.turns.items in let l = c.follow_noting.new.basis in
+    let xs = c.deref-2.result.now in
+    multiple_of p o (length o + n) l xs (same_so_far p o (length o + n) l c.follow_noting.new.table.numbers.items xs c.deref-2.ensures.value
+    c.in_ok-follow_noting.ensures.0.state.so_far)
+
+pub bases_of-requires-clause-path : goal.bases_of-requires-clause-path
+bases_of-requires-clause-path c =
+    let p = c.args.p.now in let o = c.args.opening.now in let u = c.in_ok-basis.ensures.state.so_far.states in
+    let e : length o ≡ length o + 0 = omega arith in
+    let P : ℕ → Type 0 = λ k. (IsPath p o k u.0) × (u.0.lists k ≡ o) in
+    let w = subst P e (u.1, u.2) in (u.0, w.0, w.1)
+
+pub bases_of-requires-clause-turns : goal.bases_of-requires-clause-turns
+bases_of-requires-clause-turns c =
+    let T : List Turn → Type 0 = λ x. AreTurns c.args.p.now c.args.opening.now x in
+    subst T (sym c.deref-3.ensures.value) c.in_ok-follow_noting.ensures.1
 
 pub returns : goal.returns
 returns c =
-    let p = c.args.p.now in let o = c.args.opening.now in let n = c.in_ok-follow.field-0 in let l = c.follow.new.basis in
-    let at = c.in_ok-basis.field-0 in let held = c.follow.new.table in let end = c.in_ok-follow.ensures.0 in
-    let xs0 = c.deref.result.now in let xs = c.deref-3.result.now in
+    let p = c.args.p.now in let o = c.args.opening.now in let turns = c.follow_noting.new.turns in let n = length turns.items in
+    let l = c.follow_noting.new.basis in
+    let at = c.in_ok-basis.field-0 in let held = c.follow_noting.new.table in let end = c.in_ok-follow_noting.ensures.0 in
+    let xs0 = c.deref.result.now in let xs = c.deref-2.result.now in
     let T : List ℤ → Type 0 = λ x. IsTable p x in let N : List ℤ → Type 0 = λ x. NoneEnters p l (table_aim p x) in
-    trace_of p o c.args.limit n (record {
-      start = c.aim_value-start.result;
-      turns = c.follow.new.self.turns;
-      bases = c.follow.new.self.bases;
-      aim =
-          c.aim_value-aim.result;
-    }) o l xs0 xs
+    let B : List Turn → Type 0 = λ x. AreBases p o (length x + 1) c.in_ok-bases.bases.items in
+    trace_of p o c.args.limit n (record { start = c.aim_value-start.result; turns = turns; bases = c.in_ok-bases.bases; aim = c.aim_value-aim.result }) o l xs0
+    xs
     c.in_ok-basis.ensures.small c.requires.opens (same_so_far p o (length o) o at.table.numbers.items xs0 c.deref.ensures.value
     c.in_ok-basis.ensures.state.so_far) c.aim_value-start.ensures
-    (same_so_far p o (length o + n) l held.numbers.items xs c.deref-3.ensures.value end.state.so_far) (subst T (sym c.deref-3.ensures.value) end.state.table)
-    end.within (subst N (sym c.deref-3.ensures.value) end.none)
-    c.aim_value-aim.ensures c.in_ok-follow.ensures.1
+    (same_so_far p o (length o + n) l held.numbers.items xs c.deref-2.ensures.value end.state.so_far) (subst T (sym c.deref-2.ensures.value) end.state.table)
+    end.within (subst N (sym c.deref-2.ensures.value) end.none)
+    c.aim_value-aim.ensures refl c.in_ok-follow_noting.ensures.1 (subst B c.deref-3.ensures.value c.in_ok-bases.ensures)
