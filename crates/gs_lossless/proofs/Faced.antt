@@ -3,9 +3,9 @@ use Rattle.std.proofs.Common.{◌≡◌, ◌+◌, ◌<◌, ◌≤◌, ◌∙◌,
 use Rattle.std.proofs.lemmas.List.Elements.{All-map}
 use Rattle.std.specs.{Prelude.{◌==◌, ◌&&◌, All, filter, slice_index}, List.{range_with_len}}
 use Rattle.gs_model.specs.{Deals.{Deal, deals}, Game.{Game, round_count}, Signals.{signal_at}, ViewTree.{signal_outcome}}
-use Rattle.gs_tree.specs.{Plain.{IsPlain}, Walk.{deal_at, last_count, shows_same}}
+use Rattle.gs_tree.specs.{Boards.{signals_on}, Plain.{IsPlain}, Walk.{deal_at, last_count, shows_same}}
 use Rattle.gs_tree.proofs.{Pairs.{row_deals}, Weighed.{weight_is}}
-use Rattle.gs_lossless.specs.{Amounts.{deal_part}, Boards.{PaysOnce, signals_on, strengths_of}, Rivals.{IsTable, is_other, paid_once, part_against, rival_of}}
+use Rattle.gs_lossless.specs.{Amounts.{deal_part}, Boards.{PaysOnce, strengths_of}, Rivals.{IsRivalTable, is_other, paid_once, part_against, rival_of}}
 use Rattle.gs_lossless.specs.{declared.parts.Part.{Part}, declared.rivals.Rival.{Rival}, declared.rivals.Table.{Table}}
 use Rattle.gs_lossless.proofs.{Ranks.{told_once}, Seats.{one_board}, Weighed.{sum_by-passed}}
 
@@ -64,7 +64,7 @@ module _ (g : Game) (plain : IsPlain g) (once : PaysOnce g) (keys : List ℕ) (i
   met_some rivals = All-map (λ (p : Part). 0 < p.weight) (part_against mine) rivals (λ k d m. omega arith)
 
   -- any total over the rivals on the board is that over the deals
-  pub table_met : (table : Table) → IsTable g keys table → shows_same g i table.first ≡ true → (h : Part → ℕ)
+  pub table_met : (table : Table) → IsRivalTable g keys table → shows_same g i table.first ≡ true → (h : Part → ℕ)
       → sum_by h (map (part_against mine) (filter (is_other i) table.rivals.items))
       ≡ sum_by h (map (deal_part keys true) (filter (λ (d : Deal). d.one == i) (deals g)))
   table_met table t same h =

@@ -1,9 +1,9 @@
 //! Rivals: the signals on a board as the other signals on it meet them, in the order in which sums list them.
 
 ghost use Rattle.std.specs.{Prelude.{◌≡◌, ◌<◌, IfOk, IfSome, filter, get_or, length, map}, List.{All}, List.Sorted.{IsPermutation}};
-ghost use Rattle.gs_tree.specs.{Plain.{IsPlain}, Trees.{rules_of}, Walk.{last_count}};
-ghost use Rattle.gs_lossless.specs.Boards.{PaysOnce, signals_on};
-ghost use Rattle.gs_lossless.specs.Rivals.{IsTable, is_other, part_against as met, rival_of};
+ghost use Rattle.gs_tree.specs.{Boards.{signals_on}, Plain.{IsPlain}, Trees.{rules_of}, Walk.{last_count}};
+ghost use Rattle.gs_lossless.specs.Boards.{PaysOnce};
+ghost use Rattle.gs_lossless.specs.Rivals.{IsRivalTable, is_other, part_against as met, rival_of};
 ghost use Rattle.gs_lossless.specs.declared.rivals.Table.{Table as Tabled};
 
 use crate::parts::Part;
@@ -79,7 +79,7 @@ fn table_at(alloc: Global, signals: &Signals, keys: &[u32], first: u32) -> Resul
     requires keys { length keys.now ≡ last_count (rules_of signals.now) }
     requires plain { IsPlain (rules_of signals.now) }
     requires once { PaysOnce (rules_of signals.now) }
-    ensures { IfOk result (IsTable (rules_of signals.now) keys.now) }
+    ensures { IfOk result (IsRivalTable (rules_of signals.now) keys.now) }
 {
     let mut rivals = rivals_beside(alloc, signals, keys, first)?;
     sort_rivals(&mut rivals);
@@ -95,7 +95,7 @@ pub(crate) fn tables_of(
     requires keys { length keys.now ≡ last_count (rules_of signals.now) }
     requires plain { IsPlain (rules_of signals.now) }
     requires once { PaysOnce (rules_of signals.now) }
-    ensures { IfOk result (λ v. All (IsTable (rules_of signals.now) keys.now) v.items) }
+    ensures { IfOk result (λ v. All (IsRivalTable (rules_of signals.now) keys.now) v.items) }
 {
     let (firsts, _) = signals.boards();
     let mut tables = Vec::new(alloc);

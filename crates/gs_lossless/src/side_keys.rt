@@ -4,7 +4,7 @@ ghost use Rattle.std.specs.{Prelude.{◌≡◌, ◌<◌, true, IfOk, IfSome, get
 ghost use Rattle.gs_model.specs.{Frame.{frame_of}, Game.{round_count}, Signals.{signals as signals_in}};
 ghost use Rattle.gs_tree.specs.{Trees.{rules_of}, Walk.{last_count, shows_same}};
 ghost use Rattle.gs_lossless.specs.Amounts.{AreAmounts, ArePartsOf, HasSide, HasSide-prop, keys_of};
-ghost use Rattle.gs_lossless.specs.Rivals.{IsTable};
+ghost use Rattle.gs_lossless.specs.Rivals.{IsRivalTable};
 ghost use Rattle.gs_lossless.specs.declared.rivals.Table.{Table as Tabled};
 ghost use Rattle.gs_lossless.specs.declared.sides.Side.TheVariants as sides;
 
@@ -31,7 +31,7 @@ pub struct SideKeys<'a> {
     ghost has: { HasSide (frame_of (rules_of signals.now)) side round } by { HasSide-prop (frame_of (rules_of signals.now)) side round },
     ghost are: { keys.items ≡ keys_of (frame_of (rules_of signals.now)) classes.now.lists side round },
     ghost last: { 0 < length tables.items → round ≡ round_count (rules_of signals.now) },
-    ghost each: { All (IsTable (rules_of signals.now) keys.items) tables.items },
+    ghost each: { All (IsRivalTable (rules_of signals.now) keys.items) tables.items },
     ghost parents: { classes.now.parents ≡ (frame_of (rules_of signals.now)).parents },
 }
 
@@ -44,7 +44,7 @@ fn tables_in(
 ) -> Result<Vec<Table>, AllocError>
     requires { round ≡ round_count (rules_of signals.now) → length keys.now ≡ last_count (rules_of signals.now) }
     ensures last { IfOk result (λ v. 0 < length v.items → round ≡ round_count (rules_of signals.now)) }
-    ensures each { IfOk result (λ v. All (IsTable (rules_of signals.now) keys.now) v.items) }
+    ensures each { IfOk result (λ v. All (IsRivalTable (rules_of signals.now) keys.now) v.items) }
 {
     if round == signals.rounds() && signals.is_plain() && are_ones(&signals.game().game().bonus) {
         tables_of(alloc, signals, keys)

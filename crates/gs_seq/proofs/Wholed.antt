@@ -6,15 +6,15 @@ use Rattle.gs_filter.specs.Filter.{Filter}
 use Rattle.gs_game.specs.declared.valid.ValidGame.{ValidGame}
 use Rattle.gs_model.specs.{Classes.{ClassLists}, Frame.{Frame, last_round}}
 use Rattle.gs_model.proofs.Sparse.{sum_z-more}
-use Rattle.gs_seq.specs.{Games.{frame_in}, Rows.{AreRows, AreRowsIn, AreWholes, AreWholesIn, IsRow, IsSlim, together, whole}, declared.pair.Pair.{Pair}}
+use Rattle.gs_seq.specs.{Games.{frame_in}, Rows.{AreRows, AreRowsIn, AreWholes, AreWholesIn, IsRow, IsSlim, together, whole_row}, declared.pair.Pair.{Pair}}
 use Rattle.gs_seq.proofs.{RowFacts.{class_weight, classes_weigh, row_signed, row_weighs}, RowRoom.{table}, Sizes.{modest}, SlotLaws.{over}}
 
 -- a pair more
-pub whole_more : (row : List Pair) (i : ℕ) (d : Pair) → i < length row → together (whole (take i row)) (get_or row i d) ≡ whole (take (i + 1) row)
+pub whole_more : (row : List Pair) (i : ℕ) (d : Pair) → i < length row → together (whole_row (take i row)) (get_or row i d) ≡ whole_row (take (i + 1) row)
 whole_more row i d l =
     let one : ℕ → ℤ → Pair = λ n z. record { two = 0; weight = n; signed = z } in
     let p : Pair = get_or row i d in
-    ap (λ n. one n ((whole (take i row)).signed +ℤ p.signed)) (sym (sum_by_more (λ (q : Pair). q.weight) row i d l))
+    ap (λ n. one n ((whole_row (take i row)).signed +ℤ p.signed)) (sym (sum_by_more (λ (q : Pair). q.weight) row i d l))
     ∙ ap (λ z. one (sum_by (λ (q : Pair). q.weight) (take (i + 1) row)) z) (sym (sum_z-more (λ (q : Pair). q.signed) row i d l))
 
 -- an item of a list that has one
@@ -59,22 +59,22 @@ pub wholes_in_round : (f : Frame) (lists : ClassLists) (rows : List (Vec (Vec Pa
     → AreWholesIn f lists round (get_or wholes (round - 1) d).items
 wholes_in_round f lists rows wholes are is round d some top =
     let items : Vec Pair Global → List Pair = λ v. v.items in
-    let wholes_of : Vec (Vec Pair Global) Global → List Pair = λ v. map (λ (r : Vec Pair Global). whole r.items) v.items in
+    let wholes_of : Vec (Vec Pair Global) Global → List Pair = λ v. map (λ (r : Vec Pair Global). whole_row r.items) v.items in
     let long : length wholes ≡ length rows = sym (length-map wholes items) ∙ ap length is ∙ length-map rows wholes_of in
     let b : Vec (Vec Pair Global) Global = some_item rows (omega (arith, long, some, top)) in
     let own : List (Vec Pair Global) = (get_or rows (round - 1) b).items in
-    let here : (get_or wholes (round - 1) d).items ≡ map (λ (r : Vec Pair Global). whole r.items) own =
+    let here : (get_or wholes (round - 1) d).items ≡ map (λ (r : Vec Pair Global). whole_row r.items) own =
     sym (get_or-map items wholes (round - 1) d [] (omega (arith, some, top))) ∙ ap (λ xs. get_or xs (round - 1) []) is
     ∙ get_or-map wholes_of rows (round - 1) b [] (omega (arith, some, top, long)) in
     let in_round = are.in_round round b some (omega (arith, top, long)) in
     record {
-      long = ap length here ∙ length-map own (λ (r : Vec Pair Global). whole r.items) ∙ in_round.long;
+      long = ap length here ∙ length-map own (λ (r : Vec Pair Global). whole_row r.items) ∙ in_round.long;
       each = λ c e class.
           (let inside : c - 1 < length own = omega (arith, class.0, class.1, in_round.long) in
           let r : Vec Pair Global = some_item own (omega (arith, inside)) in (
             (get_or own (c - 1) r).items,
             in_round.row c r class,
             ap (λ xs. get_or xs (c - 1) e) here
-                ∙ get_or-map (λ (v : Vec Pair Global). whole v.items) own (c - 1) r e inside,
+                ∙ get_or-map (λ (v : Vec Pair Global). whole_row v.items) own (c - 1) r e inside,
           ));
     }

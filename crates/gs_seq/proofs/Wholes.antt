@@ -4,17 +4,17 @@ use Rattle.std.specs.Prelude.{◌*ℤ◌, ◌⊎◌, unsigned_abs}
 use Rattle.gs_model.specs.{Classes.{ClassLists, IsClasses, class_count}, Frame.{Frame, end_at, end_count, round_of}, FrameFacts.{InRange, IsWalked}}
 use Rattle.gs_model.specs.{Positions.{End, EndKind, Folded1, Folded2, Show, at_end}, Sums.{sum_z}}
 use Rattle.gs_model.proofs.{Regroup.{sum_z-pos}, Tables.{is_table}, Total.{sum_z-mul, sum_z-same_all}}
-use Rattle.gs_seq.specs.{Payoffs.{number_sum, pair_pays, stake}, Rows.{IsRow, whole}, declared.pair.Pair.{Pair}}
+use Rattle.gs_seq.specs.{Payoffs.{number_sum, pair_pays, stake}, Rows.{IsRow, whole_row}, declared.pair.Pair.{Pair}}
 use Rattle.gs_seq.proofs.{EndSums.{class_few_weight, row_sum}, RowFacts.{abs_all, row_class, row_signed, row_weighs, sum-times}, Sizes.{AreModest}}
 
 -- what an end pays in the deals of all pairs of a row
-whole_pays : (player : ℕ) (z : End) (row : List Pair) → sum_z (λ (p : Pair). pair_pays player z p) row ≡ pair_pays player z (whole row)
+whole_pays : (player : ℕ) (z : End) (row : List Pair) → sum_z (λ (p : Pair). pair_pays player z p) row ≡ pair_pays player z (whole_row row)
 whole_pays player z row = by z.kind refl
   where
-    weights : (a : ℤ) → sum_z (λ (p : Pair). a *ℤ pos p.weight) row ≡ a *ℤ pos (whole row).weight
+    weights : (a : ℤ) → sum_z (λ (p : Pair). a *ℤ pos p.weight) row ≡ a *ℤ pos (whole_row row).weight
     weights a = sum_z-mul a (λ (p : Pair). pos p.weight) row ∙ ap (λ v. a *ℤ v) (sum_z-pos (λ (p : Pair). p.weight) row)
 
-    by : (k : EndKind) → z.kind ≡ k → sum_z (λ (p : Pair). pair_pays player z p) row ≡ pair_pays player z (whole row)
+    by : (k : EndKind) → z.kind ≡ k → sum_z (λ (p : Pair). pair_pays player z p) row ≡ pair_pays player z (whole_row row)
     by Folded1 k = rw k (weights (stake player 1 z.put))
     by Folded2 k = rw k (weights (stake player 2 z.put))
     by Show k = rw k (sum_z-mul (pos z.put) (λ (p : Pair). p.signed) row)
@@ -25,7 +25,7 @@ module _ (f : Frame) (r : InRange f) (lists : ClassLists) (k : IsClasses f.paren
   -- the sum over the classes is the number times what the end pays the row
   pub same_sum : (player ≡ 1) ⊎ (player ≡ 2) → (numbers : List ℕ) (number : ℕ)
       → ((i : ℕ) → i < class_count lists (round_of f (at_end z)) → get_or numbers i 0 ≡ number)
-      → pos number *ℤ pair_pays player (end_at f z) (whole row) ≡ number_sum f lists player numbers z c
+      → pos number *ℤ pair_pays player (end_at f z) (whole_row row) ≡ number_sum f lists player numbers z c
   same_sum either numbers number same =
       let round = round_of f (at_end z) in
       let pays : Pair → ℤ = λ p. pair_pays player (end_at f z) p in
@@ -37,14 +37,14 @@ module _ (f : Frame) (r : InRange f) (lists : ClassLists) (k : IsClasses f.paren
       ∙ sym each
       ∙ row_sum f lists player either w z l c row h r k (λ e. get_or numbers (e - 1) 0)
 
-  pub whole_few : (whole row).weight ≤ 67108864
+  pub whole_few : (whole_row row).weight ≤ 67108864
   whole_few = omega (
     arith,
     row_weighs f (is_table f r) lists k (round_of f (at_end z)) (w.end_round z l) (w.end_in z l) c row h,
     class_few_weight f r lists k player w few z l c row h,
   )
 
-  pub whole_moderate : unsigned_abs (whole row).signed ≤ 9 * (whole row).weight
+  pub whole_moderate : unsigned_abs (whole_row row).signed ≤ 9 * (whole_row row).weight
   whole_moderate =
       let signed = row_signed f (is_table f r) lists k (round_of f (at_end z)) (w.end_round z l) (w.end_in z l) c row h few.outcomes in
       omega (

@@ -73,17 +73,17 @@ IsModerate p = unsigned_abs p.signed ≤ 128 * p.weight
 -- ---- all pairs of a row as one
 
 -- all pairs of a row as one
-abbrev pub whole : List Pair → Pair
-whole row = record { two = 0; weight = sum_by (λ p. p.weight) row; signed = sum_z (λ p. p.signed) row }
+abbrev pub whole_row : List Pair → Pair
+whole_row row = record { two = 0; weight = sum_by (λ p. p.weight) row; signed = sum_z (λ p. p.signed) row }
 
 -- for each row all its pairs as one, round by round
 abbrev pub AreWholes : List (Vec (Vec Pair Global) Global) → List (Vec Pair Global) → Type 0
-AreWholes rows wholes = map (λ v. v.items) wholes ≡ map (λ v. map (λ r. whole r.items) v.items) rows
+AreWholes rows wholes = map (λ v. v.items) wholes ≡ map (λ v. map (λ r. whole_row r.items) v.items) rows
 
 -- for each class of a round all pairs of its row as one
 pub record AreWholesIn (f : Frame) (lists : ClassLists) (round : ℕ) (wholes : List Pair) : Type 0 where
   pub long : length wholes ≡ class_count lists round
-  pub each : (c : ℕ) (d : Pair) → IsClass lists round c → (row : List Pair) × IsRow f lists round c row × (get_or wholes (c - 1) d ≡ whole row)
+  pub each : (c : ℕ) (d : Pair) → IsClass lists round c → (row : List Pair) × IsRow f lists round c row × (get_or wholes (c - 1) d ≡ whole_row row)
 
 -- the pairs of a row weigh less than 2^32, and are moderate
 pub record IsSlim (row : List Pair) : Type 0 where

@@ -4,7 +4,7 @@ ghost use Rattle.std.specs.Prelude.{◌≡◌, ◌+◌, ◌*◌, ◌<◌, ◌≤
 ghost use Rattle.gs_model.specs.{Classes.{IsClass}, Frame.{last_round}, Lossless.{IsLossless}};
 ghost use Rattle.gs_lossless.specs.declared.sides.Side.TheVariants as sides;
 ghost use Rattle.gs_seq.specs.{Cells.{AreCounts, cell_count}, Games.{frame_in}};
-ghost use Rattle.gs_seq.specs.Rows.{AreRows, AreRowsIn, AreWholes, IsModerate, IsRow, IsSlim, gathered, join, pair_of, pairs_of, together, whole};
+ghost use Rattle.gs_seq.specs.Rows.{AreRows, AreRowsIn, AreWholes, IsModerate, IsRow, IsSlim, gathered, join, pair_of, pairs_of, together, whole_row};
 
 use crate::before::rows_before;
 use crate::earlier::rows_above;
@@ -139,7 +139,7 @@ pub(crate) fn rows_in(
 /// Returns all pairs of a row as one.
 fn whole_of(row: &[Pair]) -> Pair
     requires { IsSlim row.now }
-    ensures { result ≡ whole row.now }
+    ensures { result ≡ whole_row row.now }
 {
     let mut all = Pair {
         two: 0,
@@ -155,7 +155,7 @@ fn whole_of(row: &[Pair]) -> Pair
 /// Returns for each row all its pairs as one.
 fn wholes_in(alloc: Global, rows: &[Vec<Pair>]) -> Result<Vec<Pair>, AllocError>
     requires { All (λ v. IsSlim v.items) rows.now }
-    ensures { IfOk result (λ v. v.items ≡ map (λ r. whole r.items) rows.now) }
+    ensures { IfOk result (λ v. v.items ≡ map (λ r. whole_row r.items) rows.now) }
 {
     let mut wholes = Vec::with_capacity(alloc, rows.len())?;
     for row in rows {

@@ -8,7 +8,7 @@ use Rattle.gs_frac.specs.declared.value.Fraction.{Fraction}
 use Rattle.gs_simplex.specs.{declared.program.Program.{Program}, Program.{Listing, ColListed, IsPairList, IsRegularList, IsOpening}}
 use Rattle.gs_simplex.specs.{Path.{States, IsPath, NoneEnters, ends, Stops, PathStops}, declared.answer.Turn.{Turn}, declared.answer.PathTrace.{PathTrace}}
 use Rattle.gs_simplex.specs.{Table.{table_aim, IsTable}, State.{IsSoFar, IsTurnAt}, Answer.{IsSmallTable}}
-use Rattle.gs_simplex.specs.Trace.{IsBasis, IsBasisAt, IsAimValue, IsTurnOf, IsTrace, IsReached, AreTurns, AreBases}
+use Rattle.gs_simplex.specs.Trace.{IsBasis, IsBasisAt, IsAimValue, IsTurnOf, IsTrace, IsReachedBy, AreTurns, AreBases}
 use Rattle.gs_simplex.proofs.{Opening.{path_trail, bases_differ}, PairLists.{pair_list_is_list, pivot_keeps_regular_lem, taken_is_regular_lem}}
 use Rattle.gs_simplex.proofs.Agree.{Agree, lists_same, paths_agree}
 use Rattle.gs_simplex.proofs.{Multiples.{down_fraction}, Paths.{turn_same_as, ends_stops}}
@@ -189,9 +189,9 @@ trace_of p o limit n t l0 l xs0 xs small ok u0 start u table within none aim lon
 pub record IsReplayed (p : Program) (o : Listing) (n : ℕ) (l : Listing) : Type 0 where
   pub pairs : IsPairList p l
   pub regular : IsRegularList p l
-  pub reached : IsReached p o n l
+  pub reached : IsReachedBy p o n l
 
-pub replayed_none : (p : Program) (o : Listing) → IsOpening p o → IsReached p o 0 o → IsReplayed p o 0 o
+pub replayed_none : (p : Program) (o : Listing) → IsOpening p o → IsReachedBy p o 0 o → IsReplayed p o 0 o
 replayed_none p o ok r = let w = taken_is_regular_lem p o ok.taken in record { pairs = w.0; regular = w.1; reached = r }
 
 pub replayed_more : (p : Program) (o : Listing) (n : ℕ) (l next : Listing) (turn : Turn) → IsOpening p o → IsReplayed p o n l → IsTurnAt p o (length o + n) turn

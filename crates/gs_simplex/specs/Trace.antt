@@ -46,8 +46,8 @@ abbrev pub IsBasisAt : Program → Listing → ℕ → List ℕ → Type 0
 IsBasisAt p o t columns = (s : States) × (IsPath p o t s) × IsBasis (s.lists t) columns
 
 -- the list after the opening and so many pivots
-abbrev pub IsReached : Program → Listing → ℕ → Listing → Type 0
-IsReached p o n l = (s : States) × (IsPath p o (length o + n) s) × (s.lists (length o + n) ≡ l)
+abbrev pub IsReachedBy : Program → Listing → ℕ → Listing → Type 0
+IsReachedBy p o n l = (s : States) × (IsPath p o (length o + n) s) × (s.lists (length o + n) ≡ l)
 
 -- these are the first pivots
 abbrev pub AreTurns : Program → Listing → List Turn → Type 0

@@ -2,7 +2,7 @@
 
 ghost use Rattle.std.specs.Prelude.{MatchResult, IfOk, OnOk, ◌≡◌, ℕ, ◌+◌, ◌<◌, ◌^◌, [], ◌∷◌, ◌++◌, ℤ, pos, ◌<ℤ◌, length, slice_index_or, slice_set};
 ghost use Rattle.gs_simplex.specs.{Program.{IsPairList, IsOpening}, Table.{table_aim, IsTable}, State.{IsEnd}, Answer.{IsStop}, Values.{IsRowIndex}};
-ghost use Rattle.gs_simplex.specs.Trace.{IsAimValue, IsBasis, IsReached, AreTurns, AreBases, CanFollow};
+ghost use Rattle.gs_simplex.specs.Trace.{IsAimValue, IsBasis, IsReachedBy, AreTurns, AreBases, CanFollow};
 
 use crate::answer::{Stop, Turn};
 use crate::best::listed_rows;
@@ -82,7 +82,7 @@ pub(crate) fn bases_of(
     requires small_rows { p.now.rows < 2 ^ 31 }
     requires small_cols { p.now.cols < 2 ^ 31 }
     requires opens { IsOpening p.now opening.now }
-    requires path { IsReached p.now opening.now 0 opening.now }
+    requires path { IsReachedBy p.now opening.now 0 opening.now }
     requires turns { AreTurns p.now opening.now turns.now }
     ensures { IfOk result (λ v. AreBases p.now opening.now (length turns.now + 1) v.items) }
 {

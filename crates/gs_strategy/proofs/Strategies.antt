@@ -12,7 +12,8 @@ use Rattle.gs_json.specs.Steps.{Then, ◌>>=◌}
 use Rattle.gs_model.proofs.{Push.{le_greatest}, Ranges.{in_range}, Walked.{walked_one, walked_two}, Deviations.{lift_is_raw_plan}, Tables.{is_table}}
 use Rattle.gs_model.proofs.{Gather.{known_from, firsts_from, plan_by}, Alike.{keeps_from}}
 use Rattle.gs_model.specs.{Classes.{ClassLists, list_of}, Frame.{Frame, last_round}, FrameFacts.{InRange, IsWalked}, Game.{IsPlayable}, Plans.{IsRawPlan}}
-use Rattle.gs_strategy.specs.Checks.{AreClasses, After, Checked, ChecksClasses, ChecksPlan, IsCanonical, IsClassFault, IsPlanFault, Reads, ReadsClasses, ReadsParts, ReadsPlan}
+use Rattle.gs_strategy.specs.Checks.{AreClasses, After, Checked, ChecksClasses, ChecksPlan, IsCanonical, IsClassFault, IsPlanFault, Reads, ReadsClasses}
+use Rattle.gs_strategy.specs.Checks.{ReadsParts, ReadsPlan}
 use Rattle.gs_strategy.specs.{Confirmed.{raw_plan}, Faults.{Fault, classes, fraction as no_fraction, plan, shape}}
 use Rattle.gs_strategy.specs.Laws.{AreWeights, IsStrategy}
 use Rattle.gs_strategy.specs.Reading.{Whole, class_lists_at, fraction_at, json_at, numbers_at, of_fraction, of_game, parts_at, stored_game_at}

@@ -2,7 +2,7 @@ use Rattle.std.proofs.Common.{◌-◌, ◌<◌, ◌∙◌, ◌++◌, ◌∷◌, 
 use Rattle.gs_model.specs.Game.{Game}
 use Rattle.gs_tree.specs.{Trees.{rules_of}, Walk.{last_count}}
 use Rattle.gs_lossless.specs.{Rivals.{rival_of}, declared.rivals.Rival.{Rival}}
-use Rattle.gs_lossless.proofs.Chain.{IsOnChain, chain_end, chain_more, chain_start}
+use Rattle.gs_tree.proofs.Chain.{IsOnChain, chain_end, chain_more, chain_start}
 use Rattle.gs_lossless.proofs.rivals.rivals_beside.Goals as goal
 
 pub loop-signal-init : goal.loop-signal-init

@@ -1,7 +1,7 @@
 use Rattle.std.proofs.Common.{◌-◌, length}
 use Rattle.gs_tree.specs.Trees.{rules_of}
 use Rattle.gs_lossless.specs.Rivals.{rival_of}
-use Rattle.gs_lossless.proofs.Chain.{IsOnChain}
+use Rattle.gs_tree.proofs.Chain.{IsOnChain}
 use Rattle.gs_lossless.proofs.rivals.rivals_beside.Given as goal
 
 abbrev pub invariant-loop-signal : goal.invariant-loop-signal

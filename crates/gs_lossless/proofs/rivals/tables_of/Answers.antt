@@ -1,13 +1,13 @@
 use Rattle.std.proofs.{Common.{◌∙◌, List, ap, subst, sym}, lemmas.List.Elements.{All-push}}
 use Rattle.std.specs.{Global.{Vec}, List.{All}}
 use Rattle.gs_tree.specs.Trees.{rules_of}
-use Rattle.gs_lossless.specs.{Rivals.{IsTable}, declared.rivals.Table.{Table}}
+use Rattle.gs_lossless.specs.{Rivals.{IsRivalTable}, declared.rivals.Table.{Table}}
 use Rattle.gs_lossless.proofs.rivals.tables_of.Goals as goal
 use Rattle.gs_lossless.proofs.rivals.tables_of.Goals.{then-first-signal+in_ok-table+in_ok-push, else-first-signal}
 
 pub loop-signal-preserved : goal.loop-signal-preserved
 loop-signal-preserved c =
-    let P : Table → Type 0 = IsTable (rules_of c.args.signals.now) c.args.keys.now in
+    let P : Table → Type 0 = IsRivalTable (rules_of c.args.signals.now) c.args.keys.now in
     let old : List Table = c.loop-signal.tables.items in
     elim c.if-first-signal.branch [
       | then-first-signal+in_ok-table+in_ok-push w ↦

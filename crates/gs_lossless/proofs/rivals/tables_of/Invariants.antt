@@ -1,7 +1,7 @@
 use Rattle.std.specs.List.{All}
 use Rattle.gs_tree.specs.Trees.{rules_of}
-use Rattle.gs_lossless.specs.Rivals.{IsTable}
+use Rattle.gs_lossless.specs.Rivals.{IsRivalTable}
 use Rattle.gs_lossless.proofs.rivals.tables_of.Given as goal
 
 abbrev pub invariant-loop-signal : goal.invariant-loop-signal
-invariant-loop-signal l = All (IsTable (rules_of l.signals) l.keys) l.tables.items
+invariant-loop-signal l = All (IsRivalTable (rules_of l.signals) l.keys) l.tables.items

@@ -14,7 +14,8 @@ loop-card-preserved c card =
     let before = c.loop-card.invariant card in
     let read : ℕ = c.card-item.result in
     let at : get_or cards i read ≡ k = omega (arith, c.from.ensures, c.number.ensures, c.card-item.is) in
-    let small : k < 64 = omega (arith, c.from.ensures, c.number.ensures, c.card-item.is, c.requires i c.card-item.result (omega (arith, c.loop-card-test.true))) in
+    let small : k < 64 = omega (arith, c.from.ensures, c.number.ensures, c.card-item.is, c.requires i c.card-item.result (omega (arith, c.loop-card-test.true)))
+    in
     ⊎_elim
     (λ (same : card ≡ k).
     let here : eqb (get_or cards i read) card ≡ true = grind (arith, at, same) in

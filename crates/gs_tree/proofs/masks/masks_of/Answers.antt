@@ -12,7 +12,12 @@ here : (c : After-deref) → c.loop-signal.signal < length (signals (game_of c.a
 here c =
     let g : Game = game_of c.args.game.now in
     let h = c.args.hands.now in
-    omega (arith, paths_long g (round_count g) h.paths h.owns.items h.publics.items h.own h.public c.requires.hands, c.len-count.ensures, c.loop-signal-test.true)
+    omega (
+      arith,
+      paths_long g (round_count g) h.paths h.owns.items h.publics.items h.own h.public c.requires.hands,
+      c.len-count.ensures,
+      c.loop-signal-test.true,
+    )
 
 -- the part is its own cards
 own : (c : After-part) → c.part.result.now ≡ own_cards (signal_at (game_of c.args.game.now) (round_count (game_of c.args.game.now)) c.loop-signal.signal)

@@ -3,7 +3,7 @@ use Rattle.std.specs.Prelude.{◌==◌, filter, slice_index}
 use Rattle.gs_model.specs.{Frame.{frame_of}, Game.{round_count}}
 use Rattle.gs_model.proofs.Walked.{last_round_of}
 use Rattle.gs_tree.specs.{Trees.{rules_of}, Walk.{shows_same}}
-use Rattle.gs_lossless.specs.{Amounts.{ArePartsOf, key_count}, Boards.{strengths_of}, Rivals.{IsTable, is_other, part_against}}
+use Rattle.gs_lossless.specs.{Amounts.{ArePartsOf, key_count}, Boards.{strengths_of}, Rivals.{IsRivalTable, is_other, part_against}}
 use Rattle.gs_lossless.specs.{declared.parts.Part.{Part}, declared.rivals.Rival.{Rival}, declared.rivals.Table.{Table}}
 use Rattle.gs_lossless.specs.declared.sides.Side.{Side}
 use Rattle.gs_lossless.proofs.{Descent.{count_last, playable}, SideOf.{many}}
@@ -20,7 +20,7 @@ returns-in-Some c =
     let place = c.in-Some.place in
     let found = c.in-Some.ensures.within in
     let table : Table = c.index.result.now in
-    let is : IsTable g at.keys.items table = subst (IsTable g at.keys.items) (sym c.index.ensures) (at.each place table found.0) in
+    let is : IsRivalTable g at.keys.items table = subst (IsRivalTable g at.keys.items) (sym c.index.ensures) (at.each place table found.0) in
     let beside : shows_same g signal table.first ≡ true = subst (λ (t : Table). shows_same g signal t.first ≡ true) (sym c.index.ensures)
     (c.in-Some.ensures.same table) in
     let last : at.round ≡ round_count g = at.last (omega (arith, found.0)) in

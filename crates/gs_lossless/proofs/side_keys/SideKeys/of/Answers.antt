@@ -1,7 +1,7 @@
 use Rattle.std.proofs.Common.{◌∙◌, ℕ, List, ap, length, subst}
 use Rattle.std.specs.List.{All}
 use Rattle.gs_tree.specs.Trees.{rules_of}
-use Rattle.gs_lossless.specs.Rivals.{IsTable}
+use Rattle.gs_lossless.specs.Rivals.{IsRivalTable}
 use Rattle.gs_lossless.proofs.{Alike.{last_keys}, Descent.{keys_long, playable}}
 use Rattle.gs_lossless.proofs.side_keys.SideKeys.of.Goals as goal
 
@@ -17,7 +17,7 @@ invariant_of-result c = record {
   has = c.requires.side;
   are = c.in_ok-keys.ensures;
   last = c.in_ok-tables.ensures.last;
-  each = subst (λ (keys : List ℕ). All (IsTable (rules_of c.args.signals.now) keys) c.in_ok-tables.tables.items) c.deref.ensures.value
+  each = subst (λ (keys : List ℕ). All (IsRivalTable (rules_of c.args.signals.now) keys) c.in_ok-tables.tables.items) c.deref.ensures.value
       c.in_ok-tables.ensures.each;
   parents = c.requires.parents;
 }
