@@ -1,3 +1,5 @@
+use Rattle.gs_seq.proofs.SlotLaws.{over}
+use Rattle.gs_model.proofs.Walked.{last_round_of}
 use Rattle.std.proofs.{Common.{◌≡◌, ◌*◌, ◌<◌, ◌≤◌, sum_by, length, ap, sym, ◌∙◌, subst, arith}, Math.Nat.{mul-le-mul_right}}
 use Rattle.std.proofs.lemmas.List.Sums.{count_by-le-length}
 use Rattle.std.specs.Prelude.{◌==◌}
@@ -71,3 +73,21 @@ returns c =
     let here = subst (λ n. IsRow f lists c.args.at.now.round c.args.class (gathered (c.from.result * n) sums)) (sym c.requires.ways) row in
     if_ok c.row_of.result (λ v. v.items ≡ gathered (c.from.result * c.args.ways) sums) (λ v. IsRow f lists c.args.at.now.round c.args.class v.items)
     (λ v e. subst (IsRow f lists c.args.at.now.round c.args.class) (sym e) here) c.row_of.ensures
+
+pub size-requires-clause-top : goal.size-requires-clause-top
+size-requires-clause-top c =
+    omega (
+      arith,
+      c.args.at.now.before_last,
+      last_round_of (rules_of c.args.at.now.signals.now),
+      (over (frame_in c.args.at.now.signals.now.game.now) c.args.at.now.classes.now c.args.at.now.parents).rounds,
+    )
+
+pub first-first-requires-clause-top : goal.first-first-requires-clause-top
+first-first-requires-clause-top c =
+    omega (
+      arith,
+      c.args.at.now.before_last,
+      last_round_of (rules_of c.args.at.now.signals.now),
+      (over (frame_in c.args.at.now.signals.now.game.now) c.args.at.now.classes.now c.args.at.now.parents).rounds,
+    )

@@ -1,3 +1,4 @@
+use Rattle.gs_filter.specs.Filter.{Filter}
 use Rattle.std.proofs.{Common.{◌≡◌, ◌+◌, ◌∙◌, ap, Vec, Global, length, sym, arith}, lemmas.List.{length_push}}
 use Rattle.gs_model.specs.{Frame.{last_round}, Lossless.{IsLossless}}
 use Rattle.gs_model.proofs.Walked.{last_round_of}
@@ -28,3 +29,7 @@ returns-clause-long c =
     c.rounds-count.ensures.value ∙ sym (last_round_of (rules_of c.signals-signals.result.now))
     ∙ ap (λ (x : Signals). last_round (frame_in x.game.now)) c.signals-signals.ensures.held in
     omega (arith, c.loop-before.invariant.long, last, c.rounds-count.ensures.some, c.loop-before-test.false, c.loop-before.auto.before-end)
+
+pub rows_at-requires-clause-parents : goal.rows_at-requires-clause-parents
+rows_at-requires-clause-parents c = ap (λ (k : Filter). k.parents) c.classes.ensures.held ∙ c.args.lossless.now.parents
+    ∙ ap (λ (x : Signals). (frame_in x.game.now).parents) (sym c.signals-signals.ensures.held)

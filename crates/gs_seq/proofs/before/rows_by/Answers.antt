@@ -28,3 +28,6 @@ loop-before-preserved c =
           (j + 1) v.items) rows.items _ c.in_ok-row.row c.loop-before.before c.in_ok-push.ensures.items
           (sym rows.ok.0 ∙ c.loop-before.invariant.long) c.loop-before.invariant.row c.in_ok-row.ensures;
     }
+
+pub row_by-requires-clause-signals : goal.row_by-requires-clause-signals
+row_by-requires-clause-signals c = c.in_ok-deals.ensures.signals

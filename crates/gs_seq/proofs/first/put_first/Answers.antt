@@ -1,3 +1,4 @@
+use Rattle.gs_seq.proofs.Points.{length-points}
 use Rattle.std.proofs.Common.{◌≡◌, ◌+◌, ◌-◌, ◌*◌, ◌<◌, ◌≤◌, ◌^◌, length, get_or, set, ap, sym, ◌∙◌, subst, arith, ⊎_elim, get_or-set_other}
 use Rattle.std.proofs.{Math.Nat.{mul-le-mul_right}, lemmas.Bool.{cases_eq}}
 use Rattle.gs_game.specs.Games.{game_of}
@@ -139,3 +140,6 @@ returns-clause-clear c =
     let all : c.loop-before.before ≡ class_count lists (round_of f (at_point q)) =
     omega (arith, c.loop-before-test.false, c.loop-before.auto.before-end, c.classes-before-end.ensures, ap (class_count lists) r.round) in
     λ k l. c.loop-before.invariant.clear k (omega (arith, l, slots_own f lists c.args.player q c.requires.own, ap (λ n. n * move_count f q) all))
+
+pub bounds-points-point : goal.bounds-points-point
+bounds-points-point c = omega (arith, c.requires.in_range, length-points c.args.game.now c.points.result.now c.points.ensures)

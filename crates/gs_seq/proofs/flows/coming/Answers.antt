@@ -1,3 +1,4 @@
+use Rattle.gs_seq.proofs.Points.{length-points}
 use Rattle.std.proofs.Common.{◌≡◌, Some, get_or, sym, refl, subst, arith}
 use Rattle.gs_model.specs.{Classes.{IsClass}, Frame.{player_at, round_of}, Positions.{at_point}}
 use Rattle.gs_model.proofs.Ranges.{in_range}
@@ -73,3 +74,9 @@ returns-in-Some c =
     number_above f (in_range (game_of c.args.game.now.game) (playable c.args.game.now)) c.args.classes.now (sym c.requires.parents) (player_at f q)
     (at_point q) _ h.0 c.in-Some.step h.1 (facts at.In-Some) c.args.total _ c.args.class
     (here at.After-index-points-point) c.args.weights.now c.weight_above.result c.weight_above.ensures
+
+pub bounds-points-point : goal.bounds-points-point
+bounds-points-point c = omega (arith, c.requires.in_range, length-points c.args.game.now c.points.result.now c.points.ensures)
+
+pub bounds-points-point-in-Some : goal.bounds-points-point-in-Some
+bounds-points-point-in-Some c = omega (arith, c.requires.in_range, length-points c.args.game.now c.points.result.now c.points.ensures)

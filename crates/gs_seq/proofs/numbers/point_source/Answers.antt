@@ -1,3 +1,4 @@
+use Rattle.gs_seq.proofs.Points.{length-points}
 use Rattle.std.proofs.Common.{◌≡◌, Some, ap, sym, refl, ◌∙◌, subst, arith}
 use Rattle.gs_game.specs.{Seen.{step_of}, declared.positions.Point.{Point}}
 use Rattle.gs_model.specs.{Frame.{last_step, player_at}, Positions.{at_point}}
@@ -51,3 +52,9 @@ returns c =
         choice = e.choice;
       },
     )
+
+pub bounds-points-point : goal.bounds-points-point
+bounds-points-point c = omega (arith, c.requires.point, length-points c.args.game.now c.points.result.now c.points.ensures)
+
+pub bounds-points-point-2 : goal.bounds-points-point-2
+bounds-points-point-2 c = omega (arith, c.requires.point, length-points c.args.game.now c.points.result.now c.points.ensures)

@@ -1,3 +1,4 @@
+use Rattle.std.proofs.lemmas.Grind.{common_steps}
 use Rattle.std.proofs.Common.{ap, arith, pos, reverse, ◌∙◌}
 use Rattle.gs_lossless.specs.declared.parts.Part.{Part}
 use Rattle.gs_seq.specs.{Rows.{join}, declared.pair.Pair.{Pair}}
@@ -20,3 +21,14 @@ loop-part-preserved c = record {
       (c.in_ok-add.ensures.row ∙ ap (λ p. join p (reverse c.loop-part.row.items)) c.pair_from.ensures.value);
   moderate = c.in_ok-add.ensures.moderate;
 }
+
+pub pair_from-requires : goal.pair_from-requires
+pair_from-requires c =
+    omega (
+      arith,
+      gathered_few c.args.members c.args.sums.now c.loop-part.part-index no_part c.loop-part.row.items c.loop-part-test.true c.loop-part.invariant.row_is
+          c.requires,
+    )
+
+pub returns : goal.returns
+returns c = grind (arith, common_steps)

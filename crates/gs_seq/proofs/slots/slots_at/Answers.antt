@@ -1,3 +1,4 @@
+use Rattle.gs_seq.proofs.Points.{length-points}
 use Rattle.std.proofs.{Common.{◌≡◌, ◌*◌, ◌<◌, ◌≤◌, ◌^◌, true, false, refl, ap, sym, ◌∙◌, arith}, Math.Nat.{mul-le-mul_right}, lemmas.Bool.Decides.{Decides-eqb}}
 use Rattle.std.specs.Prelude.{◌==◌}
 use Rattle.gs_model.specs.{Classes.{class_count}, Frame.{move_count, player_at, round_of}, Positions.{at_point}}
@@ -56,3 +57,6 @@ returns-else-point-player c =
     let test : (player_at f c.args.point == c.args.player) ≡ false = not_eq (player_at f c.args.point) c.args.player
     (λ e. c.if-point-player.false (r.player ∙ e)) in
     rw test refl
+
+pub bounds-points-point : goal.bounds-points-point
+bounds-points-point c = omega (arith, c.requires.in_range, length-points c.args.game.now c.points.result.now c.points.ensures)
