@@ -1,5 +1,6 @@
 use Rattle.std.proofs.Common.{◌-◌, ◌<◌, ◌∙◌, ◌++◌, ◌∷◌, [], ◌≡◌, ℕ, List, length, subst, sym, ap, arith, get_or}
-use Rattle.gs_model.specs.Game.{Game}
+use Rattle.std.proofs.lemmas.List.{length-map}
+use Rattle.gs_model.specs.{Game.{Game, round_count}, Signals.{signals}, ViewTree.{signal_strength}}
 use Rattle.gs_tree.specs.{Trees.{rules_of}, Walk.{last_count}}
 use Rattle.gs_lossless.specs.{Rivals.{rival_of}, declared.rivals.Rival.{Rival}}
 use Rattle.gs_tree.proofs.Chain.{IsOnChain, chain_end, chain_more, chain_start}
@@ -11,6 +12,13 @@ loop-signal-init c =
     let h : ℕ → Rival = rival_of g c.args.keys.now in
     let P : List Rival → Type 0 = IsOnChain g h c.args.first (get_or c.boards.result.0.now c.args.first 0) in
     subst P (sym c.in_ok-rivals.ensures.items) (chain_start g h c.boards.result.0.now c.boards.result.1.now c.boards.ensures c.args.first c.requires.first_in)
+
+pub bounds-strengths-signal : goal.bounds-strengths-signal
+bounds-strengths-signal c =
+    let g : Game = rules_of c.args.signals.now in
+    let long : length c.strengths-strengths.result.now ≡ last_count g = ap (λ (xs : List ℕ). length xs) c.strengths-strengths.ensures
+    ∙ length-map (signals g (round_count g)) (signal_strength g) in
+    omega (arith, c.loop-signal-test.true, c.boards.ensures.nexts_long, long)
 
 pub loop-signal-preserved : goal.loop-signal-preserved
 loop-signal-preserved c =

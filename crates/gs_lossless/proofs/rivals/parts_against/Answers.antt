@@ -1,0 +1,6 @@
+use Rattle.std.proofs.Common.{arith}
+use Rattle.std.proofs.lemmas.Grind.{common_steps}
+use Rattle.gs_lossless.proofs.rivals.parts_against.Goals as goal
+
+pub loop-rival-preserved : goal.loop-rival-preserved
+loop-rival-preserved c = grind (arith, common_steps)
