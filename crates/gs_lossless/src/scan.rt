@@ -14,6 +14,12 @@ use crate::standing::{has_earlier, stand_ins_at};
 use gs_filter::Classes;
 use std::alloc::{AllocError, Global};
 
+/// The number of signals from which on a few are compared before the boards are listed.
+const MANY: u32 = 4096;
+
+/// The number of signals that are compared before the boards are listed.
+const FEW: u32 = 64;
+
 /// Returns whether each class of a round has one member.
 fn are_alone(classes: &Classes, round: u8) -> bool
     requires some { 0 < round }
@@ -28,29 +34,19 @@ fn are_alone(classes: &Classes, round: u8) -> bool
     true
 }
 
-/// Returns the first signal before `end` that differs on one side from the first member of its class.
-/// Keeps the sums of the first member of each class with more than one member. Makes no sums if each class of the round has one member.
+/// Returns the first signal before `end` that differs on the side from the first member of its class.
+/// Keeps the sums of the first member of each class with more than one member. The first `end` signals are in at most as many classes.
 /// Once stand-ins are listed, makes no sums of a signal with an earlier stand-in.
-pub(crate) fn first_apart(
-    alloc: Global,
-    grouped: &Grouped<'_>,
-    side: Side,
-    round: u8,
-    end: u32,
-) -> Result<Option<u32>, AllocError>
-    requires side { HasSide (frame_of (rules_of grouped.now.signals.now)) side round }
-    requires within { end ≤ length (signals_in (rules_of grouped.now.signals.now) round) }
-    ensures { IfOk result (IsFirstApart (frame_of (rules_of grouped.now.signals.now)) grouped.now.classes.now.lists side round end) }
+fn apart_before(alloc: Global, at: &SideKeys<'_>, end: u32) -> Result<Option<u32>, AllocError>
+    requires { end ≤ length (signals_in (rules_of at.now.signals.now) at.now.round) }
+    ensures { IfOk result (IsFirstApart (frame_of (rules_of at.now.signals.now)) at.now.classes.now.lists at.now.side at.now.round end) }
 {
-    let Grouped { signals, classes } = *grouped;
-    if are_alone(classes, round) {
-        return Ok(None);
-    }
-    let at = SideKeys::of(alloc, signals, classes, side, round)?;
+    let classes = at.classes;
+    let round = at.round;
     let mut firsts = Vec::new(alloc);
-    let mut kept = empty_lists(alloc, classes.classes(round))?;
+    let mut kept = empty_lists(alloc, classes.classes(round).min(end))?;
     for signal in 0..end {
-        firsts = stand_ins_at(alloc, &at, signal, firsts)?;
+        firsts = stand_ins_at(alloc, at, signal, firsts)?;
         if has_earlier(&firsts, signal) {
             continue;
         }
@@ -68,4 +64,33 @@ pub(crate) fn first_apart(
         }
     }
     Ok(None)
+}
+
+/// Returns the first signal before `end` that differs on one side from the first member of its class.
+/// Makes no sums if each class of the round has one member. Of many signals compares a few before it lists the boards: where one of these differs,
+/// listing the boards would take more time than it saves.
+pub(crate) fn first_apart(
+    alloc: Global,
+    grouped: &Grouped<'_>,
+    side: Side,
+    round: u8,
+    end: u32,
+) -> Result<Option<u32>, AllocError>
+    requires side { HasSide (frame_of (rules_of grouped.now.signals.now)) side round }
+    requires within { end ≤ length (signals_in (rules_of grouped.now.signals.now) round) }
+    ensures { IfOk result (IsFirstApart (frame_of (rules_of grouped.now.signals.now)) grouped.now.classes.now.lists side round end) }
+{
+    let Grouped { signals, classes } = *grouped;
+    if are_alone(classes, round) {
+        return Ok(None);
+    }
+    let at = SideKeys::without_tables(alloc, signals, classes, side, round)?;
+    if MANY <= end {
+        let apart = apart_before(alloc, &at, FEW)?;
+        if apart.is_some() {
+            return Ok(apart);
+        }
+    }
+    let at = at.with_tables(alloc)?;
+    apart_before(alloc, &at, end)
 }

@@ -19,7 +19,7 @@ use gs_tree::Signals;
 use std::alloc::{AllocError, Global};
 
 /// A side of a round with its keys: the class by which each counted signal counts.
-/// `tables` has the boards of the last round if every card is single, each player is dealt one private card, and each bonus is 1; otherwise it is empty.
+/// `tables` is empty, or has the boards of the last round. Then every card is single, each player is dealt one private card, and each bonus is 1.
 #[derive(Drop)]
 pub struct SideKeys<'a> {
     pub signals: &'a Signals<'a>,
@@ -54,6 +54,48 @@ fn tables_in(
 }
 
 impl<'a> SideKeys<'a> {
+    // Returns a side of a round with its keys, and no tables.
+    pub(crate) fn without_tables(
+        alloc: Global,
+        signals: &'a Signals<'a>,
+        classes: &'a Classes,
+        side: Side,
+        round: u8,
+    ) -> Result<SideKeys<'a>, AllocError>
+        requires parents { classes.now.parents ≡ (frame_of (rules_of signals.now)).parents }
+        requires side { HasSide (frame_of (rules_of signals.now)) side round }
+        ensures signals { IfOk result (λ at. at.signals.now ≡ signals.entry.now) }
+        ensures classes { IfOk result (λ at. at.classes.now ≡ classes.entry.now) }
+        ensures side { IfOk result (λ at. (at.side ≡ side) × (at.round ≡ round)) }
+    {
+        let keys = side_keys(alloc, signals, classes, side, round)?;
+        Ok(SideKeys {
+            signals,
+            classes,
+            side,
+            round,
+            keys,
+            tables: Vec::new(alloc),
+        })
+    }
+
+    // Adds the tables.
+    pub(crate) fn with_tables(self, alloc: Global) -> Result<SideKeys<'a>, AllocError>
+        ensures signals { IfOk result (λ at. at.signals.now ≡ self.entry.signals.now) }
+        ensures classes { IfOk result (λ at. at.classes.now ≡ self.entry.classes.now) }
+        ensures side { IfOk result (λ at. (at.side ≡ self.entry.side) × (at.round ≡ self.entry.round)) }
+    {
+        let tables = tables_in(alloc, self.signals, self.round, &self.keys)?;
+        Ok(SideKeys {
+            signals: self.signals,
+            classes: self.classes,
+            side: self.side,
+            round: self.round,
+            keys: self.keys,
+            tables,
+        })
+    }
+
     /// Returns a side of a round with its keys.
     pub fn of(
         alloc: Global,
@@ -68,16 +110,8 @@ impl<'a> SideKeys<'a> {
         ensures classes { IfOk result (λ at. at.classes.now ≡ classes.entry.now) }
         ensures side { IfOk result (λ at. (at.side ≡ side) × (at.round ≡ round)) }
     {
-        let keys = side_keys(alloc, signals, classes, side, round)?;
-        let tables = tables_in(alloc, signals, round, &keys)?;
-        Ok(SideKeys {
-            signals,
-            classes,
-            side,
-            round,
-            keys,
-            tables,
-        })
+        let at = SideKeys::without_tables(alloc, signals, classes, side, round)?;
+        at.with_tables(alloc)
     }
 
     // Returns the place of the table of a signal's board, none if there are no tables.

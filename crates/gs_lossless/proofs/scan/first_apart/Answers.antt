@@ -1,182 +1,40 @@
-use Rattle.std.proofs.lemmas.List.{length-set}
-use Rattle.std.proofs.Common.{true, false, true≢false, rules, ◌≡◌, ◌≢◌, ◌+◌, ◌-◌, ◌<◌, ℕ, List, ap, get_or, length, set, sym, ◌∙◌, subst, arith, Vec, Global}
-use Rattle.gs_model.specs.{Classes.{class_of, class_size, first_member, list_of}, Frame.{frame_of}, Numbering.{IsNumbered}, Signals.{signals}}
+use Rattle.std.proofs.Common.{true, true≢false, ◌≡◌, ◌≤◌, ◌<◌, ◌∙◌, ℕ, Option, None, Some, length, sym, arith}
+use Rattle.std.specs.Prelude.{IfOk, is_some}
+use Rattle.gs_model.specs.{Classes.{ClassLists, list_of}, Frame.{Frame, frame_of}}
 use Rattle.gs_model.proofs.Walked.{last_round_of}
 use Rattle.gs_tree.specs.Trees.{rules_of}
-use Rattle.gs_lossless.specs.{Amounts.{HaveEqualAmounts, AreAmounts}, Scans.{StandFor, StoredBelow}, declared.parts.Part.{Part}}
-use Rattle.gs_lossless.proofs.{Descent.{list_long}, SideOf.{as_asked}}
-use Rattle.gs_lossless.proofs.Scanned.{agree_more, agree_self, side_in, stored_first, stored_later, stored_single, stood_agrees, stood_later}
-use Rattle.gs_lossless.proofs.Settled.{first_le, agree_if_same, same_if_agree, single_agrees}
-use Rattle.gs_lossless.proofs.scan.first_apart.Goals.{After-first, Start, In_ok-firsts, In_ok-sums, then-first-signal, else-first-signal+else-not-are_same}
+use Rattle.gs_lossless.specs.{Scans.{IsFirstApart}, declared.sides.Side.{Side}}
+use Rattle.gs_lossless.proofs.{Descent.{list_long}, SideOf.{as_asked}, Scanned.{side_in}, Settled.{single_agrees}}
 use Rattle.gs_lossless.proofs.scan.first_apart.Goals as goal
-
--- the list of the round has a class for each signal, and numbers them as they are first seen
-module _ (c : Start) where
-  long : let g = rules_of c.args.grouped.now.signals.now in length (list_of c.args.grouped.now.classes.now.lists c.args.round) ≡ length (signals g c.args.round)
-  long =
-      let g = rules_of c.args.grouped.now.signals.now in
-      let h = side_in (frame_of g) c.args.side c.args.round c.requires.side in
-      list_long g c.args.grouped.now.classes.now c.args.grouped.now.parents c.args.round h.0 (omega (arith, h.1, last_round_of g))
-
-  numbered : IsNumbered (list_of c.args.grouped.now.classes.now.lists c.args.round)
-  numbered =
-      let h = side_in (frame_of (rules_of c.args.grouped.now.signals.now)) c.args.side c.args.round c.requires.side in
-      c.args.grouped.now.classes.now.classes.numbered c.args.round h.0 (omega (arith, h.1, ap (λ (ps : List (List ℕ)). length ps) c.args.grouped.now.parents))
-
-pub class_of-class-requires-clause-within : goal.class_of-class-requires-clause-within
-class_of-class-requires-clause-within c = omega (arith, long (goal.at.class_of-class-requires-clause-within c).Start, c.requires.within)
 
 pub returns-then-are_alone : goal.returns-then-are_alone
 returns-then-are_alone c =
-    let lists = c.args.grouped.now.classes.now.lists in
-    λ s l. let within : s < length (list_of lists c.args.round) = omega (arith, long (goal.at.returns-then-are_alone c).Start, l, c.requires.within) in
-    single_agrees (frame_of (rules_of c.args.grouped.now.signals.now)) lists c.args.side c.args.round s within
+    let g = rules_of c.args.grouped.now.signals.now in
+    let classes = c.args.grouped.now.classes.now in
+    let h = side_in (frame_of g) c.args.side c.args.round c.requires.side in
+    let long = list_long g classes c.args.grouped.now.parents c.args.round h.0 (omega (arith, h.1, last_round_of g)) in
+    λ s l. let within : s < length (list_of classes.lists c.args.round) = omega (arith, long, l, c.requires.within) in
+    single_agrees (frame_of g) classes.lists c.args.side c.args.round s within
     (c.are_alone.ensures c.if-are_alone.true s within)
 
-pub stand_ins_at-requires : goal.stand_ins_at-requires
-stand_ins_at-requires c =
+-- a first signal that differs is the same of more signals
+of_more : (f : Frame) (lists : ClassLists) (side : Side) (round few end : ℕ) (o : Option ℕ) → few ≤ end → is_some o ≡ true
+    → IsFirstApart f lists side round few o → IsFirstApart f lists side round end o
+of_more f lists side round few end None l e is = absurd (true≢false (sym e))
+of_more f lists side round few end (Some s) l e is = (omega (arith, is.0, l), is.1, is.2)
+
+pub returns-then-is_some : goal.returns-then-is_some
+returns-then-is_some c =
     let at = c.in_ok-at.ensures in
-    as_asked (λ s k a m. StandFor (frame_of (rules_of s)) k.lists a m c.loop-signal.firsts.items) (sym at.signals) (sym at.classes)
-    (sym at.side.0, sym at.side.1) c.loop-signal.invariant.stand
+    let o = c.in_ok-apart.apart in
+    let few = c.in_ok-at.at in
+    as_asked (λ s k a m. IsFirstApart (frame_of (rules_of s)) k.lists a m c.args.end o) at.signals at.classes at.side
+    (of_more (frame_of (rules_of few.signals.now)) few.classes.now.lists few.side few.round 64 c.args.end o (omega (arith, c.if-end-ge-MANY.true))
+    (sym c.is_some.ensures ∙ c.if-is_some.true) c.in_ok-apart.ensures)
 
--- what is listed stands for signals, whether it was listed before or is only now
-standing : (c : In_ok-firsts) → StandFor (frame_of (rules_of c.args.grouped.now.signals.now)) c.args.grouped.now.classes.now.lists c.args.side c.args.round
-    c.in_ok-firsts.firsts.items
-standing c =
+pub returns : goal.returns
+returns c =
     let at = c.in_ok-at.ensures in
-    as_asked (λ s k a m. StandFor (frame_of (rules_of s)) k.lists a m c.in_ok-firsts.firsts.items) at.signals at.classes at.side c.in_ok-firsts.ensures
-
-pub sums-requires : goal.sums-requires
-sums-requires c =
-    let at = c.in_ok-at.ensures in
-    as_asked (λ s k a m. c.loop-signal.signal < length (signals (rules_of s) m)) (sym at.signals) (sym at.classes) (sym at.side.0, sym at.side.1)
-    (omega (arith, c.loop-signal-test.true, c.requires.within))
-
--- the sums of the signal
-here : (c : In_ok-sums) → AreAmounts (frame_of (rules_of c.args.grouped.now.signals.now)) c.args.grouped.now.classes.now.lists c.args.side c.args.round
-    c.loop-signal.signal c.in_ok-sums.sums.items
-here c =
-    let at = c.in_ok-at.ensures in
-    as_asked (λ s k a m. AreAmounts (frame_of (rules_of s)) k.lists a m c.loop-signal.signal c.in_ok-sums.sums.items) at.signals at.classes at.side
-    c.in_ok-sums.ensures
-
-pub loop-signal-preserved-then-has_earlier : goal.loop-signal-preserved-then-has_earlier
-loop-signal-preserved-then-has_earlier c =
-    let w = goal.at.loop-signal-preserved-then-has_earlier c in
-    let f = frame_of (rules_of c.args.grouped.now.signals.now) in
-    let lists = c.args.grouped.now.classes.now.lists in
-    let signal = c.loop-signal.signal in
-    let firsts = c.in_ok-firsts.firsts.items in
-    let n = numbered w.Start in
-    let found = subst (λ (xs : List ℕ). (signal < length xs) × (get_or xs signal 0 < signal)) c.deref.ensures.value
-    (c.has_earlier.ensures c.if-has_earlier.true) in
-    let stand = standing w.In_ok-firsts (omega (arith, found.0)) in
-    record {
-      long = c.loop-signal.invariant.long;
-      stored = stored_later f lists c.args.side c.args.round signal c.loop-signal.kept.items n c.loop-signal.invariant.stored
-          (stood_later f lists c.args.side c.args.round signal firsts stand found.0 found.1);
-      stand = standing w.In_ok-firsts;
-      agree = agree_more f lists c.args.side c.args.round signal c.loop-signal.invariant.agree
-          (stood_agrees f lists c.args.side c.args.round signal firsts stand found.0 found.1 c.loop-signal.invariant.agree);
-    }
-
-pub loop-signal-preserved-then-size-eq1 : goal.loop-signal-preserved-then-size-eq1
-loop-signal-preserved-then-size-eq1 c =
-    let w = goal.at.loop-signal-preserved-then-size-eq1 c in
-    let f = frame_of (rules_of c.args.grouped.now.signals.now) in
-    let lists = c.args.grouped.now.classes.now.lists in
-    let one : class_size lists c.args.round (class_of lists c.args.round c.loop-signal.signal) ≡ 1 =
-    ap (class_size lists c.args.round) (sym c.class_of-class.ensures.value) ∙ sym c.size.ensures ∙ c.if-size-eq1.true in
-    record {
-      long = c.loop-signal.invariant.long;
-      stored = stored_single f lists c.args.side c.args.round c.loop-signal.signal c.loop-signal.kept.items
-          (numbered w.Start) c.loop-signal.invariant.stored one;
-      stand = standing w.In_ok-firsts;
-      agree = agree_more f lists c.args.side c.args.round c.loop-signal.signal c.loop-signal.invariant.agree
-          (single_agrees f lists c.args.side c.args.round c.loop-signal.signal (omega (arith, long w.Start, c.requires.within)) one);
-    }
-
--- the first member of the class stands before another one, and its sums are kept
-earlier : (c : After-first) → c.first.result ≢ c.loop-signal.signal → (d : Vec Part Global)
-    → AreAmounts (frame_of (rules_of c.args.grouped.now.signals.now)) c.args.grouped.now.classes.now.lists c.args.side c.args.round
-    (first_member c.args.grouped.now.classes.now.lists c.args.round c.class_of-class.result)
-    (get_or c.loop-signal.kept.items (c.class_of-class.result - 1) d).items
-earlier c other d =
-    let lists = c.args.grouped.now.classes.now.lists in
-    let le = first_le lists c.args.round c.loop-signal.signal in
-    let own = ap (first_member lists c.args.round) c.class_of-class.ensures.value in
-    c.loop-signal.invariant.stored c.class_of-class.result d c.class_of-class.ensures.class.0 c.class_of-class.ensures.class.1
-    (omega (arith, le, own, c.first.ensures.value, other))
-    (λ one. c.if-size-eq1.false (c.size.ensures ∙ one))
-
-pub returns-then-not-are_same : goal.returns-then-not-are_same
-returns-then-not-are_same c =
-    let f = frame_of (rules_of c.args.grouped.now.signals.now) in
-    let lists = c.args.grouped.now.classes.now.lists in
-    let kept = get_or c.loop-signal.kept.items (c.class_of-class.result - 1) c.index.result.now in
-    let sums = c.in_ok-sums.sums in
-    let w = goal.at.returns-then-not-are_same c in
-    let first = earlier w.After-first c.if-first-signal.false c.index.result.now in
-    let no : c.are_same.result ≡ false = search rules in (
-      c.loop-signal-test.true,
-      c.loop-signal.invariant.agree,
-      (λ a.
-          let own = subst (λ (x : ℕ). HaveEqualAmounts f lists c.args.side c.args.round (first_member lists c.args.round x) c.loop-signal.signal)
-          (sym c.class_of-class.ensures.value) a in
-          let items = same_if_agree f lists c.args.side c.args.round (first_member lists c.args.round c.class_of-class.result) c.loop-signal.signal kept.items
-          sums.items first (here w.In_ok-sums) own in
-          let same = c.deref-else-first-signal.ensures.value ∙ ap (λ (v : Vec Part Global). v.items) c.index.ensures ∙ items
-          ∙ sym c.deref-else-first-signal-2.ensures.value in
-          true≢false (sym (c.are_same.ensures.1 same) ∙ no)),
-    )
-
-pub loop-signal-preserved : goal.loop-signal-preserved
-loop-signal-preserved c =
-    let at = goal.at.loop-signal-preserved c in
-    let f = frame_of (rules_of c.args.grouped.now.signals.now) in
-    let lists = c.args.grouped.now.classes.now.lists in
-    let side = c.args.side in
-    let round = c.args.round in
-    let signal = c.loop-signal.signal in
-    let kept = c.loop-signal.kept.items in
-    let class = c.class_of-class.result in
-    let sums = c.in_ok-sums.sums in
-    let n = numbered at.Start in
-    let is = c.class_of-class.ensures.value in
-    let in_class = c.class_of-class.ensures.class in
-    let mine = here at.In_ok-sums in
-    elim c.if-first-signal.branch [
-      | then-first-signal w ↦
-          let items = ap (λ (v : Vec (Vec Part Global) Global). v.items) w.kept-is in
-          let own : first_member lists round (class_of lists round signal) ≡ signal = ap (first_member lists round) (sym is) ∙ sym c.first.ensures.value
-          ∙ w.if-first-signal.true in
-          let fit = w.shrink_to_fit.new.self in
-          let put : set kept (class - 1) fit ≡ set kept (class_of lists round signal - 1) fit = ap (λ (j : ℕ). set kept (j - 1) fit) is in
-          let shrunk = subst (AreAmounts f lists side round signal) (sym w.shrink_to_fit.ensures.items) mine in
-          record {
-            long = ap (λ (v : List (Vec Part Global)). length v) items ∙ length-set kept (class - 1) fit ∙ c.loop-signal.invariant.long;
-            stored = subst (StoredBelow f lists side round (signal + 1)) (sym (items ∙ put))
-                (stored_first f lists side round signal kept n c.loop-signal.invariant.stored fit
-                (omega (arith, is, in_class.0, in_class.1, c.loop-signal.invariant.long)) (omega (arith, is, in_class.0)) own shrunk);
-            stand = standing at.In_ok-firsts;
-            agree = agree_more f lists side round signal c.loop-signal.invariant.agree (agree_self f lists side round signal own);
-          }
-      | else-first-signal+else-not-are_same w ↦
-          let items = ap (λ (v : Vec (Vec Part Global) Global). v.items) w.kept-is in
-          let d = w.index.result.now in
-          let later : first_member lists round (class_of lists round signal) ≡ signal
-          → ⊥ = λ q. w.if-first-signal.false (c.first.ensures.value ∙ ap (first_member lists round) is ∙ q) in
-          let first = earlier at.After-first w.if-first-signal.false d in
-          let yes : w.are_same.result ≡ true = search rules in
-          let same = ap (λ (v : Vec Part Global). v.items) (sym w.index.ensures) ∙ sym w.deref-else-first-signal.ensures.value ∙ w.are_same.ensures.0 yes
-          ∙ w.deref-else-first-signal-2.ensures.value in
-          let agrees = agree_if_same f lists side round (first_member lists round class) signal (get_or kept (class - 1) d).items sums.items first mine same in
-          record {
-            long = ap (λ (v : List (Vec Part Global)). length v) items ∙ c.loop-signal.invariant.long;
-            stored = subst (StoredBelow f lists side round (signal + 1)) (sym items)
-                (stored_later f lists side round signal kept n c.loop-signal.invariant.stored later);
-            stand = standing at.In_ok-firsts;
-            agree = agree_more f lists side round signal c.loop-signal.invariant.agree
-                (subst (λ (x : ℕ). HaveEqualAmounts f lists side round (first_member lists round x) signal) is agrees);
-          }
-    ]
+    let late = c.in_ok-at-2.ensures in
+    as_asked (λ s k a m. IfOk c.apart_before-2.result (IsFirstApart (frame_of (rules_of s)) k.lists a m c.args.end)) (late.signals ∙ at.signals)
+    (late.classes ∙ at.classes) (late.side.0 ∙ at.side.0, late.side.1 ∙ at.side.1) c.apart_before-2.ensures

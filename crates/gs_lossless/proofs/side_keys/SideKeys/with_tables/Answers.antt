@@ -1,0 +1,19 @@
+use Rattle.std.proofs.Common.{◌∙◌, ℕ, List, ap, length, subst}
+use Rattle.std.specs.List.{All}
+use Rattle.gs_tree.specs.Trees.{rules_of}
+use Rattle.gs_lossless.specs.Rivals.{IsRivalTable}
+use Rattle.gs_lossless.proofs.SideOf.{many_last}
+use Rattle.gs_lossless.proofs.side_keys.SideKeys.with_tables.Goals as goal
+
+pub tables_in-requires : goal.tables_in-requires
+tables_in-requires c last = ap (λ (l : List ℕ). length l) c.deref.ensures.value ∙ many_last c.args.self last
+
+pub invariant_of-result : goal.invariant_of-result
+invariant_of-result c = record {
+  has = c.args.self.has;
+  are = c.args.self.are;
+  last = c.in_ok-tables.ensures.last;
+  each = subst (λ (keys : List ℕ). All (IsRivalTable (rules_of c.args.self.signals.now) keys) c.in_ok-tables.tables.items) c.deref.ensures.value
+      c.in_ok-tables.ensures.each;
+  parents = c.args.self.parents;
+}
