@@ -1,20 +1,18 @@
 -- The row of a class from the rows of the next round: what the pairs of the classes below it add up to.
-use Rattle.std.proofs.Common.{⊎_elim, set, append-nil, ◌≡◌, ◌≢◌, ℕ, ℤ, pos, zero, suc, ◌+◌, ◌-◌, ◌<◌, ◌≤◌, Bool, true, false, true≢false, cond, not, List, []}
+use Rattle.std.proofs.Common.{⊎_elim, set, append-nil, ◌≡◌, ◌≢◌, ℕ, ℤ, pos, zero, suc, ◌+◌, ◌-◌, ◌<◌, ◌≤◌, Bool, true, false, cond, not, List, []}
 use Rattle.std.proofs.Common.{◌∷◌, ◌++◌, length, get_or, map, refl, sym, ap, ◌∙◌, subst, arith, sum_by, eqb, Vec, IsPermutation}
-use Rattle.std.proofs.{Math.IntN.{*ℤ-zero}, lemmas.Bool.{cases_eq}, lemmas.Bool.Decides.{Decides-eqb}, lemmas.Cmp.{ranked}, lemmas.Int.{ints}}
+use Rattle.std.proofs.{Math.IntN.{*ℤ-zero}, lemmas.Bool.{cases_eq}, lemmas.Bool.Decides.{Decides-eqb}, lemmas.Int.{ints}}
 use Rattle.std.proofs.{lemmas.List.{get_or-set_other, get_or-set_same, length-set}, lemmas.List.Elements.{All-filter, All-from_recursion, recursion_from_All}}
 use Rattle.std.proofs.lemmas.List.FromFn.{filter_of_map_range_with_len_more, get_or-range_with_len, length-range_with_len}
 use Rattle.std.proofs.{lemmas.List.Filters.{sum_by-filter_both}, lemmas.List.Sorted.{All-permutation, sum_by-IsPermutation}}
 use Rattle.std.proofs.lemmas.List.Sums.{sum_by-append, sum_by-cons}
-use Rattle.std.specs.{Prelude.{◌==◌, ◌*ℤ◌, All, filter, flat_map}, List.{AllByRecursion, range_with_len}, List.Sorted.{IsSortedBy}}
-use Rattle.std.specs.{Ordering.{int_cmp, is_lt, nat_cmp, ordering_then}, declared.alloc.Global.{Global}, declared.cmp.Ordering.{Ordering}}
-use Rattle.std.specs.declared.cmp.Ordering.TheVariants.{Less, Equal, Greater}
+use Rattle.std.specs.{Prelude.{◌==◌, ◌*ℤ◌, All, filter, flat_map}, List.{AllByRecursion, range_with_len}, List.Sorted.{IsNonDecreasingBy}}
+use Rattle.std.specs.declared.alloc.Global.{Global}
 use borrow.Author.Differences.{product_is}
 use Rattle.gs_filter.specs.Filter.{Filter, IsParentClass}
 use Rattle.gs_filter.proofs.TallyLaws.{first_in, first_member_of}
 use Rattle.gs_game.specs.declared.valid.ValidGame.{ValidGame}
 use Rattle.gs_lossless.specs.declared.parts.Part.{Part}
-use Rattle.gs_lossless.proofs.Merge.{part_lt}
 use Rattle.gs_model.specs.{Classes.{IsClass, IsClasses, class_count, class_of, first_member, list_of}, Deals.{Deal}}
 use Rattle.gs_model.specs.{Frame.{ancestor, at_round, last_round, signal_count}, Pairs.{pair_sum}}
 use Rattle.gs_model.proofs.{Gather.{class_in, firsts_from}, Regroup.{sum_z-pos}, Total.{sum_z-same}}
@@ -32,25 +30,10 @@ IsWeak [] = Unit {0}
 IsWeak (p ∷ []) = Unit {0}
 IsWeak (p ∷ q ∷ ps) = (p.class ≤ q.class) × IsWeak (q ∷ ps)
 
-not_below : (p q : Part) → part_lt q p ≡ false → p.class ≤ q.class
-not_below p q e = by (nat_cmp q.class p.class) refl
-  where
-    by : (r : Ordering) → nat_cmp q.class p.class ≡ r → p.class ≤ q.class
-    by Less i =
-        let g : part_lt q p ≡ true = ap (λ r. is_lt (ordering_then r (ordering_then (int_cmp q.outcome p.outcome) (nat_cmp q.weight p.weight)))) i in
-        absurd (true≢false (sym g ∙ e))
-    by Equal i = let l = ranked q.class p.class Equal (sym i) in omega (arith, l)
-    by Greater i = let l = ranked q.class p.class Greater (sym i) in omega (arith, l)
-
-sorted_weak : (ps : List Part) → IsSortedBy part_lt ps → IsWeak ps
+sorted_weak : (ps : List Part) → IsNonDecreasingBy (λ (p : Part). p.class) ps → IsWeak ps
 sorted_weak [] s = tt
 sorted_weak (p ∷ []) s = tt
-sorted_weak (p ∷ q ∷ ps) s = (
-  not_below p q (s 0 p (omega arith) (omega arith)),
-  sorted_weak (q ∷ ps) (λ k d l m.
-      let e : suc k + 1 ≡ suc (k + 1) = omega arith in
-      subst (λ j. part_lt (get_or (p ∷ q ∷ ps) j d) (get_or (p ∷ q ∷ ps) (suc k) d) ≡ false) e (s (suc k) d (omega arith) (omega arith))),
-)
+sorted_weak (p ∷ q ∷ ps) s = (s 0 1 p (omega arith) (omega arith), sorted_weak (q ∷ ps) (λ i j d l m. s (suc i) (suc j) d (omega arith) (omega arith)))
 
 lower : (c d : ℕ) (row : List Pair) → c ≤ d → StartsFrom d row → StartsFrom c row
 lower c d [] l h = tt
@@ -385,7 +368,7 @@ module _ (g : ValidGame) (c : Filter) (e : c.parents ≡ (frame_in g).parents) (
           )
 
       -- and gathered in order they are the class's row
-      pub row_from : IsSortedBy part_lt sorted → IsRow (frame_in g) c.lists round class (gathered 1 sorted)
+      pub row_from : IsNonDecreasingBy (λ (p : Part). p.class) sorted → IsRow (frame_in g) c.lists round class (gathered 1 sorted)
       row_from o = record {
         rises = by_index (gathered 1 sorted) (rises_weak sorted (sorted_weak sorted o) plain_sorted);
         weights = λ q.

@@ -94,7 +94,7 @@ fn row_above(
 {
     let classes = lossless.classes();
     let mut parts = parts_above(alloc, classes, round, below, rows)?;
-    parts.sort_unstable();
+    parts.sort_unstable_by_key(|part| part.class);
     row_of(alloc, &parts, 1)
 }
 

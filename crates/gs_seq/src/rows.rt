@@ -98,6 +98,7 @@ pub(crate) fn row_of(alloc: Global, sums: &[Part], members: u64) -> Result<Vec<P
     for part in sums {
         add(&mut row, pair_from(*part, members))?;
     }
+    row.shrink_to_fit();
     Ok(row)
 }
 

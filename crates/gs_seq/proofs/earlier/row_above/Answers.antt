@@ -1,4 +1,5 @@
-use Rattle.std.proofs.Common.{◌≡◌, ◌+◌, All, get_or, sym, ap, ◌∙◌, subst, arith, map, sum_by}
+use Rattle.std.proofs.Common.{◌≡◌, ◌+◌, All, get_or, sym, ap, ◌∙◌, subst, arith, map, rules, sum_by}
+use Rattle.std.proofs.lemmas.List.Sorted.{IsNonDecreasingBy-from_sort_by_key}
 use Rattle.std.specs.Prelude.{flat_map}
 use Rattle.gs_filter.specs.Filter.{Filter}
 use Rattle.gs_lossless.proofs.Settled.{if_ok}
@@ -45,10 +46,10 @@ parts_above-requires-clause-below c =
 pub row_of-requires : goal.row_of-requires
 row_of-requires c =
     let at = goal.at.row_of-requires c in
-    let sorted = c.sort_unstable.new.self.items in
+    let sorted = c.sort_unstable_by_key.new.self.items in
     let few = parts_fit c.args.lossless.now.signals.now.game.now c.args.lossless.now.classes.now (parents at.After-classes-classes) c.args.round c.requires.some
     c.requires.before_last c.args.rows.now
-    c.requires.rows c.args.class c.in_ok-parts.parts.items sorted (parts_are at.In_ok-parts) c.sort_unstable.ensures.permutation in
+    c.requires.rows c.args.class c.in_ok-parts.parts.items sorted (parts_are at.In_ok-parts) c.sort_unstable_by_key.ensures.permutation in
     omega (arith, few, ap (sum_by (λ (p : Part). p.weight)) c.deref.ensures.value)
 
 pub returns : goal.returns
@@ -56,9 +57,10 @@ returns c =
     let at = goal.at.returns c in
     let g = c.args.lossless.now.signals.now.game.now in
     let f = c.args.lossless.now.classes.now in
-    let sorted = c.sort_unstable.new.self.items in
+    let sorted = c.sort_unstable_by_key.new.self.items in
     let row = row_from g f (parents at.After-classes-classes) c.args.round c.requires.some c.requires.before_last c.args.rows.now c.requires.rows c.args.class
     c.in_ok-parts.parts.items sorted
-    (parts_are at.In_ok-parts) c.sort_unstable.ensures.permutation c.sort_unstable.ensures.sorted in
+    (parts_are at.In_ok-parts) c.sort_unstable_by_key.ensures.permutation
+    (IsNonDecreasingBy-from_sort_by_key (λ (p : Part). p.class) _ c.sort_unstable_by_key.ensures.sorted (λ a r q k. search rules)) in
     if_ok c.row_of.result (λ v. v.items ≡ gathered 1 c.deref.result.now) (λ v. IsRow (frame_in g) f.lists c.args.round c.args.class v.items)
     (λ v e. subst (IsRow (frame_in g) f.lists c.args.round c.args.class) (sym (e ∙ ap (gathered 1) c.deref.ensures.value)) row) c.row_of.ensures
