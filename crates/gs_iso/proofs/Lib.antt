@@ -11,3 +11,4 @@ pub mod Paired
 pub mod Alike
 pub mod Light
 pub mod Becoming
+pub mod Handed

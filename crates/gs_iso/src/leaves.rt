@@ -5,9 +5,9 @@ ghost use Rattle.gs_model.specs.{Game.{round_count}, Signals.{signal_at}, ViewTr
 ghost use Rattle.gs_tree.specs.{Trees.{rules_of}, Walk.{last_count}};
 ghost use Rattle.gs_iso.specs.{Orders.{leaf_mark, leaf_of}, Numbers.{IsLeafSignature, IsNumbering}};
 
+use crate::hands::stand_ins_at;
 use crate::nodes::Leaf;
 use crate::numbers::number_of_list;
-use gs_lossless::stand_ins;
 use gs_tree::{Deal, Deals, Signals};
 use indexmap::IndexSet;
 use std::alloc::{AllocError, Global};
@@ -87,7 +87,7 @@ pub(crate) fn leaf_numbers(alloc: Global, signals: &Signals) -> Result<Vec<u32>,
 {
     let count = signals.count(signals.rounds());
     let keys = vec![in alloc; 0; count as usize]?;
-    let mut numbers = stand_ins(alloc, signals, &keys)?;
+    let mut numbers = stand_ins_at(alloc, signals, &keys)?;
     let mut seen = IndexSet::new(alloc);
     let mut signature = Vec::new(alloc);
     for signal in 0..count {

@@ -4,6 +4,7 @@
 mod children;
 mod classes;
 mod equals;
+mod hands;
 mod leaves;
 mod nodes;
 mod numbers;

@@ -72,7 +72,7 @@ impl<'g> Signals<'g> {
     ghost use Rattle.gs_model.specs.Game.{round_count};
     ghost use Rattle.gs_model.specs.Signals.{signals, parents as parents_in, signal_at, child_count, first_child, last_edge, left_by, own_cards, public_cards};
     ghost use Rattle.gs_model.specs.{ViewTree.{signal_strength}, Deals.{Deal as Dealt, deals, own_ways, path_weight}};
-    ghost use Rattle.gs_tree.specs.{Boards.{AreBoards}, Trees.{rules_of, deck_of}, Walk.{deal_at, last_count, shows_same, IsNextPair, IsRowStart}};
+    ghost use Rattle.gs_tree.specs.{Boards.{AreBoards}, Masks.{AreMasks}, Trees.{rules_of, deck_of}, Walk.{deal_at, last_count, shows_same, IsNextPair, IsRowStart}};
     ghost use Rattle.gs_tree.specs.Texts.{signal_text};
     ghost use Rattle.gs_card.specs.Decks.{IsDeck};
 
@@ -215,6 +215,16 @@ impl<'g> Signals<'g> {
         ensures { AreBoards (rules_of self.now) result.0.now result.1.now }
     {
         (&self.boards.firsts, &self.boards.nexts)
+    }
+
+    /// Returns the own cards of each last-round signal as bits, if no kind of card has more than one copy and each player is dealt more than one private card.
+    pub fn masks(&self) -> Option<&[u64]>
+        ensures { IfSome result (λ masks. AreMasks (rules_of self.now) masks.now) }
+    {
+        match &self.masks {
+            Some(masks) => Some(masks.as_slice()),
+            None => None,
+        }
     }
 
     /// Returns whether no kind of card has more than one copy and each player is dealt one private card.
