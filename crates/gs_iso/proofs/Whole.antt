@@ -5,8 +5,6 @@ use Rattle.std.specs.List.{range_with_len}
 use Rattle.gs_model.specs.{Classes.{ClassLists, IsClasses, IsFilter, class_of, list_of}, Game.{Game, round_count}, SignalClasses.{IsSignalClasses, SameClass}}
 use Rattle.gs_model.specs.Signals.{parents, signal_at}
 use Rattle.gs_model.proofs.{Ranges.{length-parents}, Extends.{before_last, parents_below}}
-use Rattle.gs_filter.specs.Filter.{AreParents}
-use Rattle.gs_game.specs.Limits.{IsWithinLimits}
 
 -- for each round the parents of its signals
 abbrev pub all_parents : Game → List (List ℕ)
@@ -17,30 +15,6 @@ parents_long g = length-map-range_with_len (parents g) 1 (round_count g)
 
 pub parents_at : (g : Game) (round : ℕ) → 0 < round → round ≤ round_count g → list_of (all_parents g) round ≡ parents g round
 parents_at g round some le = get_or-map-range_with_len (parents g) 1 (round_count g) (round - 1) round [] (omega (arith, some, le)) (omega (arith, some))
-
-pub are_parents : (g : Game) → IsWithinLimits g → AreParents (all_parents g)
-are_parents g h = record {
-  few = omega (arith, parents_long g, h.few_rounds);
-  short = λ round some le.
-      let n = parents_long g in
-      let e = ap length (parents_at g round some (omega (arith, le, n))) in
-      let s = h.signals_in round (omega (arith, le, n)) in
-      let p = length-parents g round in
-      omega (arith, e, s, p);
-  in_range = λ round s some le l.
-      let n = parents_long g in
-      let j = round - 1 in
-      let i : suc j ≡ round = omega (arith, some) in
-      let here : list_of (all_parents g) round ≡ parents g (suc j) = parents_at g round (omega (arith, some)) (omega (arith, le, n))
-      ∙ ap (parents g) (sym i) in
-      let above : list_of (all_parents g) j ≡ parents g j = parents_at g j (omega (arith, some)) (omega (arith, le, n, some)) in
-      let e = ap length here in
-      let f = ap length above in
-      let r = ap (λ (l : List ℕ). get_or l s 0) here in
-      let b = parents_below g j s 0 (omega (arith, l, e)) in
-      let p = length-parents g j in
-      omega (arith, r, b, f, p);
-}
 
 pub are_classes : (g : Game) (lists : ClassLists) → IsSignalClasses g lists → IsClasses (all_parents g) lists
 are_classes g lists h =
