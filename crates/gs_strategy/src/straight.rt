@@ -23,9 +23,12 @@ fn behind<'b>(bytes: &'b [u8], front: &[u8]) -> Result<&'b [u8], StoreFault> {
     }
 }
 
-/// Returns numbers with commas between them, and the bytes from the first other byte on.
+/// Returns numbers with commas between them, or none before a closing bracket, and the bytes from the first other byte on.
 fn numbers_in(alloc: Global, bytes: &[u8]) -> Result<(Vec<u64>, &[u8]), StoreFault> {
     let mut numbers = Vec::new(alloc);
+    if bytes.starts_with(b"]") {
+        return Ok((numbers, bytes));
+    }
     let mut number: u64 = 0;
     for (i, b) in bytes.iter().enumerate() {
         match *b {
