@@ -1,10 +1,12 @@
 -- Lists that grow by what the members of another list give.
-use Rattle.std.proofs.Common.{◌≡◌, ℕ, ◌+◌, ◌*◌, ◌<◌, List, [], ◌∷◌, ◌++◌, length, map, take, get_or, refl, sym, ap, ◌∙◌, append_assoc}
+use Rattle.std.proofs.Common.{◌≡◌, ℕ, ◌+◌, ◌*◌, ◌<◌, List, [], ◌∷◌, ◌++◌, length, map, take, get_or, refl, sym, ap, ◌∙◌, append-nil, append_assoc}
 use Rattle.std.proofs.lemmas.List.{take_more, map-append, flat_map_more}
 use Rattle.std.specs.Prelude.{flat_map}
-use Rattle.gs_model.specs.{Cards.{groups, ways, left_after}, Signals.{edge}}
+use Rattle.gs_model.specs.{Cards.{groups, ways, left_after}, Game.{Round}, Signals.{edge, showings}}
 use Rattle.gs_model.proofs.Basics.{map-map}
+use Rattle.gs_card.proofs.TakenCards.{ways-none}
 use Rattle.gs_tree.specs.Layers.{showing}
+use Rattle.gs_tree.proofs.Taken.{taken_none}
 
 -- one more member
 pub mapped_more : {X Y : Type 0} (f : X → Y) (start now : List Y) (xs : List X) (i : ℕ) (d : X) (y : Y) → i < length xs → now ≡ start ++ map f (take i xs)
@@ -31,3 +33,18 @@ edges_of left size (own ∷ owns) =
     ∙ ap (λ l. l ++ map (edge left) (flat_map (λ o. map (showing o) (groups (left_after left o) size)) owns))
     (map-map (edge left) (showing own) (groups (left_after left own) size))
     ∙ ap (λ l. map (λ g. ways left own * ways (left_after left own) g) (groups (left_after left own) size) ++ l) (edges_of left size owns)
+
+-- what a round shows that deals no own cards
+pub shown_alone : (left : List ℕ) (r : Round) → r.private ≡ 0 → showings left r ≡ map (showing []) (groups left r.public)
+shown_alone left r e =
+    ap (λ n. flat_map (λ own. map (showing own) (groups (left_after left own) r.public)) (groups left n)) e
+    ∙ append-nil (map (showing []) (groups (left_after left []) r.public))
+    ∙ ap (λ l. map (showing []) (groups l r.public)) (taken_none left)
+
+-- the edges of all that it shows
+pub edges_alone : (left : List ℕ) (r : Round) → r.private ≡ 0 → map (edge left) (showings left r) ≡ map (λ g. 1 * ways left g) (groups left r.public)
+edges_alone left r e =
+    ap (map (edge left)) (shown_alone left r e)
+    ∙ map-map (edge left) (showing []) (groups left r.public)
+    ∙ ap (λ n. map (λ g. n * ways (left_after left []) g) (groups left r.public)) (ways-none left)
+    ∙ ap (λ l. map (λ g. 1 * ways l g) (groups left r.public)) (taken_none left)

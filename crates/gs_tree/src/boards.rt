@@ -74,11 +74,15 @@ fn code(kinds: usize, cards: &[Card]) -> usize
     requires of_deck { All (λ card. card < kinds) cards.now }
     ensures { result ≡ code_behind kinds 0 cards.now }
 {
-    let mut code = 0;
-    for card in cards {
-        code = code * kinds + usize::from(card.number());
+    match cards {
+        [] => 0,
+        [a] => usize::from(a.number()),
+        [a, b] => usize::from(a.number()) * kinds + usize::from(b.number()),
+        [a, b, c, ..] => {
+            let front = usize::from(a.number()) * kinds + usize::from(b.number());
+            front * kinds + usize::from(c.number())
+        }
     }
-    code
 }
 
 /// Returns the number of the public cards that a last-round signal shows.

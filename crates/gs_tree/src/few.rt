@@ -30,6 +30,16 @@ impl FewCards {
         }
     }
 
+    /// Returns no cards.
+    pub(crate) fn none() -> FewCards
+        ensures { cards_of result ≡ [] }
+    {
+        FewCards {
+            cards: [Card::new(0); 3],
+            len: 0,
+        }
+    }
+
     /// Returns a group of one card.
     pub(crate) fn one(card: Card) -> FewCards
         ensures { cards_of result ≡ card ∷ [] }

@@ -62,22 +62,16 @@ fn take_copy(rest: &mut Vec<u8>, kind: usize)
     }
 }
 
-/// Returns the copies left once cards are taken. Fails only if memory runs out.
-pub(crate) fn left_without(
-    alloc: Global,
-    left: &[u8],
-    cards: &[Card],
-) -> Result<Vec<u8>, AllocError>
-    requires { All (λ copies. copies ≤ 9) left.now }
-    ensures value { IfOk result (λ rest. rest.items ≡ left_after left.now cards.now) }
-    ensures few { IfOk result (λ rest. All (λ copies. copies ≤ 9) rest.items) }
-    ensures len { IfOk result (λ rest. length rest.items ≡ length left.now) }
+/// Takes one copy of the kind of each of these cards, if one is left.
+pub(crate) fn take_cards(rest: &mut Vec<u8>, cards: &[Card])
+    requires { All (λ copies. copies ≤ 9) rest.old.items }
+    ensures value { rest.new.items ≡ left_after rest.old.items cards.now }
+    ensures few { All (λ copies. copies ≤ 9) rest.new.items }
+    ensures len { length rest.new.items ≡ length rest.old.items }
 {
-    let mut rest = Vec::from_slice(alloc, left)?;
     for card in cards {
-        take_copy(&mut rest, usize::from(card.number()));
+        take_copy(rest, usize::from(card.number()));
     }
-    Ok(rest)
 }
 
 /// What the signals of one round add to their parents, in order: the groups that they show, and the number of ways to take these.
@@ -189,8 +183,12 @@ pub(crate) fn push_showings(
     ensures firsts { layer.new.firsts.items ≡ layer.old.firsts.items }
     ensures edges { OnOk result (layer.new.edges ≡ layer.old.edges ++ map (edge left.now) (showings left.now (round_rules round.now))) }
 {
+    if round.private == 0 {
+        return push_publics(alloc, deck, left, FewCards::none(), 1, round.public, layer);
+    }
     for own in &deck.groups(alloc, left, round.private)? {
-        let rest = left_without(alloc, left, own.cards())?;
+        let mut rest = Vec::from_slice(alloc, left)?;
+        take_cards(&mut rest, own.cards());
         let own_ways = few_ways(left, own);
         push_publics(
             alloc,

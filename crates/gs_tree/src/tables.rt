@@ -7,7 +7,7 @@ ghost use Rattle.gs_model.specs.{Signals.{parents as parents_in}, Cards.{ways, l
 ghost use Rattle.gs_card.specs.Decks.{kinds};
 ghost use Rattle.gs_tree.specs.{Texts.{signal_text}, Tables.{AreTables, IsLayer}};
 
-use crate::layer::{Layer, left_without, push_showings};
+use crate::layer::{Layer, push_showings, take_cards};
 use crate::texts::push_seen;
 use crate::ways::Ways;
 use gs_card::{Card, Deck, times};
@@ -93,9 +93,10 @@ impl Tables {
         }
         let shown = &self.layers[round - 1].shown[signal as usize];
         let parent = self.parents[round - 1][signal as usize];
-        let left = self.copies_left(alloc, game, round - 1, parent)?;
-        let left = left_without(alloc, &left, shown.own.cards())?;
-        left_without(alloc, &left, shown.public.cards())
+        let mut left = self.copies_left(alloc, game, round - 1, parent)?;
+        take_cards(&mut left, shown.own.cards());
+        take_cards(&mut left, shown.public.cards());
+        Ok(left)
     }
 
     /// Returns the signals of the round after those in the tables; `count` is the number of signals of the last one.

@@ -91,6 +91,7 @@ impl Ways {
     }
 
     /// Adds the number of the next signal. Fails only if memory runs out.
+    #[inline(always)]
     pub(crate) fn push(&mut self, ways: u64) -> Result<(), AllocError>
         ensures { OnOk result (self.new ≡ self.old ++ ways ∷ []) }
     {

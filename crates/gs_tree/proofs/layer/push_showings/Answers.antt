@@ -1,8 +1,9 @@
-use Rattle.std.proofs.Common.{◌≡◌, ◌++◌, ◌*◌, ℕ, List, map, length, ◌<◌, ◌≤◌, get_or, take_all, ap, sym, ◌∙◌, arith}
-use Rattle.std.specs.Prelude.{flat_map}
+use Rattle.std.proofs.Common.{◌≡◌, ◌++◌, ◌*◌, ℕ, List, map, length, ◌<◌, ◌≤◌, get_or, take_all, ap, subst, sym, ◌∙◌, arith}
+use Rattle.std.specs.Prelude.{OnOk, flat_map}
 use Rattle.gs_model.specs.{Cards.{groups, ways, left_after}, Signals.{Seen}}
+use Rattle.gs_game.specs.Games.{round_rules}
 use Rattle.gs_tree.specs.{Layers.{showing}, Shown.{seen_of, cards_of}}
-use Rattle.gs_tree.proofs.Pushed.{joined_more, edges_of}
+use Rattle.gs_tree.proofs.Pushed.{edges_alone, edges_of, joined_more, shown_alone}
 use Rattle.gs_tree.proofs.layer.push_showings.Goals as goal
 
 pub loop-own-preserved : goal.loop-own-preserved
@@ -15,7 +16,8 @@ loop-own-preserved c =
     let shows : List ℕ → List Seen = λ o. map (showing o) (groups (left_after left o) size) in
     let edges : List ℕ → List ℕ = λ o. map (λ g. ways left o * ways (left_after left o) g) (groups (left_after left o) size) in
     let at : own ≡ get_or owns i own = c.own-item.is ∙ ap (λ l. get_or l i own) (c.deref-own-items.ensures.value ∙ c.in_ok-groups.ensures.all) in
-    let rest : c.deref.result.now ≡ left_after left own = c.deref.ensures.value ∙ c.in_ok-rest.ensures.value ∙ ap (left_after left) c.cards.ensures.cards in
+    let rest : c.deref.result.now ≡ left_after left own = c.deref.ensures.value ∙ c.take_cards.ensures.value
+    ∙ ap (λ l. left_after l c.cards.result.now) c.in_ok-rest.ensures.items ∙ ap (left_after left) c.cards.ensures.cards in
     let here : i < length owns = omega (arith, ap (λ (l : List (List ℕ)). length l) (c.deref-own-items.ensures.value ∙ c.in_ok-groups.ensures.all)) in
     record {
       shown = c.in_ok-push_publics.ensures.shown ∙ joined_more shows (map seen_of c.args.layer.now.shown.items) (map seen_of c.loop-own.layer.shown.items)
@@ -38,3 +40,16 @@ returns-clause-edges c =
     (arith, ap (λ (l : List (List ℕ)). length l) (c.deref-own-items.ensures.value ∙ c.in_ok-groups.ensures.all)) in
     c.loop-own.invariant.edges ∙ ap (λ l. c.args.layer.now.edges ++ flat_map edges l) (take_all c.loop-own.own-index owns over)
     ∙ ap (λ l. c.args.layer.now.edges ++ l) (sym (edges_of left size owns))
+
+pub returns-then-round-eq0-clause-shown : goal.returns-then-round-eq0-clause-shown
+returns-then-round-eq0-clause-shown c =
+    let left : List ℕ = c.args.left.now in
+    let P : List Seen → Type 0 = λ l.
+    OnOk c.push_publics.result (map seen_of c.push_publics.new.layer.shown.items ≡ map seen_of c.args.layer.now.shown.items ++ l) in
+    subst P (ap (λ o. map (showing o) (groups left c.args.round.now.public)) c.none.ensures
+    ∙ sym (shown_alone left (round_rules c.args.round.now) c.if-round-eq0.true)) c.push_publics.ensures.shown
+
+pub returns-then-round-eq0-clause-edges : goal.returns-then-round-eq0-clause-edges
+returns-then-round-eq0-clause-edges c =
+    let P : List ℕ → Type 0 = λ l. OnOk c.push_publics.result (c.push_publics.new.layer.edges ≡ c.args.layer.now.edges ++ l) in
+    subst P (sym (edges_alone c.args.left.now (round_rules c.args.round.now) c.if-round-eq0.true)) c.push_publics.ensures.edges

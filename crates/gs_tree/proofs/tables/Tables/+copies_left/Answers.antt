@@ -1,5 +1,4 @@
-use Rattle.std.proofs.Common.{◌≡◌, ℕ, List, length, get_or, ap, ◌∙◌, subst, arith}
-use Rattle.std.specs.{Prelude.{IfOk}, Global.{Vec}}
+use Rattle.std.proofs.Common.{◌≡◌, ℕ, List, length, get_or, ap, ◌∙◌, arith}
 use Rattle.gs_game.specs.Games.{game_of}
 use Rattle.gs_model.specs.{Cards.{left_after}, Game.{Game}, Signals.{parents, signal_at, left_by}}
 use Rattle.gs_model.proofs.Ranges.{length-parents}
@@ -46,10 +45,6 @@ returns-clause-left t c =
     let reads : shown ≡ get_or l.shown.items c.args.signal shown = c.index-shown.ensures in
     let shows : seen_of shown ≡ last_seen (signal_at g c.args.round c.args.signal) = ap seen_of reads ∙ k.shows c.args.signal shown c.requires.signal_in in
     let step = left_step g c.args.round c.args.signal c.index-parent.result.now c.in_ok-left.left.items shown child p c.in_ok-left.ensures.left shows in
-    let first : c.in_ok-left-2.left.items ≡ left_after c.in_ok-left.left.items (cards_of shown.own) = c.in_ok-left-2.ensures.value
-    ∙ ap (λ x. left_after x c.cards.result.now) c.deref.ensures.value ∙ ap (left_after c.in_ok-left.left.items) c.cards.ensures in
-    let second : left_after c.deref-2.result.now c.cards-2.result.now ≡ left_by g.copies (signal_at g c.args.round c.args.signal) =
-    ap (λ x. left_after x c.cards-2.result.now) (c.deref-2.ensures.value ∙ first)
-    ∙ ap (left_after (left_after c.in_ok-left.left.items (cards_of shown.own))) c.cards-2.ensures ∙ step in
-    let P : List ℕ → Type 0 = λ x. IfOk c.left_without-2.result (λ (rest : Vec ℕ). rest.items ≡ x) in
-    subst P second c.left_without-2.ensures.value
+    c.take_cards-2.ensures.value
+    ∙ ap (λ x. left_after x c.cards-2.result.now) (c.take_cards.ensures.value ∙ ap (left_after c.in_ok-left.left.items) c.cards.ensures)
+    ∙ ap (left_after (left_after c.in_ok-left.left.items (cards_of shown.own))) c.cards-2.ensures ∙ step

@@ -1,6 +1,0 @@
-use Rattle.std.proofs.Common.{◌≡◌, take}
-use Rattle.gs_model.specs.Cards.{left_after}
-use Rattle.gs_tree.proofs.layer.left_without.Given as goal
-
-abbrev pub invariant-loop-card : goal.invariant-loop-card
-invariant-loop-card l = l.rest.items ≡ left_after l.left (take l.card-index l.cards)
