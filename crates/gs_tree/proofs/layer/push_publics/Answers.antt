@@ -1,6 +1,7 @@
 use Rattle.std.proofs.{Common.{◌≡◌, ◌++◌, ◌∷◌, ◌*◌, ◌<◌, ◌≤◌, ◌∙◌, [], ℕ, List, ap, arith, get_or, length, map, take_all}, lemmas.List.{map-append}}
 use Rattle.gs_model.specs.Cards.{groups, ways}
 use Rattle.gs_tree.specs.{Layers.{showing}, Shown.{cards_of, seen_of}}
+use Rattle.std.proofs.lemmas.Grind.{common_steps}
 use Rattle.gs_tree.proofs.Pushed.{mapped_more}
 use Rattle.gs_tree.proofs.layer.push_publics.Goals as goal
 
@@ -42,3 +43,9 @@ returns-clause-edges c =
     (arith, ap (λ (l : List (List ℕ)). length l) (c.deref-public-items.ensures.value ∙ c.in_ok-groups.ensures.all)) in
     c.loop-public.invariant.edges
     ∙ ap (λ l. c.args.layer.now.edges ++ map (λ g. c.args.own_ways * ways c.args.rest.now g) l) (take_all c.loop-public.public-index all over)
+
+pub few_ways-requires-clause-in_range : goal.few_ways-requires-clause-in_range
+few_ways-requires-clause-in_range c = grind (arith, common_steps)
+
+pub few_ways-requires-clause-few_copies : goal.few_ways-requires-clause-few_copies
+few_ways-requires-clause-few_copies c = grind (arith, common_steps)

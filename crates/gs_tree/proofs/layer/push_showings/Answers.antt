@@ -3,6 +3,7 @@ use Rattle.std.specs.Prelude.{OnOk, flat_map}
 use Rattle.gs_model.specs.{Cards.{groups, ways, left_after}, Signals.{Seen}}
 use Rattle.gs_game.specs.Games.{round_rules}
 use Rattle.gs_tree.specs.{Layers.{showing}, Shown.{seen_of, cards_of}}
+use Rattle.std.proofs.lemmas.Grind.{common_steps}
 use Rattle.gs_tree.proofs.Pushed.{edges_alone, edges_of, joined_more, shown_alone}
 use Rattle.gs_tree.proofs.layer.push_showings.Goals as goal
 
@@ -53,3 +54,12 @@ pub returns-then-round-eq0-clause-edges : goal.returns-then-round-eq0-clause-edg
 returns-then-round-eq0-clause-edges c =
     let P : List ℕ → Type 0 = λ l. OnOk c.push_publics.result (c.push_publics.new.layer.edges ≡ c.args.layer.now.edges ++ l) in
     subst P (sym (edges_alone c.args.left.now (round_rules c.args.round.now) c.if-round-eq0.true)) c.push_publics.ensures.edges
+
+pub few_ways-own_ways-requires-clause-in_range : goal.few_ways-own_ways-requires-clause-in_range
+few_ways-own_ways-requires-clause-in_range c = grind (arith, common_steps)
+
+pub push_publics-requires-in-loop-own-clause-few_copies : goal.push_publics-requires-in-loop-own-clause-few_copies
+push_publics-requires-in-loop-own-clause-few_copies c = grind (arith, common_steps)
+
+pub of-requires : goal.of-requires
+of-requires c = grind (arith, common_steps)

@@ -5,6 +5,7 @@ use Rattle.std.specs.{Prelude.{flat_map}, List.{range_with_len}}
 use Rattle.gs_game.specs.Games.{game_of, round_rules}
 use Rattle.gs_model.specs.{Game.{Game, Round, round_at}, Signals.{Seen, Signal, signals, children, owners, showings, edge, left_by, first_child, signal_at}}
 use Rattle.gs_tree.specs.{Shown.{seen_of}, Tables.{shown_in}}
+use Rattle.std.proofs.lemmas.Grind.{common_steps}
 use Rattle.gs_tree.proofs.{Pushed.{joined_more}, Grown.{shows_of, few_before, first_grown, owners_more, filled, seen_grown, edges_grown}}
 use Rattle.gs_tree.proofs.tables.Tables.grow.Goals.{At-loop-parent}
 use Rattle.gs_tree.proofs.tables.Tables.grow.Goals as goal
@@ -111,3 +112,9 @@ returns-clause-layer c =
           ∙ ap (λ v. map (first_child g n) (range_with_len 0 i) ++ v ∷ []) last ∙ sym (map-range_with_len_more (first_child g n) 0 i i (omega arith))
           ∙ ap (λ k. map (first_child g n) (range_with_len 0 (k + 1))) end;
     }
+
+pub returns-clause-parents : goal.returns-clause-parents
+returns-clause-parents c = grind (arith, common_steps)
+
+pub push_showings-requires-clause-few_copies : goal.push_showings-requires-clause-few_copies
+push_showings-requires-clause-few_copies c = grind (arith, common_steps)

@@ -4,6 +4,7 @@ use Rattle.gs_game.specs.{Games.{game_of, round_rules}, declared.game.Round.{Rou
 use Rattle.gs_model.specs.{Game.{Game}, Signals.{signals, parents}}
 use Rattle.gs_model.proofs.Ranges.{length-parents}
 use Rattle.gs_tree.specs.{Tables.{AreTables, IsLayer}, declared.layer.Layer.{Layer}}
+use Rattle.std.proofs.lemmas.Grind.{common_steps}
 use Rattle.gs_tree.proofs.Lookups.{tables_push, small_round}
 use Rattle.gs_tree.proofs.tables.Tables.of.Goals as goal
 
@@ -67,3 +68,9 @@ loop-next-preserved c =
       rounds = omega (arith, ap (λ (x : List Layer). length x) c.in_ok-push-2.ensures.items, length-append ls (layer ∷ []), c.loop-next.invariant.rounds);
       counted = counted;
     }
+
+pub grow-requires-clause-round : goal.grow-requires-clause-round
+grow-requires-clause-round c = grind (arith, common_steps)
+
+pub returns-clause-all : goal.returns-clause-all
+returns-clause-all c = grind (arith, common_steps)
