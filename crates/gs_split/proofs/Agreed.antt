@@ -1,21 +1,14 @@
 -- Sums of one signal and of another, and the numbers that they get.
-use Rattle.std.proofs.Common.{◌≡◌, ◌↔◌, ℕ, ℤ, pos, ◌-◌, ◌<◌, ◌≤◌, Bool, true, false, true≢false, cond, List, [], length, get_or, refl, sym, ap, ◌∙◌, subst}
-use Rattle.std.proofs.Common.{arith}
+use Rattle.std.proofs.Common.{◌≡◌, ◌↔◌, ℕ, ℤ, pos, ◌<◌, ◌≤◌, Bool, true, cond, List, length, get_or, sym, ap, ◌∙◌, subst, arith}
 use Rattle.std.proofs.lemmas.Bool.Decides.{Decides-and, Decides-eqb, Decides-like}
 use Rattle.std.specs.{Prelude.{◌==◌, ◌&&◌}, Bool.{Decides}, Ordering.{int_eq}}
 use Rattle.gs_model.specs.{Classes.{ClassLists, class_of, first_member}, Frame.{Frame, frame_of, last_round}, Game.{Game, round_count}}
 use Rattle.gs_model.specs.{Lossless.{weight_against, weight_with}, Signals.{signals}}
 use Rattle.gs_model.proofs.Ranges.{signal_count_is}
-use Rattle.gs_lossless.specs.{Amounts.{HaveEqualAmounts, AgreesWithFirst, AreAmounts, AreSideFirsts, amount}, declared.parts.Part.{Part}}
+use Rattle.gs_lossless.specs.{Amounts.{HaveEqualAmounts, AgreesWithFirst, AreSideFirsts, amount}, declared.parts.Part.{Part}}
 use Rattle.gs_lossless.specs.declared.sides.Side.{Side}
 use Rattle.gs_lossless.specs.declared.sides.Side.TheVariants.{Deals, Children}
-use Rattle.gs_lossless.proofs.Settled.{agree_if_same, same_if_agree}
 use Rattle.gs_split.specs.Turns.{AreSettled, AreSideNumbers, AreTurnNumbers, HaveSameSums, IsSettled}
-
--- the sums of a signal on one side, or no sums if its class is settled
-pub record AreClassSums (f : Frame) (lists : ClassLists) (side : Side) (round : ℕ) (settled : List Bool) (s : ℕ) (sums : List Part) : Type 0 where
-  pub none : IsSettled lists round settled s → sums ≡ []
-  pub made : (IsSettled lists round settled s → ⊥) → AreAmounts f lists side round s sums
 
 -- whether two sums are the same
 abbrev pub part_eq : Part → Part → Bool
@@ -31,51 +24,14 @@ module _ (f : Frame) (lists : ClassLists) (round : ℕ) where
       → AreSettled lists round firsts settled → s < length firsts → IsSettled lists round settled s → AgreesWithFirst f lists side round s
   settled_agrees side firsts settled s stands h l one = subst (λ (x : ℕ). HaveEqualAmounts f lists side round x s) (h.first s l one) (stands.agree s l)
 
-  -- members of a class have the same sums exactly where they agree
-  pub sums_law : (side : Side) (firsts : List ℕ) (settled : List Bool) (i j : ℕ) (a b : List Part) → AreSideFirsts f lists side round firsts
-      → AreSettled lists round firsts settled → i < length firsts → j < length firsts
-      → class_of lists round i ≡ class_of lists round j → AreClassSums f lists side round settled i a → AreClassSums f lists side round settled j b
-      → (a ≡ b) ↔ HaveEqualAmounts f lists side round i j
-  sums_law side firsts settled i j a b stands h li lj same ha hb = by (get_or settled (class_of lists round i - 1) false) refl
-    where
-      by : (t : Bool) → get_or settled (class_of lists round i - 1) false ≡ t → (a ≡ b) ↔ HaveEqualAmounts f lists side round i j
-      by true one =
-          let two : IsSettled lists round settled j = ap (λ c. get_or settled (c - 1) false) (sym same) ∙ one in
-          let p = settled_agrees side firsts settled i stands h li one in
-          let q = settled_agrees side firsts settled j stands h lj two in (
-            (λ e c o. sym (p c o) ∙ ap (λ x. amount f lists side round (first_member lists round x) c o) same ∙ q c o),
-            (λ g. ha.none one ∙ sym (hb.none two)),
-          )
-      by false none =
-          let x = ha.made (λ one. true≢false (sym one ∙ none)) in
-          let y = hb.made (λ two. true≢false (sym two ∙ ap (λ c. get_or settled (c - 1) false) (sym same) ∙ none)) in (
-            agree_if_same f lists side round i j a b x y,
-            same_if_agree f lists side round i j a b x y,
-          )
-
-  -- none where the class of a signal is settled
-  pub sums_none : (side : Side) (settled : List Bool) (s : ℕ) (sums : List Part) → IsSettled lists round settled s → sums ≡ []
-      → AreClassSums f lists side round settled s sums
-  sums_none side settled s sums is none = record { none = λ _. none; made = λ other. absurd (other is) }
-
-  -- and else its own
-  pub sums_made : (side : Side) (settled : List Bool) (s : ℕ) (sums : List Part) → get_or settled (class_of lists round s - 1) false ≡ false
-      → AreAmounts f lists side round s sums
-      → AreClassSums f lists side round settled s sums
-  sums_made side settled s sums apart made = record { none = λ is. absurd (true≢false (sym is ∙ apart)); made = λ _. made }
-
-  -- the sums of a signal are those of one that stands for it
-  pub sums_again : (side : Side) (firsts : List ℕ) (settled : List Bool) (s : ℕ) (sums : List Part) → AreSideFirsts f lists side round firsts
-      → s < length firsts
-      → AreClassSums f lists side round settled (get_or firsts s 0) sums → AreClassSums f lists side round settled s sums
-  sums_again side firsts settled s sums stands l h =
-      let same = stands.class s l in
-      record {
-        none = λ one. h.none (ap (λ c. get_or settled (c - 1) false) same ∙ one);
-        made = λ no.
-            let x = h.made (λ one. no (ap (λ c. get_or settled (c - 1) false) (sym same) ∙ one)) in
-            record { rises = x.rises; sum = λ c o. x.sum c o ∙ stands.agree s l c o };
-      }
+  -- members of a settled class agree
+  pub settled_alike : (side : Side) (firsts : List ℕ) (settled : List Bool) (i j : ℕ) → AreSideFirsts f lists side round firsts
+      → AreSettled lists round firsts settled → i < length firsts → j < length firsts → class_of lists round i ≡ class_of lists round j
+      → IsSettled lists round settled i → IsSettled lists round settled j → HaveEqualAmounts f lists side round i j
+  settled_alike side firsts settled i j stands h li lj same one two =
+      let p = settled_agrees side firsts settled i stands h li one in
+      let q = settled_agrees side firsts settled j stands h lj two in
+      λ c o. sym (p c o) ∙ ap (λ x. amount f lists side round (first_member lists round x) c o) same ∙ q c o
 
   -- before the last round agreement is about children
   children_same : (i j : ℕ) → round < last_round f → HaveEqualAmounts f lists Children round i j ↔ HaveSameSums f lists round i j

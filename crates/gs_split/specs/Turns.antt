@@ -1,5 +1,5 @@
 -- What a turn of the refinement compares, round by round.
-use Rattle.std.specs.Prelude.{ℕ, ◌-◌, ◌<◌, ◌≤◌, ◌≡◌, ◌↔◌, ℤ, Bool, true, false, List, get_or, length}
+use Rattle.std.specs.Prelude.{ℕ, ◌+◌, ◌-◌, ◌<◌, ◌≤◌, ◌≡◌, ◌↔◌, ℤ, Bool, true, false, List, get_or, length}
 use Rattle.gs_model.specs.{Classes.{ClassLists, InOneClass, class_count, class_of, first_member, list_of}, Frame.{Frame, last_round, parents_of, signal_count}}
 use Rattle.gs_model.specs.{Lossless.{children_in, weight_with}, Numbering.{IsClassesOf}}
 use Rattle.gs_lossless.specs.{Amounts.{HaveEqualAmounts}, declared.sides.Side.{Side}}
@@ -14,6 +14,22 @@ IsSettled lists round settled s = get_or settled (class_of lists round s - 1) fa
 pub record AreSettled (lists : ClassLists) (round : ℕ) (firsts : List ℕ) (settled : List Bool) : Type 0 where
   pub long : length settled ≡ class_count lists round
   pub first : (s : ℕ) → s < length firsts → IsSettled lists round settled s → get_or firsts s 0 ≡ first_member lists round (class_of lists round s)
+
+-- the first member of a class from a place on, or the number of signals of the round if none follows
+pub record IsMemberFrom (lists : ClassLists) (round from class next : ℕ) : Type 0 where
+  pub behind : from ≤ next
+  pub is : next < length (list_of lists round) → class_of lists round next ≡ class
+  pub none : (s : ℕ) → from ≤ s → s < next → class_of lists round s ≡ class → ⊥
+
+-- for each signal of a round the next member of its class, or the number of signals if none follows
+pub record AreNextMembers (lists : ClassLists) (round : ℕ) (nexts : List ℕ) : Type 0 where
+  pub long : length nexts ≡ length (list_of lists round)
+  pub each : (s : ℕ) → s < length nexts → IsMemberFrom lists round (s + 1) (class_of lists round s) (get_or nexts s 0)
+
+-- numbers of the members of one class: equal exactly where the members agree on one side
+abbrev pub AreMemberNumbers : Frame → ClassLists → Side → ℕ → ℕ → List ℕ → Type 0
+AreMemberNumbers f lists side round class numbers = (i j : ℕ) → i < length numbers → j < length numbers → class_of lists round i ≡ class
+    → class_of lists round j ≡ class → (get_or numbers i 0 ≡ get_or numbers j 0) ↔ HaveEqualAmounts f lists side round i j
 
 -- numbers of the signals of a round: within a class equal exactly where the signals agree on one side
 pub record AreSideNumbers (f : Frame) (lists : ClassLists) (side : Side) (round : ℕ) (numbers : List ℕ) : Type 0 where

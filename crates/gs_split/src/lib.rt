@@ -1,6 +1,7 @@
 //! The coarsest lossless refinement of given classes: every lossless refinement of the given classes refines it.
 #![tactic(auto)]
 
+mod members;
 mod parting;
 mod proposal;
 mod rounds;

@@ -6,11 +6,10 @@ ghost use Rattle.gs_tree.specs.Trees.{rules_of};
 ghost use Rattle.gs_lossless.specs.Amounts.{AreSideFirsts, HasSide};
 ghost use Rattle.gs_split.specs.Turns.{AreSettled, AreSideNumbers, AreTurnNumbers};
 
+use crate::members::{next_members, number_members};
 use gs_filter::Classes;
-use gs_iso::number_of_list;
 use gs_lossless::{Boards, Grouped, Side, SideKeys};
 use gs_tree::Signals;
-use indexmap::IndexSet;
 use std::alloc::{AllocError, Global};
 
 /// Returns for each signal of a round a stand-in on one side, at the same or an earlier place.
@@ -73,7 +72,7 @@ fn side_at(signals: &Signals, round: u8) -> Side
 
 /// Returns a number for each signal of a round. Within a class, numbers are equal exactly where the signals have the same sums.
 /// These are the sums of deals in the last round, and the counts of children by class before it.
-/// Makes sums only of signals without an earlier stand-in, and only in classes that the turn can split.
+/// Goes class by class, and passes over classes that the turn cannot split.
 pub(crate) fn side_numbers(
     alloc: Global,
     boards: &Boards<'_>,
@@ -90,24 +89,13 @@ pub(crate) fn side_numbers(
     let at = SideKeys::of(alloc, signals, classes, side, round)?;
     let firsts = side_firsts(alloc, boards, &at)?;
     let settled = settled_classes(alloc, classes, round, &firsts)?;
-    let count = signals.count(round);
-    let mut seen = IndexSet::new(alloc);
-    let mut numbers = Vec::with_capacity(alloc, count as usize)?;
-    for signal in 0..count {
-        let first = firsts[signal as usize];
-        if first < signal {
-            let number = numbers[first as usize];
-            numbers.push(number)?;
+    let nexts = next_members(alloc, classes, round)?;
+    let mut numbers = vec![in alloc; 0; nexts.len()]?;
+    for (before, is_settled) in settled.iter().enumerate() {
+        if *is_settled {
             continue;
         }
-        let class = classes.class_of(round, signal);
-        let sums = if settled[class as usize - 1] {
-            Vec::new(alloc)
-        } else {
-            at.sums(alloc, signal)?
-        };
-        let number = number_of_list(alloc, &mut seen, &sums)?;
-        numbers.push(number)?;
+        number_members(alloc, &at, &firsts, &nexts, before as u32 + 1, &mut numbers)?;
     }
     Ok(numbers)
 }

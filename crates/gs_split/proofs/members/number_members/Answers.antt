@@ -1,0 +1,66 @@
+use Rattle.std.proofs.Common.{◌≡◌, ◌<◌, List, arith, get_or, length, refl, subst, sym}
+use Rattle.gs_lossless.specs.declared.parts.Part.{Part}
+use Rattle.gs_model.specs.{Classes.{list_of}, Frame.{frame_of, signal_count}, Signals.{signals}}
+use Rattle.gs_tree.specs.Trees.{rules_of}
+use Rattle.gs_lossless.specs.{Amounts.{AreAmounts}, declared.side_keys.SideKeys.{SideKeys}}
+use Rattle.gs_lossless.proofs.{Merge.{part_decides}, Scanned.{side_classes, side_signals}}
+use Rattle.gs_split.proofs.{Agreed.{part_eq}, Linked.{member_first, number_leads, number_stood, numbered_all, numbered_first, numbering_more}}
+use Rattle.gs_split.proofs.members.number_members.Goals as goal
+
+-- the list of the round has a class for each of its signals
+all : (at : SideKeys) → length (list_of at.classes.now.lists at.round) ≡ length (signals (rules_of at.signals.now) at.round)
+all at = side_classes (rules_of at.signals.now) at.classes.now at.parents at.side at.round at.has
+
+counted : (at : SideKeys) → signal_count (frame_of (rules_of at.signals.now)) at.round ≡ length (signals (rules_of at.signals.now) at.round)
+counted at = side_signals (rules_of at.signals.now) at.side at.round at.has
+
+pub loop-next-init : goal.loop-next-init
+loop-next-init c =
+    let at = c.args.at.now in
+    let lists = at.classes.now.lists in
+    record {
+      long = refl;
+      others = λ s no. refl;
+      numbered = numbered_first (frame_of (rules_of at.signals.now)) lists at.side at.round c.args.class c.new-seen.result.keys c.args.numbers.now
+          c.first-next.result c.new-seen.ensures.empty
+          (member_first lists at.round c.args.class c.first-next.result c.first-next.ensures.member c.first-next.ensures.value);
+    }
+
+pub loop-next-preserved-then-first-signal : goal.loop-next-preserved-then-first-signal
+loop-next-preserved-then-first-signal c =
+    let at = c.args.at.now in
+    let f = frame_of (rules_of at.signals.now) in
+    let lists = at.classes.now.lists in
+    let h = c.loop-next.invariant in
+    let s = c.loop-next.next in
+    let l : s < length c.args.nexts.now = c.loop-next-test.true in
+    let stand = c.requires.firsts in
+    let here = number_stood f lists at.side at.round c.args.class c.args.numbers.now c.args.firsts.now c.loop-next.seen.keys c.loop-next.numbers s h stand
+    (omega (arith, l, stand.long, counted at, all at, c.requires.nexts.long)) (omega (arith, l, c.requires.nexts.long))
+    (omega (arith, l, h.long, c.requires.numbers)) c.if-first-signal.true in
+    numbering_more f lists at.side at.round c.args.class c.args.numbers.now c.loop-next.seen.keys c.loop-next.seen.keys c.loop-next.numbers c.args.nexts.now s
+    (get_or c.loop-next.numbers (get_or c.args.firsts.now s 0) 0) h c.requires.nexts l here (λ i k e. e) (omega arith) h.numbered.distinct
+
+pub sums-requires : goal.sums-requires
+sums-requires c = omega (arith, c.loop-next-test.true, c.requires.nexts.long, all c.args.at.now)
+
+pub loop-next-preserved : goal.loop-next-preserved
+loop-next-preserved c =
+    let at = c.args.at.now in
+    let f = frame_of (rules_of at.signals.now) in
+    let lists = at.classes.now.lists in
+    let h = c.loop-next.invariant in
+    let s = c.loop-next.next in
+    let n = c.in_ok-numbers.ensures in
+    let more = c.number_of_list.new.lists.keys in
+    let signs = subst (λ (ps : List Part). AreAmounts f lists at.side at.round s ps) (sym c.deref.ensures.value) c.in_ok-sums.ensures in
+    let here = number_leads part_eq part_decides (AreAmounts f lists at.side at.round) more c.deref.result.now s c.in_ok-numbers.field-0 n.number signs in
+    numbering_more f lists at.side at.round c.args.class c.args.numbers.now c.loop-next.seen.keys more c.loop-next.numbers c.args.nexts.now s
+    c.in_ok-numbers.field-0 h c.requires.nexts c.loop-next-test.true here n.kept n.few n.unique
+
+pub returns-clause-members : goal.returns-clause-members
+returns-clause-members c =
+    let at = c.args.at.now in
+    let h = c.loop-next.invariant in
+    numbered_all (frame_of (rules_of at.signals.now)) at.classes.now.lists at.side at.round c.args.class c.loop-next.seen.keys c.loop-next.numbers
+    c.loop-next.next h.numbered (omega (arith, h.long, c.requires.numbers, c.loop-next-test.false))

@@ -1,0 +1,69 @@
+//! The members of a class, each with the next one, and their numbers.
+
+ghost use Rattle.std.specs.Prelude.{◌≡◌, ◌<◌, ◌≤◌, ℕ, IfOk, OnOk, get_or, length};
+ghost use Rattle.gs_model.specs.{Classes.{IsClass, class_of}, Frame.{frame_of}};
+ghost use Rattle.gs_tree.specs.Trees.{rules_of};
+ghost use Rattle.gs_lossless.specs.Amounts.{AreSideFirsts};
+ghost use Rattle.gs_split.specs.Turns.{AreMemberNumbers, AreNextMembers};
+
+use gs_filter::Classes;
+use gs_iso::number_of_list;
+use gs_lossless::SideKeys;
+use indexmap::IndexSet;
+use std::alloc::{AllocError, Global};
+
+/// Returns for each signal of a round the next member of its class, or the number of signals of the round if no member follows.
+pub(crate) fn next_members(
+    alloc: Global,
+    classes: &Classes,
+    round: u8,
+) -> Result<Vec<u32>, AllocError>
+    requires some { 0 < round }
+    requires top { round ≤ length classes.now.lists }
+    ensures { IfOk result (λ v. AreNextMembers classes.now.lists round v.items) }
+{
+    let count = classes.signals(round);
+    let mut heads = vec![in alloc; count; classes.classes(round) as usize]?;
+    let mut nexts = vec![in alloc; count; count as usize]?;
+    for signal in (0..count).rev() {
+        let place = classes.class_of(round, signal) as usize - 1;
+        nexts[signal as usize] = heads[place];
+        heads[place] = signal;
+    }
+    Ok(nexts)
+}
+
+/// Sets the numbers of the members of a class. Two members get equal numbers exactly if they agree on the side.
+/// Makes sums only of members without an earlier stand-in, and keeps them until the class is done. `nexts` has the next member of the class of each signal.
+pub(crate) fn number_members(
+    alloc: Global,
+    at: &SideKeys<'_>,
+    firsts: &[u32],
+    nexts: &[u32],
+    class: u32,
+    numbers: &mut [u32],
+) -> Result<(), AllocError>
+    requires firsts { AreSideFirsts (frame_of (rules_of at.now.signals.now)) at.now.classes.now.lists at.now.side at.now.round firsts.now }
+    requires nexts { AreNextMembers at.now.classes.now.lists at.now.round nexts.now }
+    requires class { IsClass at.now.classes.now.lists at.now.round class }
+    requires numbers { length numbers.old ≡ length nexts.now }
+    ensures long { OnOk result (length numbers.new ≡ length numbers.old) }
+    ensures others { OnOk result ((s : ℕ) → (class_of at.now.classes.now.lists at.now.round s ≡ class → ⊥) → get_or numbers.new s 0 ≡ get_or numbers.old s 0) }
+    ensures members { let f = frame_of (rules_of at.now.signals.now) in
+        OnOk result (AreMemberNumbers f at.now.classes.now.lists at.now.side at.now.round class numbers.new) }
+{
+    let mut seen = IndexSet::new(alloc);
+    let mut next = at.classes.first(at.round, class);
+    while (next as usize) < nexts.len() {
+        let signal = next;
+        next = nexts[signal as usize];
+        let first = firsts[signal as usize];
+        if first < signal {
+            numbers[signal as usize] = numbers[first as usize];
+            continue;
+        }
+        let sums = at.sums(alloc, signal)?;
+        numbers[signal as usize] = number_of_list(alloc, &mut seen, &sums)?;
+    }
+    Ok(())
+}
