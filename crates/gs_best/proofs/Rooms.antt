@@ -1,5 +1,5 @@
 -- Room by the sizes of rounds.
-use Rattle.std.proofs.Common.{◌≡◌, ℕ, ◌+◌, ◌-◌, ◌*◌, ◌<◌, length, get_or, sym, ap, ◌∙◌, subst, arith, sum_by, count_by, eqb}
+use Rattle.std.proofs.Common.{◌≡◌, ℕ, ◌+◌, ◌-◌, ◌*◌, ◌<◌, ◌≤◌, length, get_or, sym, ap, ◌∙◌, subst, arith, sum_by, count_by, eqb}
 use Rattle.std.proofs.{Math.Nat.{mul-one, mul_comm}, lemmas.Bool.Decides.{Decides-eqb}, lemmas.Int.{ints}, lemmas.List.{get_or-map, length-map}}
 use Rattle.std.proofs.lemmas.List.FromFn.{get_or-range_with_len, length-range_with_len}
 use Rattle.std.specs.{Prelude.{pos, ◌*ℤ◌}, List.{range_with_len}}
@@ -7,7 +7,7 @@ use borrow.Author.Differences.{product_is}
 use Rattle.gs_model.specs.{Classes.{ClassLists, class_count}, Frame.{Frame, last_round, point_count, round_of}, FrameFacts.{IsWalked}, Positions.{at_point}}
 use Rattle.gs_model.proofs.{RawBound.{All-range, range_once}, Regroup.{regroup_weights, sum_z-pos}, Total.{sum_z-same}}
 use Rattle.gs_model.proofs.Basics.{pos-injective, sum-same, sum-ones, sum_by-map}
-use Rattle.gs_best.specs.{Rooms.{HasRows, AreOfLength, HoldsEntries, HoldsAll, IsWide}, Tables.{start_of}, declared.tables.Scratch.{Scratch}}
+use Rattle.gs_best.specs.{Rooms.{HasRows, AreOfLength, HoldsEntries, HoldsAll, IsWideTo}, Tables.{start_of}, declared.tables.Scratch.{Scratch}}
 use Rattle.gs_best.specs.{declared.tables.Table.{Table}, Sizes.{IsRoomy, IsWideFor, point_room, points_of_round, sizes_of, value_room}}
 
 pub pos-product : (a b : ℕ) → pos a *ℤ pos b ≡ pos (a * b)
@@ -52,33 +52,53 @@ size_at f lists i d l =
 size_count : (f : Frame) (lists : ClassLists) → length (sizes_of f lists) ≡ last_round f
 size_count f lists = length-map (range_with_len 1 (last_round f)) (λ j. (points_of_round f j, class_count lists j)) ∙ length-range_with_len 1 (last_round f)
 
-wide_by : (f : Frame) (lists : ClassLists) (wide : ℕ) → IsWideFor (sizes_of f lists) wide → IsWide f lists wide
-wide_by f lists wide h round some top =
+wide_by : (f : Frame) (lists : ClassLists) (rounds wide : ℕ) → rounds ≤ last_round f → IsWideFor (sizes_of f lists) rounds wide → IsWideTo rounds lists wide
+wide_by f lists rounds wide all h round some top =
     let i = round - 1 in
     let e : 1 + i ≡ round = omega arith in
-    let l : i < last_round f = omega arith in
-    let a = h i (0, 0) (let n = size_count f lists in omega arith) in
-    let b = size_at f lists i (0, 0) l in
+    let a = h i (0, 0) (omega arith) in
+    let b = size_at f lists i (0, 0) (omega arith) in
     let k = ap (class_count lists) e in
     omega arith
 
-by_wide : (f : Frame) (lists : ClassLists) (wide : ℕ) → IsWide f lists wide → IsWideFor (sizes_of f lists) wide
-by_wide f lists wide h i d l =
-    let in_rounds : i < last_round f = (let n = size_count f lists in omega arith) in
-    let b = size_at f lists i d in_rounds in
+by_wide : (f : Frame) (lists : ClassLists) (rounds wide : ℕ) → rounds ≤ last_round f → IsWideTo rounds lists wide → IsWideFor (sizes_of f lists) rounds wide
+by_wide f lists rounds wide all h i d l =
+    let b = size_at f lists i d (omega arith) in
     let a = h (1 + i) (omega arith) (omega arith) in
     omega arith
 
--- what is said of one length is said of another
-lengths_by : (s : Scratch) (one other : ℕ → Type 0) → ((wide : ℕ) → one wide → other wide) → AreOfLength one s → AreOfLength other s
-lengths_by s one other h r = record { numbers = h _ r.numbers; ends = h _ r.ends; worths = h _ r.worths; best = h _ r.best; moves = h _ r.moves }
+-- the tests of the rows of a game, and of the rows of its sizes
+abbrev AreRowsFor : Frame → ClassLists → ℕ → Scratch → Type 0
+AreRowsFor f lists rounds = AreOfLength (IsWideFor (sizes_of f lists) rounds) (IsWideFor (sizes_of f lists) (rounds - 1))
+
+rows_for : (f : Frame) (lists : ClassLists) (s : Scratch) → HasRows f lists s → AreRowsFor f lists (last_round f) s
+rows_for f lists s r =
+    let n = last_round f in
+    record {
+      numbers = by_wide f lists n _ (omega arith) r.numbers;
+      ends = by_wide f lists n _ (omega arith) r.ends;
+      worths = by_wide f lists (n - 1) _ (omega arith) r.worths;
+      best = by_wide f lists n _ (omega arith) r.best;
+      moves = by_wide f lists n _ (omega arith) r.moves;
+    }
+
+for_rows : (f : Frame) (lists : ClassLists) (s : Scratch) → AreRowsFor f lists (last_round f) s → HasRows f lists s
+for_rows f lists s r =
+    let n = last_round f in
+    record {
+      numbers = wide_by f lists n _ (omega arith) r.numbers;
+      ends = wide_by f lists n _ (omega arith) r.ends;
+      worths = wide_by f lists (n - 1) _ (omega arith) r.worths;
+      best = wide_by f lists n _ (omega arith) r.best;
+      moves = wide_by f lists n _ (omega arith) r.moves;
+    }
 
 pub roomy : (f : Frame) (lists : ClassLists) → IsWalked f 1 → (t : Table) (s : Scratch) → HoldsAll f lists t → HasRows f lists s
     → IsRoomy (sizes_of f lists) t s
 roomy f lists w t s h r = record {
   table = subst (λ n. HoldsEntries n (value_room (sizes_of f lists)) t) (sym (point_room_is f 1 w lists))
       (subst (λ n. HoldsEntries (point_count f) n t) (sym (value_room_is f 1 w lists)) h);
-  rows = lengths_by s (IsWide f lists) (IsWideFor (sizes_of f lists)) (by_wide f lists) r;
+  rows = subst (λ n. AreRowsFor f lists n s) (sym (size_count f lists)) (rows_for f lists s r);
 }
 
 pub holds_all : (f : Frame) (lists : ClassLists) → IsWalked f 1 → (t : Table) (s : Scratch) → IsRoomy (sizes_of f lists) t s → HoldsAll f lists t
@@ -86,4 +106,4 @@ holds_all f lists w t s r = subst (λ n. HoldsEntries (point_count f) n t) (valu
     (subst (λ n. HoldsEntries n (value_room (sizes_of f lists)) t) (point_room_is f 1 w lists) r.table)
 
 pub has_room : (f : Frame) (lists : ClassLists) (t : Table) (s : Scratch) → IsRoomy (sizes_of f lists) t s → HasRows f lists s
-has_room f lists t s r = lengths_by s (IsWideFor (sizes_of f lists)) (IsWide f lists) (wide_by f lists) r.rows
+has_room f lists t s r = for_rows f lists s (subst (λ n. AreRowsFor f lists n s) (size_count f lists) r.rows)

@@ -1,8 +1,8 @@
 -- A list that was written through a slice of it.
 use Rattle.std.proofs.Common.{◌≡◌, ℕ, ◌≤◌, ◌++◌, List, length, drop, take, sym, ap, ◌∙◌, subst, Vec}
 use Rattle.std.specs.declared.alloc.Global.{Global}
-use Rattle.gs_model.specs.{Classes.{ClassLists}, Frame.{Frame}}
-use Rattle.gs_best.specs.Rooms.{IsWide}
+use Rattle.gs_model.specs.Classes.{ClassLists}
+use Rattle.gs_best.specs.Rooms.{IsWideTo}
 use Rattle.gs_best.proofs.Written.{written}
 
 module _ {A : Type 0} (v : Vec A Global) (slice new : List A) (is : slice ≡ v.items) (same : length new ≡ length slice) where
@@ -21,6 +21,6 @@ module _ {A : Type 0} (v : Vec A Global) (slice new : List A) (is : slice ≡ v.
   pub long_through : (n : ℕ) → n ≤ length v.items → n ≤ length (take v.len (new ++ drop (length new) v.items))
   long_through n l = kept_through (λ l. n ≤ length l) (subst (λ m. n ≤ m) (sym (same ∙ ap (λ (l : List A). length l) is)) l)
 
-  pub wide_through : (f : Frame) (lists : ClassLists) → IsWide f lists (length v.items)
-      → IsWide f lists (length (take v.len (new ++ drop (length new) v.items)))
-  wide_through f lists wide j some top = long_through _ (wide j some top)
+  pub wide_through : (rounds : ℕ) (lists : ClassLists) → IsWideTo rounds lists (length v.items)
+      → IsWideTo rounds lists (length (take v.len (new ++ drop (length new) v.items)))
+  wide_through rounds lists wide j some top = long_through _ (wide j some top)

@@ -59,7 +59,7 @@ pub(crate) fn read_row<'r>(
 ) -> &'r [i128]
     requires some { 0 < from }
     requires row { IsLaterRow (abstract_frame form.now) (lists_of form.now) from row }
-    requires wide { class_count (lists_of form.now) from ≤ length sums.old }
+    requires wide { from < row.round → class_count (lists_of form.now) from ≤ length sums.old }
     ensures gathered { AreGathered (abstract_frame form.now) (lists_of form.now) row.entry.round from row.entry.values.now row.entry.start result.now }
     ensures long { class_count (lists_of form.now) from ≤ length result.now }
 {

@@ -2,7 +2,8 @@
 
 ghost use Rattle.std.specs.Prelude.{◌≤◌, length};
 ghost use Rattle.gs_model.specs.Frame.{move_count};
-ghost use Rattle.gs_best.specs.{ClassTotals.{total_worth}, Rooms.{IsWide}, Rows.{AreGreatest, AreSums, IsMerged}, Spots.{frame_on, lists_on, totals_on}};
+ghost use Rattle.gs_best.specs.{ClassTotals.{total_worth}, Rooms.{IsWide, IsWideEarlier}};
+ghost use Rattle.gs_best.specs.{Rows.{AreGreatest, AreSums, IsMerged}, Spots.{frame_on, lists_on, totals_on}};
 
 use crate::raising::{add, raise};
 use crate::spot::Spot;
@@ -19,7 +20,7 @@ fn best_moves(
 )
     requires row { IsWide (frame_on at.now) (lists_on at.now) (length row.old) }
     requires numbers { IsWide (frame_on at.now) (lists_on at.now) (length numbers.old) }
-    requires worths { IsWide (frame_on at.now) (lists_on at.now) (length worths.old) }
+    requires worths { IsWideEarlier (frame_on at.now) (lists_on at.now) (length worths.old) }
     requires best { at.now.count ≤ length best.old }
     requires moves { at.now.count ≤ length moves.old }
     ensures { AreGreatest (frame_on at.now) (lists_on at.now) (total_worth (frame_on at.now) (lists_on at.now) (totals_on at.now)) at.now.point
@@ -41,7 +42,7 @@ fn sum_moves(
 )
     requires row { IsWide (frame_on at.now) (lists_on at.now) (length row.old) }
     requires numbers { IsWide (frame_on at.now) (lists_on at.now) (length numbers.old) }
-    requires worths { IsWide (frame_on at.now) (lists_on at.now) (length worths.old) }
+    requires worths { IsWideEarlier (frame_on at.now) (lists_on at.now) (length worths.old) }
     requires sums { at.now.count ≤ length sums.old }
     ensures { AreSums (frame_on at.now) (lists_on at.now) (total_worth (frame_on at.now) (lists_on at.now) (totals_on at.now)) at.now.point
         (move_count (frame_on at.now) at.now.point) sums.new }
@@ -63,7 +64,7 @@ pub(crate) fn merge_moves(
 )
     requires row { IsWide (frame_on at.now) (lists_on at.now) (length row.old) }
     requires numbers { IsWide (frame_on at.now) (lists_on at.now) (length numbers.old) }
-    requires worths { IsWide (frame_on at.now) (lists_on at.now) (length worths.old) }
+    requires worths { IsWideEarlier (frame_on at.now) (lists_on at.now) (length worths.old) }
     requires best { at.now.count ≤ length best.old }
     requires moves { at.now.count ≤ length moves.old }
     ensures { IsMerged (frame_on at.now) (lists_on at.now) at.now.side.player (total_worth (frame_on at.now) (lists_on at.now) (totals_on at.now))

@@ -1,9 +1,9 @@
 //! Room for class totals.
 
 ghost use Rattle.std.specs.Prelude.{◌≡◌, ◌≤◌, ℕ, IfOk, length, slice_index};
-ghost use Rattle.gs_model.specs.Frame.{point_count};
+ghost use Rattle.gs_model.specs.Frame.{last_round, point_count};
 ghost use Rattle.gs_seq.specs.Abstracts.{abstract_frame, lists_of};
-ghost use Rattle.gs_best.specs.{Rooms.{HasRows, HoldsAll, IsLaid, IsWide}, Tables.{AreStarts, start_of}};
+ghost use Rattle.gs_best.specs.{Rooms.{HasRows, HoldsAll, IsLaid, IsWide, IsWideTo}, Tables.{AreStarts, start_of}};
 
 use gs_seq::Abstract;
 use std::alloc::{AllocError, Global};
@@ -18,14 +18,14 @@ pub struct Table {
     pub picks: Vec<u8>,
 }
 
-/// Scratch rows, with one entry for each class.
+/// Scratch rows, with an entry for each class of any round; `worths` has one for each class of any round before the last.
 #[derive(Drop)]
 pub struct Scratch {
     // the other player's numbers at an end
     pub numbers: Vec<u64>,
     // what an end pays
     pub ends: Vec<i128>,
-    // what a move is worth
+    // what a move is worth that leads to a later round
     pub worths: Vec<i128>,
     // the totals of a point from the moves so far
     pub best: Vec<i128>,
@@ -65,16 +65,25 @@ pub fn value_total(form: &Abstract) -> u32
     total
 }
 
+/// Returns the greatest number of classes of any of the first `rounds` rounds.
+fn widest_to(form: &Abstract, rounds: u8) -> u32
+    requires { rounds ≤ last_round (abstract_frame form.now) }
+    ensures wide { IsWideTo rounds (lists_of form.now) result }
+    ensures least { (n : ℕ) → IsWideTo rounds (lists_of form.now) n → result ≤ n }
+{
+    let mut most = 0;
+    for before in 0..rounds {
+        most = form.class_total(before + 1).max(most);
+    }
+    most
+}
+
 /// Returns the greatest number of classes of any round.
 pub fn widest(form: &Abstract) -> u32
     ensures wide { IsWide (abstract_frame form.now) (lists_of form.now) result }
     ensures least { (n : ℕ) → IsWide (abstract_frame form.now) (lists_of form.now) n → result ≤ n }
 {
-    let mut most = 0;
-    for before in 0..form.round_total() {
-        most = form.class_total(before + 1).max(most);
-    }
-    most
+    widest_to(form, form.round_total())
 }
 
 /// Returns a table with room for the class totals of a game, and with the place where each point's numbers start.
@@ -92,15 +101,16 @@ fn table_for(alloc: Global, form: &Abstract) -> Result<Table, AllocError>
     Ok(table)
 }
 
-/// Returns scratch rows with an entry for each class of any round.
+/// Returns scratch rows with an entry for each class of any round, and one of worths for the rounds before the last.
 fn scratch_for(alloc: Global, form: &Abstract) -> Result<Scratch, AllocError>
     ensures { IfOk result (HasRows (abstract_frame form.now) (lists_of form.now)) }
 {
     let wide = widest(form) as usize;
+    let earlier = widest_to(form, form.round_total() - 1) as usize;
     Ok(Scratch {
         numbers: vec![in alloc; 0u64; wide]?,
         ends: vec![in alloc; 0i128; wide]?,
-        worths: vec![in alloc; 0i128; wide]?,
+        worths: vec![in alloc; 0i128; earlier]?,
         best: vec![in alloc; 0i128; wide]?,
         moves: vec![in alloc; 0u8; wide]?,
     })

@@ -3,7 +3,7 @@
 ghost use Rattle.std.specs.Prelude.{◌+◌, ◌<◌, ◌≤◌, length};
 ghost use Rattle.gs_game.specs.Seen.{target_of};
 ghost use Rattle.gs_model.specs.{Classes.{class_count}, Frame.{move_count}, FrameFacts.{IsInside}};
-ghost use Rattle.gs_best.specs.{Rows.{AreWorths}, ClassTotals.{total_worth}, LaterRows.{IsRowOf}, Rooms.{IsLaid, IsWide}};
+ghost use Rattle.gs_best.specs.{Rows.{AreWorths}, ClassTotals.{total_worth}, LaterRows.{IsRowOf}, Rooms.{IsLaid, IsWide, IsWideEarlier}};
 ghost use Rattle.gs_best.specs.{Sides.{frame_at, lists_at, totals_at}, Spots.{frame_on, lists_on, totals_on}};
 
 use crate::gathering::read_row;
@@ -58,7 +58,7 @@ pub(crate) fn read_worths<'r>(
     requires choice { choice < move_count (frame_on at.now) at.now.point }
     requires row { IsWide (frame_on at.now) (lists_on at.now) (length row.old) }
     requires numbers { IsWide (frame_on at.now) (lists_on at.now) (length numbers.old) }
-    requires wide { IsWide (frame_on at.now) (lists_on at.now) (length worths.old) }
+    requires wide { IsWideEarlier (frame_on at.now) (lists_on at.now) (length worths.old) }
     ensures worths { AreWorths (frame_on at.now) (lists_on at.now) (total_worth (frame_on at.now) (lists_on at.now) (totals_on at.now)) at.now.point
         choice result.now }
     ensures long { at.now.count ≤ length result.now }

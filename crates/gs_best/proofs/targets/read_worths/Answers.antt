@@ -23,8 +23,11 @@ read_row-requires-clause-row c =
     c.row_to-below.ensures.room
 
 pub read_row-requires-clause-wide : goal.read_row-requires-clause-wide
-read_row-requires-clause-wide c = let at = c.args.at.now in c.requires.wide at.round (some_at at)
-    (omega (arith, at.round_is, (walked at.side).point_in at.point at.inside))
+read_row-requires-clause-wide c = λ later.
+    let at = c.args.at.now in
+    let row = later_row at c.args.choice c.requires.choice c.row_to-below.result (held (goal.at.read_row-requires-clause-wide c).After-row_to-below)
+    c.row_to-below.ensures.room in
+    c.requires.wide at.round (some_at at) (omega (arith, later, row.top))
 
 pub returns-clause-worths : goal.returns-clause-worths
 returns-clause-worths c = worths_by c.args.at.now c.args.choice c.requires.choice c.row_to-below.result

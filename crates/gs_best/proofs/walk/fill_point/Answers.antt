@@ -1,6 +1,6 @@
-use Rattle.std.proofs.Common.{◌≡◌, ℕ, ◌≤◌, ◌++◌, List, length, drop, take, sym, ap, ◌∙◌, subst, arith}
+use Rattle.std.proofs.Common.{◌≡◌, ℕ, ◌-◌, ◌≤◌, ◌++◌, List, length, drop, take, sym, ap, ◌∙◌, subst, arith}
 use Rattle.std.specs.{Prelude.{ℤ, pos}, Vec.{with_items}}
-use Rattle.gs_model.specs.Frame.{point_count}
+use Rattle.gs_model.specs.Frame.{last_round, point_count}
 use Rattle.gs_best.specs.{ClassTotals.{total_worth}, Rows.{IsCopied, IsMerged}, Places.{AreBestFrom}, Rooms.{HasRows, IsWide}, Tables.{classes_at}}
 use Rattle.gs_best.specs.Sides.{frame_at, lists_at, picks_at, totals_at}
 use Rattle.gs_best.proofs.{Placed.{IsRow}, Slices.{kept_through, long_through, through, wide_through}, Modest.{known_modest}}
@@ -92,14 +92,14 @@ scratch_rows : (c : After-merge_moves) → HasRows (frame_at c.args.side.now) (l
 })
 scratch_rows c =
     let old = c.args.scratch.now in
-    let f = frame_at c.args.side.now in
+    let all = last_round (frame_at c.args.side.now) in
     let lists = lists_at c.args.side.now in
     record {
-      numbers = wide_through old.numbers _ c.merge_moves.new.numbers c.deref_mut-2.ensures.value c.merge_moves.auto.numbers f lists c.requires.rows.numbers;
-      ends = wide_through old.ends _ c.merge_moves.new.row c.deref_mut.ensures.value c.merge_moves.auto.row f lists c.requires.rows.ends;
-      worths = wide_through old.worths _ c.merge_moves.new.worths c.deref_mut-3.ensures.value c.merge_moves.auto.worths f lists c.requires.rows.worths;
-      best = wide_through old.best _ c.merge_moves.new.best c.deref_mut-4.ensures.value c.merge_moves.auto.best f lists c.requires.rows.best;
-      moves = wide_through old.moves _ c.merge_moves.new.moves c.deref_mut-5.ensures.value c.merge_moves.auto.moves f lists c.requires.rows.moves;
+      numbers = wide_through old.numbers _ c.merge_moves.new.numbers c.deref_mut-2.ensures.value c.merge_moves.auto.numbers all lists c.requires.rows.numbers;
+      ends = wide_through old.ends _ c.merge_moves.new.row c.deref_mut.ensures.value c.merge_moves.auto.row all lists c.requires.rows.ends;
+      worths = wide_through old.worths _ c.merge_moves.new.worths c.deref_mut-3.ensures.value c.merge_moves.auto.worths (all - 1) lists c.requires.rows.worths;
+      best = wide_through old.best _ c.merge_moves.new.best c.deref_mut-4.ensures.value c.merge_moves.auto.best all lists c.requires.rows.best;
+      moves = wide_through old.moves _ c.merge_moves.new.moves c.deref_mut-5.ensures.value c.merge_moves.auto.moves all lists c.requires.rows.moves;
     }
 
 pub returns-clause-rows : goal.returns-clause-rows

@@ -1,7 +1,7 @@
 use Rattle.std.proofs.{Common.{◌≡◌, ◌+◌, ap, arith, ⊎_elim}, lemmas.Bool.{cases_eq}}
 use Rattle.gs_model.specs.Classes.{class_count}
 use Rattle.gs_seq.specs.Abstracts.{lists_of}
-use Rattle.gs_best.proofs.tables.widest.Goals as goal
+use Rattle.gs_best.proofs.tables.widest_to.Goals as goal
 
 pub loop-before-preserved : goal.loop-before-preserved
 loop-before-preserved c =
@@ -16,7 +16,6 @@ loop-before-preserved c =
         c.max-most.ensures,
         c.class_total.ensures.value,
         c.loop-before.invariant.least n h,
-        h (i + 1) (omega arith)
-            (omega (arith, c.loop-before-test.true, c.round_total-before-end.ensures.value)),
+        h (i + 1) (omega arith) (omega (arith, c.loop-before-test.true)),
       );
     }
