@@ -1,4 +1,4 @@
-use Rattle.std.proofs.{Common.{◌≡◌, ◌≤◌, ◌++◌, ℕ, List, length, take, ◌∙◌, arith}, lemmas.List.{length-append, length-take}, KnownBytes.{Consumes-trans}}
+use Rattle.std.proofs.{Common.{rules, ◌≡◌, ◌≤◌, ◌++◌, ℕ, List, length, take, ◌∙◌, arith}, lemmas.List.{length-append, length-take}, KnownBytes.{Consumes-trans}}
 use Rattle.gs_io.proofs.whole.read_all.Goals as goal
 
 -- a piece that was cut to the room has no more bytes than the room
@@ -19,3 +19,6 @@ returns-then-is_err g c =
       ),
       c.in-Ok.ensures.cause.ok ∙ c.loop-piece.invariant.faults,
     )
+
+pub returns : goal.returns
+returns g c = search rules

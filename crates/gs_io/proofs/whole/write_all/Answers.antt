@@ -1,4 +1,4 @@
-use Rattle.std.proofs.Common.{◌∙◌, arith}
+use Rattle.std.proofs.Common.{◌∙◌, arith, rules}
 use Rattle.gs_io.proofs.Known.{appends_more}
 use Rattle.gs_io.proofs.whole.write_all.Goals as goal
 
@@ -11,3 +11,6 @@ loop-written-preserved g c =
       faults = c.in-Ok.ensures.cause.ok ∙ c.loop-written.invariant.faults;
       within = omega (arith, c.in-Ok.ensures.count.1);
     }
+
+pub returns-in-Err : goal.returns-in-Err
+returns-in-Err g c = search rules
