@@ -1,5 +1,8 @@
 use Rattle.std.proofs.Common.{rules}
-use Rattle.gs_words.proofs.reading.make_request.Goals as goal
+use Rattle.gs_words.proofs.reading.play_request.Goals as goal
+
+pub returns-in_err-turns-clause-value : goal.returns-in_err-turns-clause-value
+returns-in_err-turns-clause-value c = search rules
 
 pub returns-clause-value : goal.returns-clause-value
 returns-clause-value c = search rules
