@@ -1,4 +1,5 @@
 use Rattle.std.proofs.Common.{◌≡◌, suc, ◌+◌, ℕ, List, Option, Some, cond, ap, ◌∙◌, arith}
+use Rattle.std.proofs.lemmas.Grind.{common_steps}
 use Rattle.std.specs.Prelude.{nat_eq}
 use lib.Pointwise.{pointwise}
 use Rattle.gs_game.specs.Games.{game_of}
@@ -52,3 +53,9 @@ returns c =
     let count = counted (goal.at.returns c).After-len-count in
     are_boards (game_of c.args.game.now) c.loop-signal.signal c.len-count.result c.loop-signal.boards.firsts.items c.loop-signal.boards.nexts.items
     c.loop-signal.invariant.linked (omega (arith, count, c.loop-signal.auto.signal-end, c.loop-signal-test.false)) count
+
+pub loop-signal-init : goal.loop-signal-init
+loop-signal-init c = grind (arith, common_steps)
+
+pub overflow_cast-count : goal.overflow_cast-count
+overflow_cast-count c = grind (arith, common_steps)

@@ -1,4 +1,5 @@
 use Rattle.std.proofs.Common.{◌≡◌, ◌*◌, ◌<◌, ◌++◌, ℕ, List, [], suc, length, map, drop, take, take_all, get_or, slice_index, refl, sym, ap, ◌∙◌, subst}
+use Rattle.std.proofs.lemmas.Grind.{common_steps}
 use Rattle.std.proofs.Common.{append_assoc, arith}
 use Rattle.std.proofs.{lemmas.Grind.{get_or_default_zero}, lemmas.List.{length-map}}
 use Rattle.std.specs.Prelude.{flat_map, IfOk}
@@ -114,3 +115,6 @@ returns c =
       ap (λ (x : List Shown). length x) c.deref-last-items.ensures.value,
       c.loop-signal-test.false,
     )))
+
+pub paired_cards-requires-clause-each : goal.paired_cards-requires-clause-each
+paired_cards-requires-clause-each c = grind (arith, common_steps)

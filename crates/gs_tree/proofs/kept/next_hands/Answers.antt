@@ -1,3 +1,4 @@
+use Rattle.std.proofs.lemmas.Grind.{common_steps}
 use Rattle.std.proofs.{Common.{◌≡◌, ◌≤◌, ℕ, List, [], suc, length, take, ap, ◌∙◌, arith}, lemmas.List.{length-map}}
 use Rattle.std.specs.Prelude.{max}
 use Rattle.gs_game.specs.{Games.{game_of}, Refusals.{own_card_total as own_count, public_card_total as public_count}}
@@ -29,3 +30,9 @@ returns c =
       public_each = part_long public_cards (public_count (take n g.rounds)) ss [] c.len-3.result c.max-each.result (λ i l. (dealt g n i within l).public_n)
           (omega (arith, c.len-3.ensures, c.in_ok-publics.publics.ok.0, ap (λ (x : List ℕ). length x) c.in_ok-publics.ensures)) each;
     }
+
+pub next_cards-requires-2-clause-each : goal.next_cards-requires-2-clause-each
+next_cards-requires-2-clause-each c = grind (arith, common_steps)
+
+pub next_cards-requires-clause-each : goal.next_cards-requires-clause-each
+next_cards-requires-clause-each c = grind (arith, common_steps)

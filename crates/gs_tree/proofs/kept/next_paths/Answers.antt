@@ -1,3 +1,4 @@
+use Rattle.std.proofs.lemmas.Grind.{common_steps}
 use Rattle.std.proofs.{Common.{◌≡◌, ◌*◌, ◌<◌, ℕ, List, [], suc, length, get_or, sym, ap, ◌∙◌, arith}, lemmas.List.{get_or-map, length-map}}
 use Rattle.gs_game.specs.Games.{game_of}
 use Rattle.gs_model.specs.{Deals.{path_weight}, Game.{Game}, Signals.{signal_at, signals}}
@@ -77,3 +78,6 @@ returns-in-Some-Some c =
     let ones = c.in-Some-Some in
     c.all_ones.ensures ∙ one_way g t.parents.items t.layers.items c.args.round c.requires.tables c.requires.round_in c.index-parents.result.now
     c.index.result.now c.index-parents.ensures c.index.ensures ones.field-0-0 ones.count (sym c.requires.before ∙ ones.ensures) ones.ensures'
+
+pub returns : goal.returns
+returns c = grind (arith, common_steps)

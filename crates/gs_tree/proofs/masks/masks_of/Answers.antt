@@ -1,4 +1,5 @@
 use Rattle.std.proofs.Common.{◌≡◌, ◌<◌, ◌+◌, ◌*◌, ◌≤◌, ◌==◌, ◌∙◌, ℕ, List, All, ap, arith, count_by, drop, get_or, length, min, subst, sym, take}
+use Rattle.std.proofs.lemmas.Grind.{common_steps}
 use Rattle.std.proofs.lemmas.List.{length_push}
 use Rattle.std.specs.Int.{bit_at}
 use Rattle.gs_game.specs.Games.{game_of}
@@ -61,3 +62,9 @@ loop-signal-preserved c =
           subst P (sym items) (old_read Held masks c.loop-signal.signal c.mask_of.result c.loop-signal.invariant.long
           (λ j m k. c.loop-signal.invariant.held j k m) new i l card);
     }
+
+pub returns : goal.returns
+returns c = grind (arith, common_steps)
+
+pub overflow_cast-count : goal.overflow_cast-count
+overflow_cast-count c = grind (arith, common_steps)

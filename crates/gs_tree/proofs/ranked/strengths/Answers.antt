@@ -36,3 +36,6 @@ returns-clause-value c = grind (arith, common_steps)
 
 pub returns-clause-within : goal.returns-clause-within
 returns-clause-within c = grind (arith, common_steps)
+
+pub overflow_cast-count : goal.overflow_cast-count
+overflow_cast-count c = grind (arith, common_steps)

@@ -1,4 +1,5 @@
 use Rattle.std.proofs.Common.{◌≡◌, ◌++◌, ◌∷◌, [], ◌-◌, ℕ, List, None, Option, Some, Bor, sym, subst, arith}
+use Rattle.std.proofs.lemmas.Grind.{common_steps}
 use Rattle.gs_card.specs.Decks.{DeckValue, kinds}
 use Rattle.gs_game.specs.Games.{game_of}
 use Rattle.gs_model.specs.{Game.{Game}, Signals.{signal_at}}
@@ -95,3 +96,6 @@ returns t c =
     subst Q (whole_text t w.After-index-parent (seen t w.After-index-shown).shows)
     (rest_both text (front ++ 47 ∷ []) (seen_text c.args.game.now.deck (seen_of c.index-shown.result.now)) c.in_ok-rest-2.rest.now c.after_seen-2.result both
     c.after_seen-2.ensures)
+
+pub index-shown-requires : goal.index-shown-requires
+index-shown-requires t c = grind (arith, common_steps)

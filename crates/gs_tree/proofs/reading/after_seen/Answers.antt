@@ -1,4 +1,5 @@
-use Rattle.std.proofs.Common.{◌++◌, [], ◌∷◌, ℕ, List, None, Option, Bor, subst, sym}
+use Rattle.std.proofs.Common.{◌++◌, [], ◌∷◌, ℕ, List, None, Option, Bor, subst, sym, arith}
+use Rattle.std.proofs.lemmas.Grind.{common_steps}
 use Rattle.gs_card.specs.Decks.{DeckValue}
 use Rattle.gs_tree.specs.{Shown.{cards_of, seen_of}, Texts.{IsRest, group_text, public_text, seen_text}}
 use Rattle.gs_tree.proofs.{Rests.{public_shown, rest_both, rest_none}, reading.after_seen.Goals.{Else-is_empty}}
@@ -37,3 +38,9 @@ returns c =
     seen (goal.at.returns c).Else-is_empty o (rest_both c.args.text.now (group_text d c.cards.result.now)
     (43 ∷ group_text d public) behind o c.in_ok-rest.ensures
     (rest_both behind (43 ∷ []) (group_text d public) c.in_ok-rest-2.rest.now o c.in_ok-rest-2.ensures c.after_group-2.ensures))
+
+pub after_group-requires-2 : goal.after_group-requires-2
+after_group-requires-2 c = grind (arith, common_steps)
+
+pub returns-in_err-rest : goal.returns-in_err-rest
+returns-in_err-rest c = grind (arith, common_steps)

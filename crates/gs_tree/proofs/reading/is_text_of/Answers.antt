@@ -1,3 +1,5 @@
+use Rattle.std.proofs.Common.{arith}
+use Rattle.std.proofs.lemmas.Grind.{common_steps}
 use Rattle.std.proofs.{Common.{[], sym, ◌∙◌, append-nil}, lemmas.Bool.{true≢false}}
 use Rattle.gs_game.specs.Games.{game_of}
 use Rattle.gs_model.specs.Signals.{signal_at}
@@ -8,3 +10,6 @@ pub returns-in-None : goal.returns-in-None
 returns-in-None c =
     let whole = signal_text c.args.game.now.deck (signal_at (game_of c.args.game.now) c.args.round c.args.signal) in
     (λ e. absurd (true≢false (sym e)), λ e. absurd (c.in-None.ensures [] (e ∙ sym (append-nil whole))))
+
+pub returns-in-Some : goal.returns-in-Some
+returns-in-Some c = grind (arith, common_steps)

@@ -1,4 +1,5 @@
 use Rattle.std.proofs.Common.{◌≡◌, ◌-◌, List, get_or, ap, ◌∙◌, arith}
+use Rattle.std.proofs.lemmas.Grind.{common_steps}
 use Rattle.gs_model.specs.Game.{Game}
 use Rattle.gs_tree.specs.{Trees.{rules_of}, declared.layer.Layer.{Layer}}
 use Rattle.gs_tree.proofs.Lookups.{layer_of}
@@ -13,3 +14,6 @@ returns c =
     let h = layer_of g c.args.self.now.tables.parents.items ls c.args.round l c.args.self.now.listed c.requires.some
     (omega (arith, c.args.self.now.counted, c.requires.last)) at in
     c.of.ensures ∙ h.weighs c.args.signal c.requires.in_range
+
+pub of-requires : goal.of-requires
+of-requires c = grind (arith, common_steps)

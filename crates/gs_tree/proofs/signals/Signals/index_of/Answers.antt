@@ -1,4 +1,5 @@
 use Rattle.std.proofs.Common.{◌≡◌, ◌<◌, ℕ, Some, length, sym, ap, ◌∙◌, arith}
+use Rattle.std.proofs.lemmas.Grind.{common_steps}
 use Rattle.gs_game.specs.{Games.{game_of}, declared.game.Game.{Game as Described}}
 use Rattle.gs_model.specs.{Game.{Game}, Signals.{signal_at, signals}}
 use Rattle.gs_tree.specs.{Texts.{signal_text}, Trees.{deck_of, rules_of}}
@@ -16,3 +17,6 @@ returns-then-is_text_of-clause-only c =
     ∙ ap (λ k. signal_text d (signal_at g k n)) c.from.ensures in
     let within : n < length (signals g c.args.round) = omega (arith, c.loop-signal-test.true, c.count-signal-end.ensures.value) in
     λ i l e. ap Some (text_once g d c.args.round n i c.deck-deck.ensures.valid c.deck-deck.ensures.valid.counted within l (sym here ∙ e))
+
+pub loop-signal-preserved : goal.loop-signal-preserved
+loop-signal-preserved c = grind (arith, common_steps)

@@ -1,3 +1,4 @@
+use Rattle.std.proofs.lemmas.Grind.{common_steps}
 use Rattle.std.proofs.{Common.{◌≡◌, ℕ, List, [], get_or, ap, ◌∙◌, arith}, lemmas.List.{get_or-map}}
 use Rattle.gs_model.specs.{Deals.{path_weight}, Game.{Game, round_count}, Signals.{signal_at, signals}}
 use Rattle.gs_model.proofs.Facing.{leaves_are_deals}
@@ -12,3 +13,9 @@ returns-clause-some c =
     c.of.ensures ∙ ap (λ (x : List ℕ). get_or x c.args.signal 0) s.dealt.weighed
     ∙ get_or-map (path_weight g.copies) (signals g (round_count g)) c.args.signal [] 0 c.requires in
     omega (arith, value, (leaves_are_deals g c.args.signal c.requires).0)
+
+pub of-requires : goal.of-requires
+of-requires c = grind (arith, common_steps)
+
+pub returns-clause-value : goal.returns-clause-value
+returns-clause-value c = grind (arith, common_steps)
