@@ -4,7 +4,7 @@ use Rattle.std.proofs.Common.{◌∙◌, arith}
 use Rattle.std.proofs.{lemmas.Bool.{cases_eq, cases_order}, lemmas.Int.{ints, unsigned_abs-mul}, Math.Nat.{dvd-mul_right}}
 use Rattle.gs_simplex.specs.{Rows.{IsCombination, IsUnlistedRow, IsListedRow, IsAimRow, IsPrimitive}, Sums.{sum_to}}
 use Prim.Native.Nat.{◌∣◌}
-use Rattle.gs_simplex.proofs.{Ring.{ring, linear, times_zero, sum_times, times_pos, cancel, cancel_zero}, Sums.{sum_same, sum_scale}}
+use Rattle.gs_simplex.proofs.{Ring.{ring, linear, one_times, times_zero, sum_times, times_pos, cancel, cancel_zero}, Sums.{sum_same, sum_scale}}
 use Rattle.gs_simplex.proofs.Rows.{sum_mix, combination_mix}
 
 module _ {n m : ℕ} {A : ℕ → ℕ → ℤ} {s : ℤ} {y : ℕ → ℤ} where
@@ -114,9 +114,28 @@ module _ {n m : ℕ} {A : ℕ → ℕ → ℤ} {s : ℤ} {y : ℕ → ℤ} where
     each = λ j jn. let q : (s *ℤ g) *ℤ Q j ≡ s *ℤ (g *ℤ Q j) = simp ring in q ∙ ap (λ v. s *ℤ v) (sym (e j jn)) ∙ u.each j jn;
   }
 
--- multiples of one row
-pub common_row : (k n : ℕ) (a b : ℕ) → a + b ≤ k → 0 < a → 0 < b → (R S : ℕ → ℤ) → ((j : ℕ) → j ≤ n → pos a *ℤ R j ≡ pos b *ℤ S j)
-    → (T : ℕ → ℤ) × (c : ℕ) × (d : ℕ) × (0 < c) × (0 < d) × ((j : ℕ) → j ≤ n → (R j ≡ pos d *ℤ T j) × (S j ≡ pos c *ℤ T j))
+-- two rows are multiples of one
+abbrev HasCommon : ℕ → (ℕ → ℤ) → (ℕ → ℤ) → Type 0
+HasCommon n R S = (T : ℕ → ℤ) × (c : ℕ) × (d : ℕ) × (0 < c) × (0 < d) × ((j : ℕ) → j ≤ n → (R j ≡ pos d *ℤ T j) × (S j ≡ pos c *ℤ T j))
+
+turned : (n : ℕ) (R S : ℕ → ℤ) → HasCommon n S R → HasCommon n R S
+turned n R S w = (w.0, w.2, w.1, w.4, w.3, λ j jn. ((w.5 j jn).1, (w.5 j jn).0))
+
+joined : (c d : ℕ) (r s t : ℤ) → r -ℤ s ≡ pos d *ℤ t → s ≡ pos c *ℤ t → r ≡ pos (d + c) *ℤ t
+joined c d r s t f g = let l : pos (d + c) *ℤ t ≡ pos d *ℤ t +ℤ pos c *ℤ t = sum_times (pos d) (pos c) t in omega (arith, linear)
+
+grown : (n : ℕ) (R S : ℕ → ℤ) → HasCommon n (λ j. R j -ℤ S j) S → HasCommon n R S
+grown n R S w =
+    (w.0, w.1, w.2 + w.1, w.3, omega (arith, w.4), λ j jn. (joined w.1 w.2 (R j) (S j) (w.0 j) (w.5 j jn).0 (w.5 j jn).1, (w.5 j jn).1))
+
+lessened : (a b : ℕ) (r s : ℤ) → a ≤ b → pos a *ℤ r ≡ pos b *ℤ s → pos a *ℤ (r -ℤ s) ≡ pos (b - a) *ℤ s
+lessened a b r s h e =
+    let g : pos b ≡ pos a +ℤ pos (b - a) = omega (arith, ints) in
+    let f : pos a *ℤ r ≡ (pos a +ℤ pos (b - a)) *ℤ s = e ∙ ap (λ v. v *ℤ s) g in
+    let l : (pos a +ℤ pos (b - a)) *ℤ s ≡ pos a *ℤ s +ℤ pos (b - a) *ℤ s = sum_times (pos a) (pos (b - a)) s in
+    let t : pos a *ℤ (r -ℤ s) ≡ pos a *ℤ r -ℤ pos a *ℤ s = simp ring in omega (arith, linear)
+
+common_row : (k n : ℕ) (a b : ℕ) → a + b ≤ k → 0 < a → 0 < b → (R S : ℕ → ℤ) → ((j : ℕ) → j ≤ n → pos a *ℤ R j ≡ pos b *ℤ S j) → HasCommon n R S
 common_row zero n a b h p q R S e = absurd (omega arith)
 common_row (suc k) n a b h p q R S e = elim (cases_order a b) [
   | inl same ↦ (
@@ -126,46 +145,16 @@ common_row (suc k) n a b h p q R S e = elim (cases_order a b) [
     omega arith,
     omega arith,
     λ j jn. (
-      let f : pos a *ℤ R j ≡ pos a *ℤ S j = e j jn ∙ ap (λ v. pos v *ℤ S j) (sym same) in
-          let g : R j ≡ S j = cancel (pos a) (R j) (S j) (omega (arith, linear)) f in g ∙ simp ring,
-      simp ring,
+      cancel (pos a) (R j) (S j) (omega (arith, linear)) (e j jn ∙ ap (λ v. pos v *ℤ S j) (sym same)) ∙ sym (one_times (S j)),
+      sym (one_times (S j)),
     ),
   )
   | inr apart ↦ elim apart [
     | inl less ↦
-        (let w = common_row k n a (b - a) (omega arith) p (omega arith) (λ j. R j -ℤ S j) S
-        (λ j jn. (let f : pos a *ℤ R j ≡ pos b *ℤ S j = e j jn in let g : pos b ≡ pos a +ℤ pos (b - a) = omega (arith, ints) in
-        let h' : pos a *ℤ R j ≡ (pos a +ℤ pos (b - a)) *ℤ S j = f ∙ ap (λ v. v *ℤ S j) g in
-        let l : (pos a +ℤ pos (b - a)) *ℤ S j ≡ pos a *ℤ S j +ℤ pos (b - a) *ℤ S j = sum_times (pos a) (pos (b - a)) (S j) in
-        let r : pos a *ℤ (R j -ℤ S j) ≡ pos a *ℤ R j -ℤ pos a *ℤ S j = simp ring in omega (arith, linear))) in (
-          w.0,
-          w.1,
-          w.2 + w.1,
-          w.3,
-          omega (arith, w.3, w.4),
-          λ j jn. (
-            let f0 : R j -ℤ S j ≡ pos w.2 *ℤ w.0 j = (w.5 j jn).0 in let f1 : S j ≡ pos w.1 *ℤ w.0 j = (w.5 j jn).1 in
-                let l : pos (w.2 + w.1) *ℤ w.0 j ≡ pos w.2 *ℤ w.0 j +ℤ pos w.1 *ℤ w.0 j = sum_times (pos w.2) (pos w.1) (w.0 j) in omega (arith, linear),
-            (w.5 j jn).1,
-          ),
-        ))
+        grown n R S (common_row k n a (b - a) (omega arith) p (omega arith) (λ j. R j -ℤ S j) S (λ j jn. lessened a b (R j) (S j) (omega arith) (e j jn)))
     | inr more ↦
-        (let w = common_row k n (a - b) b (omega arith) (omega arith) q R (λ j. S j -ℤ R j)
-        (λ j jn. (let f : pos a *ℤ R j ≡ pos b *ℤ S j = e j jn in let g : pos a ≡ pos (a - b) +ℤ pos b = omega (arith, ints) in
-        let h' : (pos (a - b) +ℤ pos b) *ℤ R j ≡ pos b *ℤ S j = ap (λ v. v *ℤ R j) (sym g) ∙ f in
-        let l : (pos (a - b) +ℤ pos b) *ℤ R j ≡ pos (a - b) *ℤ R j +ℤ pos b *ℤ R j = sum_times (pos (a - b)) (pos b) (R j) in
-        let r : pos b *ℤ (S j -ℤ R j) ≡ pos b *ℤ S j -ℤ pos b *ℤ R j = simp ring in omega (arith, linear))) in (
-          w.0,
-          w.1 + w.2,
-          w.2,
-          omega (arith, w.3, w.4),
-          w.4,
-          λ j jn. (
-            (w.5 j jn).0,
-            (let f0 : R j ≡ pos w.2 *ℤ w.0 j = (w.5 j jn).0 in let f1 : S j -ℤ R j ≡ pos w.1 *ℤ w.0 j = (w.5 j jn).1 in
-                let l : pos (w.1 + w.2) *ℤ w.0 j ≡ pos w.1 *ℤ w.0 j +ℤ pos w.2 *ℤ w.0 j = sum_times (pos w.1) (pos w.2) (w.0 j) in omega (arith, linear)),
-          ),
-        ))
+        turned n R S (grown n S R (turned n (λ j. S j -ℤ R j) R
+        (common_row k n (a - b) b (omega arith) (omega arith) q R (λ j. S j -ℤ R j) (λ j jn. sym (lessened b a (S j) (R j) (omega arith) (sym (e j jn)))))))
   ]
 ]
 
