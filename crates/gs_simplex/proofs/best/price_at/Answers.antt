@@ -1,4 +1,5 @@
 use Rattle.std.proofs.Common.{◌≡◌, ◌+◌, pos, neg_ℤ, ◌-ℤ◌, ◌*ℤ◌, to_z, of_z, sym, ap, ◌∙◌, arith}
+use Rattle.std.proofs.lemmas.Grind.{common_steps}
 use mir.Syntax.{w128}
 use Rattle.gs_simplex.specs.{Numbers.{cell}, Table.{table_aim}}
 use Rattle.gs_simplex.proofs.{Fits.{widened, negated}, Tables.{flipped_other}}
@@ -14,3 +15,9 @@ returns c =
     negated c.number_at-falls.result c.from.result c.number_at-falls.ensures.narrow c.from.ensures
     ∙ ap neg_ℤ (c.number_at-falls.ensures.value ∙ sym (flipped_other n X c.args.j (λ e. omega (arith, c.requires.column)))) in
     ap (λ t. f.num *ℤ t) (sym m) ∙ c.new.ensures ∙ ap (λ t. t *ℤ f.den) g
+
+pub new-requires-clause-positive : goal.new-requires-clause-positive
+new-requires-clause-positive c = grind (arith, common_steps)
+
+pub new-requires-clause-fits : goal.new-requires-clause-fits
+new-requires-clause-fits c = grind (arith, common_steps)

@@ -1,4 +1,5 @@
 use Rattle.std.proofs.Common.{◌≡◌, ℕ, ◌+◌, ◌-◌, ◌*ℤ◌, to_z, of_z, sym, ap, subst, ◌∙◌, arith}
+use Rattle.std.proofs.lemmas.Grind.{common_steps}
 use mir.Syntax.{w128}
 use Rattle.gs_simplex.specs.Numbers.{cell}
 use Rattle.gs_simplex.proofs.Fits.{widened}
@@ -21,3 +22,6 @@ returns c =
           subst P s (ap (λ t. f.num *ℤ t) (sym own) ∙ c.new-2.ensures ∙ ap (λ t. t *ℤ f.den) side));
       unlisted = λ e. absurd (c.if-row-eq0.false e);
     }
+
+pub new-requires-2-clause-positive : goal.new-requires-2-clause-positive
+new-requires-2-clause-positive c = grind (arith, common_steps)

@@ -1,4 +1,5 @@
 use Rattle.std.proofs.Common.{◌≡◌, ℕ, ◌<◌, ◌^◌, length, slice_index, ℤ, pos, ◌*ℤ◌, unsigned_abs, to_z, of_z, w64, sym, ap, subst, ◌∙◌, arith}
+use Rattle.std.proofs.lemmas.Grind.{common_steps}
 use Prim.Native.Nat.{◌∣◌}
 use Rattle.gs_simplex.specs.Numbers.{at}
 use Rattle.gs_simplex.proofs.{Ring.{times_zero}, Fits.{kept_64}, Lives.{columns_of, still_old, left_more, done_more, all_written}}
@@ -50,3 +51,9 @@ returns c =
       narrow = all_written (λ j (t : ℤ). unsigned_abs t < 2 ^ 62) places c.args.found (length old) row (λ k h. v.narrow k (omega arith))
           (λ j h none. subst P (sym (v.left j (λ k l. none k (omega arith)))) (c.requires.narrow j h));
     }
+
+pub guessed_quotient-requires-clause-narrow : goal.guessed_quotient-requires-clause-narrow
+guessed_quotient-requires-clause-narrow c = grind (arith, common_steps)
+
+pub bounds-row-j : goal.bounds-row-j
+bounds-row-j c = grind (arith, common_steps)

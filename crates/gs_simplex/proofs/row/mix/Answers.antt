@@ -1,4 +1,5 @@
 use Rattle.std.proofs.Common.{ap, arith, ◌+◌, ◌≡◌, ◌≢◌, ◌<◌, ◌≤◌, ◌^◌, ℕ, List, ℤ, ◌-ℤ◌, ◌*ℤ◌, unsigned_abs, length, sym, subst, ◌∙◌, to_z, of_z, w64, set}
+use Rattle.std.proofs.lemmas.Grind.{common_steps}
 use Rattle.std.proofs.Common.{get_or-set_other, get_or-set_same, below_more}
 use mir.Syntax.{w128}
 use Rattle.gs_simplex.specs.Numbers.{at}
@@ -34,3 +35,12 @@ loop-j-preserved c = record {
 
 pub returns-clause-within : goal.returns-clause-within
 returns-clause-within c = λ j h. c.loop-j.invariant.within j (omega arith)
+
+pub returns-clause-mixed : goal.returns-clause-mixed
+returns-clause-mixed c = grind (arith, common_steps)
+
+pub mixed_number-requires-clause-narrow_y : goal.mixed_number-requires-clause-narrow_y
+mixed_number-requires-clause-narrow_y c = grind (arith, common_steps)
+
+pub mixed_number-requires-clause-narrow_x : goal.mixed_number-requires-clause-narrow_x
+mixed_number-requires-clause-narrow_x c = grind (arith, common_steps)

@@ -1,4 +1,5 @@
 use Rattle.std.proofs.Common.{◌≡◌, ◌<◌, ◌^◌, length, slice_index, ◌+◌, ◌*◌, ℤ, ◌-ℤ◌, ◌*ℤ◌, unsigned_abs, to_z, of_z, w64, sym, ap, subst, ◌∙◌, arith}
+use Rattle.std.proofs.lemmas.Grind.{common_steps}
 use Rattle.std.proofs.lemmas.Int.{to_z-of_z}
 use Rattle.gs_simplex.specs.Numbers.{at}
 use Rattle.gs_simplex.proofs.{Fits.{kept_64}, Lives.{columns_changed, still_old, left_more, done_more, all_written}}
@@ -72,3 +73,6 @@ returns-clause-narrow c =
     let P : ℤ → Type 0 = λ t. unsigned_abs t < 2 ^ 62 in
     λ j h. all_written (λ i (t : ℤ). unsigned_abs t < 2 ^ 62) places c.args.found (length old) row (λ k l. v.narrow k (omega arith))
     (λ i l none. subst P (sym (v.left i (λ k m. none k (omega arith)))) (c.requires.narrow_row i l)) j (omega (arith, c.loop-k.auto.row))
+
+pub bounds-row-j : goal.bounds-row-j
+bounds-row-j c = grind (arith, common_steps)

@@ -1,3 +1,5 @@
+use Rattle.std.proofs.Common.{arith}
+use Rattle.std.proofs.lemmas.Grind.{common_steps}
 use Rattle.gs_simplex.proofs.Fits.{product_kept, mixed_fits, mixed_kept, mixed_small}
 use Rattle.gs_simplex.proofs.row.mixed_number.Goals as goal
 
@@ -25,3 +27,6 @@ pub returns-clause-within : goal.returns-clause-within
 returns-clause-within c =
     let q = c.requires in
     rw (returns-clause-value c) (mixed_small c.args.own c.args.x c.args.far c.args.y q.narrow_own q.narrow_x q.narrow_far q.narrow_y)
+
+pub overflow_mul-second : goal.overflow_mul-second
+overflow_mul-second c = grind (arith, common_steps)

@@ -1,4 +1,5 @@
 use Rattle.std.proofs.Common.{◌≡◌, arith, ◌+◌, ◌<◌, ◌-◌, ◌^◌, ℕ, ℤ, List, pos, length, slice_index, subst, unsigned_abs, sym, ap, ◌∙◌, to_z, of_z, w64}
+use Rattle.std.proofs.lemmas.Grind.{common_steps}
 use Rattle.std.proofs.{lemmas.Int.{to_z_pos}, lemmas.Nat.Gcd.{dvd-zero}}
 use Prim.Native.Nat.{◌∣◌}
 use Rattle.gs_simplex.specs.{Live.{IsSupport}, Numbers.{at, IsDivisor}}
@@ -75,3 +76,6 @@ returns c =
     let all : c.loop-k.k ≡ c.args.found = omega arith in
     of_row c.args.row.now c.args.places.now c.args.found c.unsigned_abs-2.result c.requires.support
     (subst (λ t. IsDivisor t f c.unsigned_abs-2.result) all (subst (λ t. IsDivisor c.loop-k.k f t) e v.all))
+
+pub narrow_common_divisor-common-requires-clause-narrow : goal.narrow_common_divisor-common-requires-clause-narrow
+narrow_common_divisor-common-requires-clause-narrow c = grind (arith, common_steps)

@@ -1,3 +1,4 @@
+use Rattle.std.proofs.lemmas.Grind.{common_steps}
 use Rattle.std.proofs.{Common.{◌*◌, unsigned_abs, ◌-ℤ◌, ◌*ℤ◌, w64, arith}, lemmas.Int.{fits_signed_from_abs}}
 use Rattle.gs_simplex.proofs.Fits.{kept_64, narrow_product, narrow_difference}
 use Rattle.gs_simplex.proofs.row.narrow_mixed_number.Goals as goal
@@ -24,3 +25,9 @@ returns-clause-value c =
 
 pub returns-clause-narrow : goal.returns-clause-narrow
 returns-clause-narrow c = let a = c.args in rw (returns-clause-value c) (narrow_difference a.own a.x a.far a.y c.requires)
+
+pub overflow_mul-result-2 : goal.overflow_mul-result-2
+overflow_mul-result-2 c = grind (arith, common_steps)
+
+pub overflow_mul-result : goal.overflow_mul-result
+overflow_mul-result c = grind (arith, common_steps)

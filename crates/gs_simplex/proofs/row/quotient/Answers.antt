@@ -1,3 +1,4 @@
+use Rattle.std.proofs.lemmas.Grind.{common_steps}
 use Rattle.gs_simplex.proofs.Fits.{quotient_kept, quotient_within, quotient_64, stored, kept_128}
 use Rattle.std.proofs.{Common.{◌<◌, ◌^◌, unsigned_abs, w64, ap, arith}, lemmas.Int.{to_z_pos}}
 use Rattle.gs_simplex.proofs.row.quotient.Goals as goal
@@ -20,3 +21,6 @@ returns-then-unsigned_abs-lt-WIDE-clause-value c =
     ) in
     quotient_64 c.args.by z _ c.from.result _ c.requires.divides small c.if-by-lt-WIDE.true (stored z small)
     (to_z_pos w64 c.args.by (omega (arith, c.if-by-lt-WIDE.true))) c.from.ensures
+
+pub nonzero_div-number : goal.nonzero_div-number
+nonzero_div-number c = grind (arith, common_steps)

@@ -1,4 +1,5 @@
 use Rattle.std.proofs.Common.{◌≡◌, ℕ, ◌+◌, ◌*◌, ◌<◌, ◌≤◌, ◌^◌, ℤ, pos, ◌-ℤ◌, ◌*ℤ◌, ◌<ℤ◌, unsigned_abs, length, slice_index, to_z, of_z, w64, sym, ap, subst}
+use Rattle.std.proofs.lemmas.Grind.{common_steps}
 use Rattle.std.proofs.Common.{◌∙◌, arith}
 use Rattle.std.proofs.lemmas.Nat.{mul-le}
 use Rattle.gs_simplex.specs.{Rows.{IsNarrow}, Numbers.{at, IsShared, IsMultiple}, Live.{IsSupport, IsChange}}
@@ -169,3 +170,39 @@ returns-in-Some c =
     let is : (j : ℕ) → j < length lead → at mixed j ≡ own *ℤ at row j -ℤ far *ℤ at lead j = λ j l. c.mix.ensures.mixed j (omega (arith, c.requires.long)) in
     reduced_wide (at lead) (at row) k (length lead) c.divisor.result c.max-by.result own far mixed sh some long is c.divisor.ensures c.max-by.ensures
     c.in-Some.wide.column c.in-Some.wide.number c.in-Some.ensures
+
+pub lessen-requires-clause-narrow : goal.lessen-requires-clause-narrow
+lessen-requires-clause-narrow c = grind (arith, common_steps)
+
+pub mix_narrow-requires-clause-narrow_row : goal.mix_narrow-requires-clause-narrow_row
+mix_narrow-requires-clause-narrow_row c = grind (arith, common_steps)
+
+pub mix_narrow-requires-clause-narrow_lead : goal.mix_narrow-requires-clause-narrow_lead
+mix_narrow-requires-clause-narrow_lead c = grind (arith, common_steps)
+
+pub mix-requires-clause-narrow_row : goal.mix-requires-clause-narrow_row
+mix-requires-clause-narrow_row c = grind (arith, common_steps)
+
+pub mix-requires-clause-narrow_lead : goal.mix-requires-clause-narrow_lead
+mix-requires-clause-narrow_lead c = grind (arith, common_steps)
+
+pub narrow_into-requires-clause-within : goal.narrow_into-requires-clause-within
+narrow_into-requires-clause-within c = grind (arith, common_steps)
+
+pub known_or_greatest-near-requires-clause-bound : goal.known_or_greatest-near-requires-clause-bound
+known_or_greatest-near-requires-clause-bound c = grind (arith, common_steps)
+
+pub divisor-requires : goal.divisor-requires
+divisor-requires c = grind (arith, common_steps)
+
+pub mix_narrow-requires-clause-same_length : goal.mix_narrow-requires-clause-same_length
+mix_narrow-requires-clause-same_length c = grind (arith, common_steps)
+
+pub mix-requires-clause-room : goal.mix-requires-clause-room
+mix-requires-clause-room c = grind (arith, common_steps)
+
+pub mix-requires-clause-same_length : goal.mix-requires-clause-same_length
+mix-requires-clause-same_length c = grind (arith, common_steps)
+
+pub narrow_into-requires-clause-room : goal.narrow_into-requires-clause-room
+narrow_into-requires-clause-room c = grind (arith, common_steps)

@@ -1,4 +1,5 @@
 use Rattle.std.proofs.Common.{◌≡◌, ℕ, ◌+◌, ◌-◌, ◌<◌, ◌≤◌, ℤ, length, List, take, drop, refl, sym, subst, arith}
+use Rattle.std.proofs.lemmas.Grind.{common_steps}
 use borrow.Rule.Slice.PartMut.{put_mid}
 use Rattle.gs_simplex.specs.Numbers.{at, IsDivided}
 use Rattle.gs_simplex.proofs.Places.{at_part, part_long, length_put, at_put_inside, narrow_put, divided_same}
@@ -25,3 +26,12 @@ returns-clause-narrow c =
     let long : length c.divide_row.new.row ≡ n = omega (arith, c.divide_row.auto.row, part_long c.args.numbers.now s w n refl c.requires.inside) in
     λ k h. narrow_put c.args.numbers.now c.divide_row.new.row s n long (omega (arith, c.requires.inside)) c.requires.narrow c.divide_row.ensures.narrow k
     (let e = length_put c.args.numbers.now c.divide_row.new.row s n long (omega (arith, c.requires.inside)) in omega arith)
+
+pub returns-clause-others : goal.returns-clause-others
+returns-clause-others c = grind (arith, common_steps)
+
+pub divide_row-requires-clause-narrow : goal.divide_row-requires-clause-narrow
+divide_row-requires-clause-narrow c = grind (arith, common_steps)
+
+pub fill-count-requires-clause-narrow : goal.fill-count-requires-clause-narrow
+fill-count-requires-clause-narrow c = grind (arith, common_steps)

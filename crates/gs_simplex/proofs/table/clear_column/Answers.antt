@@ -1,4 +1,5 @@
 use Rattle.std.proofs.Common.{◌≡◌, ◌≢◌, ◌⊎◌, ℕ, ◌+◌, ◌*◌, ◌<◌, ◌≤◌, ℤ, List, length, slice_index, refl, sym, subst, ◌∙◌, arith, below_more, get_or-set_other}
+use Rattle.std.proofs.lemmas.Grind.{common_steps}
 use Rattle.gs_simplex.specs.Numbers.{at, cell, IsAtMost, IsMixed, IsReducedTo, IsClearedTo}
 use Rattle.gs_simplex.proofs.{Fits.{kept_128}, Lives.{support_same, support_of}}
 use Rattle.gs_simplex.proofs.Places.{mixed_same, at_most_same, reduced_to_same, row_stays, rows_left, tops_more, tops_left_more}
@@ -104,3 +105,18 @@ returns-clause-cleared c =
 
 pub returns-clause-tops : goal.returns-clause-tops
 returns-clause-tops c = λ i h. c.loop-i.invariant.tops_done i (omega arith)
+
+pub overflow_mul-i : goal.overflow_mul-i
+overflow_mul-i c = grind (arith, common_steps)
+
+pub reduce_at-requires-clause-inside : goal.reduce_at-requires-clause-inside
+reduce_at-requires-clause-inside c = grind (arith, common_steps)
+
+pub loop-i-init : goal.loop-i-init
+loop-i-init c = grind (arith, common_steps)
+
+pub bounds-tops-i-in-Ok : goal.bounds-tops-i-in-Ok
+bounds-tops-i-in-Ok c = grind (arith, common_steps)
+
+pub reduce_at-requires-clause-narrow : goal.reduce_at-requires-clause-narrow
+reduce_at-requires-clause-narrow c = grind (arith, common_steps)

@@ -1,4 +1,5 @@
 use Rattle.std.proofs.Common.{◌≡◌, MatchResult, Result, Ok, Err, ℕ, ◌+◌, ◌-◌, ◌<◌, ◌≤◌, ℤ, length, List, take, drop, refl, sym, subst, arith}
+use Rattle.std.proofs.lemmas.Grind.{common_steps}
 use borrow.Rule.Slice.PartMut.{put_mid}
 use Rattle.gs_simplex.specs.{declared.row.WideNumber.{WideNumber}, Numbers.{at, AreNarrowNumbers, AllAtMost, IsAtMost, IsMixed, IsReducedTo}}
 use Rattle.gs_simplex.proofs.Lives.{support_same}
@@ -50,3 +51,6 @@ returns-clause-answer c =
     answer c.args.lead.now.numbers.now c.args.numbers.now c.reduce_row.new.row s c.args.lead.now.column n c.reduce_row.result refl c.requires.inside long
     c.args.lead.now.inside c.requires.narrow c.reduce_row.ensures
     (length_put c.args.numbers.now c.reduce_row.new.row s n long (omega (arith, c.requires.inside)))
+
+pub reduce_row-requires-clause-narrow : goal.reduce_row-requires-clause-narrow
+reduce_row-requires-clause-narrow c = grind (arith, common_steps)

@@ -1,4 +1,5 @@
 use Rattle.std.proofs.Common.{◌≡◌, inl, inr, ℕ, ◌+◌, ◌-◌, ◌<◌, ◌≤◌, ℤ, List, length, take, drop, refl, sym, subst, arith}
+use Rattle.std.proofs.lemmas.Grind.{common_steps}
 use Rattle.gs_simplex.specs.Numbers.{at, IsLeadOf}
 use Rattle.gs_simplex.proofs.Places.{at_part, part_long, lead_same, others_put}
 use Rattle.gs_simplex.proofs.table.take_lead.Goals as goal
@@ -26,3 +27,12 @@ returns-clause-others c = λ k h.
     let long : length c.take_row.new.row ≡ n = omega (arith, c.take_row.auto.row, part_long c.args.numbers.now s w n refl c.requires.inside) in
     others_put c.args.numbers.now c.take_row.new.row s w n refl c.requires.inside long k
     (elim h [ inl l ↦ inl l | inr l ↦ inr (omega (arith, c.take_row.auto.lead)) ])
+
+pub take_row-requires-clause-narrow : goal.take_row-requires-clause-narrow
+take_row-requires-clause-narrow c = grind (arith, common_steps)
+
+pub returns-clause-same : goal.returns-clause-same
+returns-clause-same c = grind (arith, common_steps)
+
+pub returns-clause-narrow : goal.returns-clause-narrow
+returns-clause-narrow c = grind (arith, common_steps)

@@ -1,4 +1,5 @@
 use Rattle.std.proofs.Common.{◌≡◌, ◌≢◌, IfNone, MatchOption, Option, Some, None, ◌⊎◌, inl, inr, ℕ, ◌+◌, ◌-◌, ◌*◌, ◌<◌, ◌≤◌, ℤ, pos, ◌<ℤ◌, List, ◌++◌, length}
+use Rattle.std.proofs.lemmas.Grind.{common_steps}
 use Rattle.std.proofs.Common.{slice_index, take, drop, sym, ap, subst, ◌∙◌, arith}
 use Rattle.std.proofs.{lemmas.List.{take_at}, lemmas.Bool.{cases_lt}}
 use Rattle.gs_simplex.specs.{declared.program.Program.{Program}, Rows.{IsNarrow}, Program.{Listing, IsPairList}, declared.table.WideCell.{WideCell}}
@@ -205,3 +206,30 @@ returns-clause-tops c =
     (take_at new (drop (length new) (take n (mid ++ drop (length mid) items))) n long)
     (take_at tops (drop (length tops) old.items) old.len (omega (arith, c.clear_column.auto.tops, c.deref_mut-6.ensures.len)))
     (owns_long w.After-deref) (ap length same ∙ (taken_lead w.After-take_lead-count).wide) c.clear_column.ensures.tops
+
+pub greatest-requires : goal.greatest-requires
+greatest-requires c = grind (arith, common_steps)
+
+pub take_lead-count-requires-clause-inside : goal.take_lead-count-requires-clause-inside
+take_lead-count-requires-clause-inside c = grind (arith, common_steps)
+
+pub clear_column-requires-clause-long : goal.clear_column-requires-clause-long
+clear_column-requires-clause-long c = grind (arith, common_steps)
+
+pub returns-clause-room : goal.returns-clause-room
+returns-clause-room c = grind (arith, common_steps)
+
+pub clear_column-requires-clause-few_tops : goal.clear_column-requires-clause-few_tops
+clear_column-requires-clause-few_tops c = grind (arith, common_steps)
+
+pub take_lead-count-requires-clause-narrow : goal.take_lead-count-requires-clause-narrow
+take_lead-count-requires-clause-narrow c = grind (arith, common_steps)
+
+pub invariant_of-lead-clause-bound : goal.invariant_of-lead-clause-bound
+invariant_of-lead-clause-bound c = grind (arith, common_steps)
+
+pub clear_column-requires-clause-room : goal.clear_column-requires-clause-room
+clear_column-requires-clause-room c = grind (arith, common_steps)
+
+pub way_back_following-self : goal.way_back_following-self
+way_back_following-self c = grind (arith, common_steps)

@@ -1,4 +1,5 @@
 use Rattle.std.proofs.Common.{◌≡◌, ℕ, ◌+◌, ◌<◌, List, [], ◌++◌, ◌^◌, ℤ, length, slice_index, take, drop, refl, sym, ap, subst, ◌∙◌, arith}
+use Rattle.std.proofs.lemmas.Grind.{common_steps}
 use Rattle.std.proofs.lemmas.List.{take_at, get_or-replicate}
 use Rattle.gs_simplex.specs.{declared.program.Program.{Program}, Program.{IsShaped}, Numbers.{cell, AreNarrowNumbers, IsDivided}, Table.{IsTable, IsTableOf}}
 use Rattle.gs_simplex.specs.State.{IsRaw}
@@ -50,3 +51,6 @@ returns c =
           (λ i h. ap (λ (xs : List ℕ). slice_index xs i) (c.in_ok-tops.ensures.items_if_clones_equal (λ y e. e))
           ∙ get_or-replicate (p.rows + 1) i (2 ^ 62) 0 h);
     }
+
+pub divide_rows-requires-clause-long : goal.divide_rows-requires-clause-long
+divide_rows-requires-clause-long c = grind (arith, common_steps)
