@@ -23,3 +23,6 @@ returns-in-len1-up-clause-most t c before =
     rw e (most_added (plain c.first-item.result.tree.tree) (plain_trees (take (length c.args.rounds.now - 1) (drop 1 c.args.rounds.now))) c.most_put.result
     c.most_above.result before (tree_sound (plain c.first-item.result.tree.tree) c.first-item.result.tree.sound) even c.most_put.ensures.most
     c.most_above.ensures.most)
+
+pub returns-in-empty-clause-most : goal.returns-in-empty-clause-most
+returns-in-empty-clause-most t c = grind (arith, common_steps)

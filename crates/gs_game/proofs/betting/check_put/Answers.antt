@@ -1,4 +1,5 @@
 use Rattle.std.proofs.Common.{◌≡◌, ◌+◌, ◌∙◌, arith}
+use Rattle.std.proofs.lemmas.Grind.{common_steps}
 use Rattle.gs_game.specs.{Games.{plain_trees}, Money.{most_in}}
 use Rattle.gs_game.proofs.Deciding.{put_over, put_within}
 use Rattle.gs_game.proofs.betting.check_put.Goals as goal
@@ -18,3 +19,6 @@ returns c =
     omega (arith, most, c.from.ensures) in
     put_within c.args.game.now (c.from.result + c.most_put.result) c.from-2.result is
     (c.from-2.ensures ∙ rw c.deref-2.ensures.value at c.greatest_bonus.ensures) c.if-chips-gt4096.false
+
+pub overflow_mul-chips : goal.overflow_mul-chips
+overflow_mul-chips c = grind (arith, common_steps)

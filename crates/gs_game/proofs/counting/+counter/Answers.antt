@@ -1,4 +1,5 @@
 use Rattle.std.proofs.Common.{◌≡◌, ◌<◌, ◌-◌, ◌∙◌, ℕ, List, count_by, drop, length-drop, nat_lt, refl, sym, ap, min, length, slice_index, get_or, take, take_all}
+use Rattle.std.proofs.lemmas.Grind.{common_steps}
 use Rattle.std.proofs.Common.{arith}
 use Rattle.gs_game.proofs.{CountSteps.{count_rest, last_kinds, nothing_more, with_card, rest_more, rest_all, next_group, restored}, RoundSteps.{split_number}}
 use Rattle.gs_game.specs.Sequences.{count_sequences}
@@ -52,3 +53,9 @@ count_from-returns-then-take_nothing-clause-count t c =
     let read : c.kinds_left.result ≡ count_by (λ copies. nat_lt 0 copies) (drop c.args.least left) = c.kinds_left.ensures
     ∙ ap (λ (l : List ℕ). count_by (λ copies. nat_lt 0 copies) l) whole in
     omega (arith, c.min-then-take_nothing.ensures, all, none, kinds, read)
+
+pub count_from-count_from-requires : goal.count_from-count_from-requires
+count_from-count_from-requires t c = grind (arith, common_steps)
+
+pub count_from-returns-in-empty-clause-count : goal.count_from-returns-in-empty-clause-count
+count_from-returns-in-empty-clause-count t c = grind (arith, common_steps)

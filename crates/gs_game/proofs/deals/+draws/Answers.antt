@@ -25,3 +25,6 @@ overflow_mul-result t c =
     rw e (draws_bound c.args.copies (get_or c.args.sizes.now 0 0) (take (length c.args.sizes.now - 1) (drop 1 c.args.sizes.now)) c.choose.result c.draws.result
     c.requires.few c.choose.ensures c.draws.ensures.bound) in
     omega (arith, b, power_fits (sum c.args.sizes.now) c.requires.fits)
+
+pub returns-in-len1-up-clause-ways : goal.returns-in-len1-up-clause-ways
+returns-in-len1-up-clause-ways t c = grind (arith, common_steps)

@@ -1,3 +1,4 @@
+use Rattle.std.proofs.lemmas.Grind.{common_steps}
 use Rattle.std.proofs.{Common.{◌≡◌, List, map, sum, ap, ◌∙◌, arith}, lemmas.Result.{err_from_is_err_and}}
 use Rattle.gs_game.specs.{Games.{round_rules}, declared.game.Round.{Round}, Sequences.{deal_sizes}}
 use Rattle.gs_game.proofs.DealChecks.{cards_pass, sizes_few, copies_few, weight_over, weight_within, counts_fault, counts_within}
@@ -41,3 +42,6 @@ returns c =
     let weight = weight_within c.args.game.now c.all_copies.result c.draws-weight.result c.deref-2.result.now
     (c.all_copies.ensures ∙ ap sum c.counts-counts.ensures.counts) sizes c.draws-weight.ensures.ways c.if-weight-gt67108864.false in
     (counts_within c.args.game.now weight.passes c.in_ok-count.ensures.0, weight.weighs, c.in_ok-count.ensures.1)
+
+pub check_counts-requires-clause-weight : goal.check_counts-requires-clause-weight
+check_counts-requires-clause-weight c = grind (arith, common_steps)

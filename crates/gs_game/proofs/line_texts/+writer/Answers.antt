@@ -1,4 +1,5 @@
 use Rattle.std.proofs.Common.{◌≡◌, ◌-◌, ◌++◌, ◌∷◌, [], ◌∙◌, ℕ, ap, List, length, take, drop, arith}
+use Rattle.std.proofs.lemmas.Grind.{common_steps}
 use Rattle.std.specs.{Prelude.{encode_utf8}, String.{string_bytes}}
 use Rattle.gs_model.specs.Betting.{Bet, act}
 use Rattle.gs_bet.specs.{TreeView.{plain, plain_moves}, declared.shape.Act.{out-Act}}
@@ -118,3 +119,21 @@ push_act-loop-next-preserved t c =
       sound = (c.loop-next.invariant.sound.0, sound.others);
       falls = omega (arith, fallen);
     }
+
+pub push_act-loop-next-init : goal.push_act-loop-next-init
+push_act-loop-next-init t c = grind (arith, common_steps)
+
+pub push_act-returns : goal.push_act-returns
+push_act-returns t c = grind (arith, common_steps)
+
+pub push_act-numbers_below-requires-clause-ends : goal.push_act-numbers_below-requires-clause-ends
+push_act-numbers_below-requires-clause-ends t c = grind (arith, common_steps)
+
+pub push_act-numbers_below-requires-clause-points : goal.push_act-numbers_below-requires-clause-points
+push_act-numbers_below-requires-clause-points t c = grind (arith, common_steps)
+
+pub push_from-returns-in_ok-push-in-len1-up : goal.push_from-returns-in_ok-push-in-len1-up
+push_from-returns-in_ok-push-in-len1-up t c = grind (arith, common_steps)
+
+pub push_from-returns-in-empty : goal.push_from-returns-in-empty
+push_from-returns-in-empty t c = grind (arith, common_steps)

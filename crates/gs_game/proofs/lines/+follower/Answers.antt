@@ -1,4 +1,5 @@
 use Rattle.std.proofs.Common.{◌≡◌, ◌-◌, ◌∙◌, ap, List, length, take, drop, arith}
+use Rattle.std.proofs.lemmas.Grind.{common_steps}
 use Rattle.gs_model.specs.Betting.{Bet, act}
 use Rattle.gs_bet.specs.{TreeView.{plain, plain_moves}, declared.shape.Act.{out-Act}}
 use Rattle.gs_bet.proofs.TreeLaws.{plain-act, plain_act-out}
@@ -49,3 +50,27 @@ follow_below-returns-in-len1-up t c =
     let is_act : plain c.args.tree.now ≡ act (out-Act c.in-Act.act).player (plain_moves (out-Act c.in-Act.act).moves.items) = rw c.in-Act.is
     (plain-act c.in-Act.act ∙ plain_act-out c.in-Act.act) in
     rw (is_act, split_number c.args.text.now c.in-len1-up.len_at_least) c.follow_act.ensures
+
+pub follow_act-loop-next-preserved : goal.follow_act-loop-next-preserved
+follow_act-loop-next-preserved t c = grind (arith, common_steps)
+
+pub follow_act-overflow_add-before-in-loop-next : goal.follow_act-overflow_add-before-in-loop-next
+follow_act-overflow_add-before-in-loop-next t c = grind (arith, common_steps)
+
+pub follow_act-overflow_add-before : goal.follow_act-overflow_add-before
+follow_act-overflow_add-before t c = grind (arith, common_steps)
+
+pub follow_act-follow_below-requires : goal.follow_act-follow_below-requires
+follow_act-follow_below-requires t c = grind (arith, common_steps)
+
+pub follow_from-returns-in-47 : goal.follow_from-returns-in-47
+follow_from-returns-in-47 t c = grind (arith, common_steps)
+
+pub follow_act-numbers_below-below-requires-clause-ends : goal.follow_act-numbers_below-below-requires-clause-ends
+follow_act-numbers_below-below-requires-clause-ends t c = grind (arith, common_steps)
+
+pub follow_act-numbers_below-below-requires-clause-points : goal.follow_act-numbers_below-below-requires-clause-points
+follow_act-numbers_below-below-requires-clause-points t c = grind (arith, common_steps)
+
+pub follow_act-returns-then-next-letter : goal.follow_act-returns-then-next-letter
+follow_act-returns-then-next-letter t c = grind (arith, common_steps)

@@ -22,3 +22,9 @@ numbers_below-below-requires t c =
 
 pub loop-next-preserved : goal.loop-next-preserved
 loop-next-preserved t c = grind (arith, common_steps)
+
+pub overflow_add-numbers-in-loop-next : goal.overflow_add-numbers-in-loop-next
+overflow_add-numbers-in-loop-next t c = grind (arith, common_steps)
+
+pub overflow_add-numbers : goal.overflow_add-numbers
+overflow_add-numbers t c = grind (arith, common_steps)

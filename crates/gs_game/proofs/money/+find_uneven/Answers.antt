@@ -27,3 +27,9 @@ find_uneven-requires t c =
 
 pub loop-next-preserved : goal.loop-next-preserved
 loop-next-preserved t c = grind (arith, common_steps)
+
+pub returns-then-branch : goal.returns-then-branch
+returns-then-branch t c = grind (arith, common_steps)
+
+pub returns-after-loop-next : goal.returns-after-loop-next
+returns-after-loop-next t c = grind (arith, common_steps)

@@ -1,4 +1,5 @@
 use Rattle.std.proofs.Common.{◌≡◌, ◌∙◌, arith, rules}
+use Rattle.std.proofs.lemmas.Grind.{common_steps}
 use Rattle.gs_bet.specs.{TreeView.{plain, plain_moves}, declared.shape.Act.{out-Act}}
 use Rattle.gs_model.specs.Betting.{act}
 use Rattle.gs_bet.proofs.TreeLaws.{plain-act, plain_act-out}
@@ -41,3 +42,6 @@ loop-next-preserved t c =
           (plain c.next-item.result.next) _ _ c.loop-next.invariant.fits step;
       small = grind (arith, c.most_above.ensures.small);
     }
+
+pub returns-after-loop-next-clause-most : goal.returns-after-loop-next-clause-most
+returns-after-loop-next-clause-most t c = grind (arith, common_steps)

@@ -1,4 +1,5 @@
 use Rattle.std.proofs.Common.{◌≡◌, ◌∙◌, refl, ap, length, length-append, ◌+◌, arith, rules}
+use Rattle.std.proofs.lemmas.Grind.{common_steps}
 use Rattle.gs_model.specs.{Walk.{show_end, fold_end}, Betting.{act}}
 use Rattle.gs_bet.specs.{TreeView.{plain, plain_act, plain_moves}, declared.shape.Act.{out-Act}}
 use Rattle.gs_bet.proofs.TreeLaws.{plain-fold, plain_act-out}
@@ -90,3 +91,12 @@ walk_act-returns t c =
     c.args.walk.now.ends.items c.loop-next.walk.ends.items c.loop-next.arrows c.index_mut.result.now c.loop-next.invariant.going
     (none_left c.deref-next-items.result.now c.loop-next.next-index c.loop-next-test.false) number
     c.index_mut.ensures.value)
+
+pub walk_act-index_mut-requires : goal.walk_act-index_mut-requires
+walk_act-index_mut-requires t c = grind (arith, common_steps)
+
+pub walk_from-walk_below-requires : goal.walk_from-walk_below-requires
+walk_from-walk_below-requires t c = grind (arith, common_steps)
+
+pub walk_from-returns-in-len1-up : goal.walk_from-returns-in-len1-up
+walk_from-returns-in-len1-up t c = grind (arith, common_steps)

@@ -1,4 +1,5 @@
 use Rattle.std.proofs.Common.{length, refl, ◌≡◌, ◌≤◌, ◌++◌, ◌∷◌, ℕ, [], List, length-take, map, take, ap, sym, ◌∙◌, subst, arith, rules}
+use Rattle.std.proofs.lemmas.Grind.{common_steps}
 use Rattle.std.proofs.{lemmas.List.{get_or-take, take-map}, lemmas.List.Elements.{All-from_recursion, recursion_from_All}}
 use Rattle.std.specs.{Prelude.{All, IfOk, MatchOption, Option, Result, None, ◌≢◌}, declared.alloc.AllocError.{AllocError}, List.{AllByRecursion}}
 use Rattle.gs_card.specs.Decks.{DeckValue}
@@ -114,3 +115,15 @@ returns-after-fault-clause-whenever c =
           (refused (first_refusal (stopped_game (game_of game) c.args.round)) c.in-Err.fault w.in_default.not-Memory
           (subst (λ (g : Rules). IsFaultOf (first_refusal g) c.in-Err.fault) made c.in-Err.ensures.refused))
     ]
+
+pub returns-after-fault-clause-stops : goal.returns-after-fault-clause-stops
+returns-after-fault-clause-stops c = grind (arith, common_steps)
+
+pub slice_bounds-stopped_rounds-end : goal.slice_bounds-stopped_rounds-end
+slice_bounds-stopped_rounds-end c = grind (arith, common_steps)
+
+pub check-requires-clause-bonus : goal.check-requires-clause-bonus
+check-requires-clause-bonus c = grind (arith, common_steps)
+
+pub check-requires-clause-cards : goal.check-requires-clause-cards
+check-requires-clause-cards c = grind (arith, common_steps)

@@ -1,0 +1,6 @@
+use Rattle.std.proofs.Common.{arith}
+use Rattle.std.proofs.lemmas.Grind.{common_steps}
+use Rattle.gs_game.proofs.betting.+check_uneven.Goals as goal
+
+pub returns-else-branch : goal.returns-else-branch
+returns-else-branch t c = grind (arith, common_steps)
