@@ -1,14 +1,13 @@
 -- What a place is paid by what a walk has passed: what the sums of the walk give.
-use Rattle.std.proofs.Common.{◌≡◌, ◌+◌, ◌-◌, ◌*◌, ◌<◌, ◌≤◌, ◌∙◌, ℕ, ℤ, pos, neg_ℤ, Bool, true, false, cond, nat_lt, List, get_or, sym, ap, arith, ⊎_elim}
+use Rattle.std.proofs.Common.{◌≡◌, ◌*◌, ◌<◌, ◌≤◌, ◌∙◌, ℕ, ℤ, pos, neg_ℤ, Bool, true, false, cond, nat_lt, List, get_or, sym, ap, arith, ⊎_elim}
 use Rattle.std.proofs.Common.{sum_by}
 use Rattle.std.proofs.{Math.IntN.{*ℤ_comm}, lemmas.Bool.{cases_eq}, lemmas.Bool.Decides.{Decides-eqb, nat_tests}, lemmas.Int.{ints}}
-use Rattle.std.specs.Prelude.{◌==◌, ◌&&◌, ◌*ℤ◌, All}
+use Rattle.std.specs.Prelude.{◌==◌, ◌*ℤ◌, All}
 use borrow.Author.Differences.{neg_is}
 use Rattle.gs_model.specs.Sums.{sum_z}
 use Rattle.gs_model.proofs.{Total.{sum_z-mul, sum_z-same_all}, Regroup.{sum_z-pos}, Basics.{not_eq}}
-use Rattle.gs_boards.specs.{Runs.{HasPassed, board_sum, level_sum, lost_by, number_at, outcome_at, paid_by, won_by, place_worth}, declared.pays.Pays.{Pays}}
+use Rattle.gs_boards.specs.{Runs.{HasPassed, board_sum, other_sum, lost_by, number_at, outcome_at, paid_by, won_by, place_worth}, declared.pays.Pays.{Pays}}
 use Rattle.gs_boards.specs.{declared.pays.Pays.TheVariants.{Fixed, Showdown}, declared.place.Place.{Place}, declared.running.Running.{Running}}
-use Rattle.gs_boards.proofs.Runs.{both_add}
 
 -- a sum of multiples of one number
 multiples : {X : Type 0} (z : ℤ) (f : X → ℤ) (h : X → ℕ) (xs : List X) → All (λ x. f x ≡ z *ℤ pos (h x)) xs → sum_z f xs ≡ z *ℤ pos (sum_by h xs)
@@ -19,23 +18,8 @@ abbrev apart : (Place → ℕ) → Place → Place → ℕ
 apart worth p q = cond (q.board == p.board) (cond (q.strength == p.strength) 0 (worth q)) 0
 
 apart_is : (worth : Place → ℕ) (qs : List Place) (r : Running) (p : Place) → HasPassed worth qs r → r.board ≡ p.board → r.strength ≡ p.strength
-    → sum_by (apart worth p) qs ≡ r.on_board - r.on_level
-apart_is worth qs r p h b s =
-    let board : r.on_board ≡ board_sum worth p.board qs = h.on_board ∙ ap (λ n. board_sum worth n qs) b in
-    let level : r.on_level ≡ level_sum worth p.board p.strength qs = h.on_level ∙ ap (λ n. level_sum worth n r.strength qs) b
-    ∙ ap (λ n. level_sum worth p.board n qs) s in
-    omega (
-      arith,
-      board,
-      level,
-      both_add (apart worth p) (λ q. cond ((q.board == p.board) && (q.strength == p.strength)) (worth q) 0) (λ q. cond (q.board == p.board) (worth q) 0)
-          (λ q. by (q.board == p.board) (q.strength == p.strength) (worth q)) qs,
-    )
-  where
-    by : (a b : Bool) (n : ℕ) → cond {A = ℕ} a (cond b 0 n) 0 + cond {A = ℕ} (a && b) n 0 ≡ cond {A = ℕ} a n 0
-    by true true n = omega arith
-    by true false n = omega arith
-    by false b n = omega arith
+    → sum_by (apart worth p) qs ≡ r.off_level
+apart_is worth qs r p h b s = ap (λ n. other_sum worth p.board n qs) (sym s) ∙ ap (λ n. other_sum worth n r.strength qs) (sym b) ∙ sym h.off_level
 
 -- ---- one place after another
 

@@ -23,13 +23,13 @@ pub record HasDescended (worth : Place → ℕ) (places : List Place) (n : ℕ) 
   pub passed : HasPassed worth (drop n places) r
   pub last : (d : Place) → n < length places → IsAt r (get_or places n d)
 
-pub climb_start : (worth : Place → ℕ) (places : List Place) (r : Running) → r.on_board ≡ 0 → r.on_level ≡ 0 → HasClimbed worth places 0 r
-climb_start worth places r b l = record { passed = record { on_board = b; on_level = l }; last = λ d some. absurd (omega arith) }
+pub climb_start : (worth : Place → ℕ) (places : List Place) (r : Running) → r.on_board ≡ 0 → r.off_level ≡ 0 → HasClimbed worth places 0 r
+climb_start worth places r b l = record { passed = record { on_board = b; off_level = l }; last = λ d some. absurd (omega arith) }
 
-pub descend_start : (worth : Place → ℕ) (places : List Place) (n : ℕ) (r : Running) → n ≡ length places → r.on_board ≡ 0 → r.on_level ≡ 0
+pub descend_start : (worth : Place → ℕ) (places : List Place) (n : ℕ) (r : Running) → n ≡ length places → r.on_board ≡ 0 → r.off_level ≡ 0
     → HasDescended worth places n r
 descend_start worth places n r all b l = record {
-  passed = subst (λ qs. HasPassed worth qs r) (sym (drop_all n places (omega arith))) (record { on_board = b; on_level = l });
+  passed = subst (λ qs. HasPassed worth qs r) (sym (drop_all n places (omega arith))) (record { on_board = b; off_level = l });
   last = λ d in'. absurd (omega arith);
 }
 
@@ -139,13 +139,13 @@ arrived_within r p = go (p.board == r.board)
 pub record HasCome (worth : Place → ℕ) (qs : List Place) (p : Place) (here : Running) : Type 0 where
   pub passed : HasPassed worth qs here
   pub at : IsAt here p
-  pub within : here.on_level ≤ here.on_board
+  pub within : here.off_level ≤ here.on_board
 
 come : (worth : Place → ℕ) (qs : List Place) (p : Place) (r here : Running) → here ≡ arrived r p → HasPassed worth qs (arrived r p) → HasCome worth qs p here
 come worth qs p r here e passed = record {
   passed = subst (HasPassed worth qs) (sym e) passed;
   at = record { board = ap (λ (x : Running). x.board) e; strength = ap (λ (x : Running). x.strength) e };
-  within = subst (λ (x : Running). x.on_level ≤ x.on_board) (sym e) (level_within worth qs (arrived r p) passed);
+  within = subst (λ (x : Running). x.off_level ≤ x.on_board) (sym e) (level_within worth qs (arrived r p) passed);
 }
 
 module _ (worth : Place → ℕ) (places : List Place) (order : AreInOrder places) (n : ℕ) (d : Place) (inside : n < length places) (r here : Running) (is : here

@@ -1,5 +1,5 @@
 -- Sums along the places of the boards.
-use Rattle.std.specs.Prelude.{ℕ, ◌≡◌, ◌==◌, ◌&&◌, ◌+◌, ◌-◌, ◌*◌, List, ℤ, pos, neg_ℤ, ◌*ℤ◌, nat_lt, if◌then◌else◌, slice_index, sum_by}
+use Rattle.std.specs.Prelude.{ℕ, ◌≡◌, ◌==◌, ◌+◌, ◌*◌, List, ℤ, pos, neg_ℤ, ◌*ℤ◌, nat_lt, if◌then◌else◌, slice_index, sum_by}
 use Rattle.gs_model.specs.Sums.{sum_z}
 use Rattle.gs_boards.specs.{Boards.{paid}, declared.pays.Pays.{Pays}, declared.pays.Pays.TheVariants.{Fixed, Showdown}, declared.place.Place.{Place}}
 use Rattle.gs_boards.specs.declared.running.Running.{Running}
@@ -16,27 +16,27 @@ paid_by pays numbers p qs = sum_z (λ q. if q.board == p.board then pos (slice_i
 abbrev pub board_sum : (Place → ℕ) → ℕ → List Place → ℕ
 board_sum worth board qs = sum_by (λ q. if q.board == board then worth q else 0) qs
 
--- among some places, the sum of the worths of those on a board with a strength
-abbrev pub level_sum : (Place → ℕ) → ℕ → ℕ → List Place → ℕ
-level_sum worth board strength qs = sum_by (λ q. if (q.board == board) && (q.strength == strength) then worth q else 0) qs
+-- among some places, the sum of the worths of those on a board with another strength
+abbrev pub other_sum : (Place → ℕ) → ℕ → ℕ → List Place → ℕ
+other_sum worth board strength qs = sum_by (λ q. if q.board == board then (if q.strength == strength then 0 else worth q) else 0) qs
 
 -- the sums of a walk that has passed some places
 pub record HasPassed (worth : Place → ℕ) (qs : List Place) (r : Running) : Type 0 where
   pub on_board : r.on_board ≡ board_sum worth r.board qs
-  pub on_level : r.on_level ≡ level_sum worth r.board r.strength qs
+  pub off_level : r.off_level ≡ other_sum worth r.board r.strength qs
 
--- the sums when a walk comes to a place: a new board or a new strength begins with 0
+-- the sums when a walk comes to a place: a new board begins with 0, and at a new strength all that was passed on the board has another one
 abbrev pub arrived : Running → Place → Running
 arrived r p = record {
   board = p.board;
   strength = p.strength;
   on_board = if p.board == r.board then r.on_board else 0;
-  on_level = if (p.board == r.board) && (p.strength == r.strength) then r.on_level else 0;
+  off_level = if p.board == r.board then (if p.strength == r.strength then r.off_level else r.on_board) else 0;
 }
 
 -- the sums when a walk has passed the place that it is at
 abbrev pub passed_by : Running → ℕ → Running
-passed_by r worth = record { board = r.board; strength = r.strength; on_board = r.on_board + worth; on_level = r.on_level + worth }
+passed_by r worth = record { board = r.board; strength = r.strength; on_board = r.on_board + worth; off_level = r.off_level }
 
 -- what a place counts for the places behind it: its number
 abbrev pub number_at : List ℕ → Place → ℕ
@@ -54,9 +54,9 @@ place_worth pays numbers q = worth_of pays q (number_at numbers q)
 -- what a place is paid by what was passed before it: at a showdown by the weaker places of its board, at a fold by all of them
 abbrev pub won_by : Pays → Place → Running → ℤ
 won_by (Fixed stake) p r = stake *ℤ pos r.on_board
-won_by (Showdown chips) p r = pos (chips * p.win * (r.on_board - r.on_level))
+won_by (Showdown chips) p r = pos (chips * p.win * r.off_level)
 
 -- what a place is paid by what was passed behind it: at a showdown by the stronger places of its board, at a fold by all of them
 abbrev pub lost_by : Pays → Running → ℤ
 lost_by (Fixed stake) r = stake *ℤ pos r.on_board
-lost_by (Showdown chips) r = neg_ℤ (pos (chips * (r.on_board - r.on_level)))
+lost_by (Showdown chips) r = neg_ℤ (pos (chips * r.off_level))

@@ -30,15 +30,14 @@ impl Pays {
     // Returns what a place is paid by what was passed before it. At a showdown it wins against the weaker places.
     pub(crate) fn won(self, place: Place, before: Running) -> i128
         requires few { before.on_board < 2 ^ 82 }
-        requires within { before.on_level ≤ before.on_board }
+        requires within { before.off_level ≤ before.on_board }
         ensures value { result ≡ won_by self place before }
         ensures small { unsigned_abs result < 2 ^ 120 }
     {
         match self {
             Pays::Fixed(stake) => i128::from(stake) * before.on_board as i128,
             Pays::Showdown(chips) => {
-                let weaker = before.on_board - before.on_level;
-                (u128::from(chips) * u128::from(place.win) * weaker) as i128
+                (u128::from(chips) * u128::from(place.win) * before.off_level) as i128
             }
         }
     }
@@ -46,16 +45,13 @@ impl Pays {
     // Returns what a place is paid by what was passed behind it. At a showdown it loses to the stronger places.
     pub(crate) fn lost(self, behind: Running) -> i128
         requires few { behind.on_board < 2 ^ 90 }
-        requires within { behind.on_level ≤ behind.on_board }
+        requires within { behind.off_level ≤ behind.on_board }
         ensures value { result ≡ lost_by self behind }
         ensures small { unsigned_abs result < 2 ^ 122 }
     {
         match self {
             Pays::Fixed(stake) => i128::from(stake) * behind.on_board as i128,
-            Pays::Showdown(chips) => {
-                let stronger = behind.on_board - behind.on_level;
-                -((u128::from(chips) * stronger) as i128)
-            }
+            Pays::Showdown(chips) => -((u128::from(chips) * behind.off_level) as i128),
         }
     }
 }

@@ -8,9 +8,6 @@ use Rattle.gs_boards.proofs.walks.climb.Goals as goal
 pub won-requires-clause-within : goal.won-requires-clause-within
 won-requires-clause-within c = (come_up _ _ c.requires.order _ _ (omega arith) _ _ c.at-here.ensures c.loop-at.invariant.walked).within
 
-pub past-before-requires-clause-within : goal.past-before-requires-clause-within
-past-before-requires-clause-within c = (come_up _ _ c.requires.order _ _ (omega arith) _ _ c.at-here.ensures c.loop-at.invariant.walked).within
-
 pub loop-at-preserved : goal.loop-at-preserved
 loop-at-preserved c =
     let places : List Place = c.args.places.now in

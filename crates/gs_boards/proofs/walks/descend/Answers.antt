@@ -20,10 +20,6 @@ overflow_add-sums c =
     (added (get_or c.loop-at.sums (get_or c.args.places.now n d).signal (pos 0)) c.lost.result (as_small _ _ was (c.requires.small n d (omega arith)))
     c.lost.ensures.small).fits
 
-pub past-behind-requires-clause-within : goal.past-behind-requires-clause-within
-past-behind-requires-clause-within c = (come_down (place_worth c.args.pays c.args.numbers.now) _ c.requires.order _ _ (omega arith) _ _ c.at-here.ensures
-    (one_back _ _ _ _ c.loop-at-test.true c.loop-at.invariant.walked)).within
-
 pub loop-at-preserved : goal.loop-at-preserved
 loop-at-preserved c =
     let places : List Place = c.args.places.now in

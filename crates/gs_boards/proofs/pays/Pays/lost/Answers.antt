@@ -1,4 +1,4 @@
-use Rattle.std.proofs.Common.{◌-◌, ◌*◌, ◌<◌, ◌≤◌, ◌^◌, ◌∙◌, ℤ, pos, neg_ℤ, unsigned_abs, ap, arith, rules, subst, sym}
+use Rattle.std.proofs.Common.{◌*◌, ◌<◌, ◌≤◌, ◌^◌, ◌∙◌, ℤ, pos, neg_ℤ, unsigned_abs, ap, arith, rules, subst, sym}
 use Rattle.std.specs.Int.{w32}
 use mir.Val.{SFits}
 use Rattle.gs_boards.specs.Runs.{lost_by}
@@ -23,10 +23,10 @@ returns-in-Fixed-clause-small c =
     let P : ℤ → Type 0 = λ t. unsigned_abs t < 2 ^ 122 in
     subst P (sym (stake_is s c.from.result n h c.requires.few c.from.ensures)) (omega (arith, stake_small s n (2 ^ 90) h (omega (arith, c.requires.few))))
 
-lost : (c : After-from-in-Showdown) → c.from-in-Showdown.result * (c.args.behind.on_board - c.args.behind.on_level) ≤ 2 ^ 106
+lost : (c : After-from-in-Showdown) → c.from-in-Showdown.result * c.args.behind.off_level ≤ 2 ^ 106
 lost c =
     let chips : c.from-in-Showdown.result < 2 ^ 16 = omega arith in
-    product_of_two c.from-in-Showdown.result (c.args.behind.on_board - c.args.behind.on_level) chips (omega (arith, c.requires.few))
+    product_of_two c.from-in-Showdown.result c.args.behind.off_level chips (omega (arith, c.requires.few, c.requires.within))
 
 pub overflow_mul-result-in-Showdown : goal.overflow_mul-result-in-Showdown
 overflow_mul-result-in-Showdown c = let w = goal.at.overflow_mul-result-in-Showdown c in record { fits = omega (arith, lost w.After-from-in-Showdown) }
@@ -40,13 +40,13 @@ overflow_sub-result c = let w = goal.at.overflow_sub-result c in loss_fits _ (lo
 pub returns-in-Showdown-clause-value : goal.returns-in-Showdown-clause-value
 returns-in-Showdown-clause-value c =
     let w = goal.at.returns-in-Showdown-clause-value c in
-    let a = c.from-in-Showdown in let k = c.args.behind.on_board - c.args.behind.on_level in
+    let a = c.from-in-Showdown in let k = c.args.behind.off_level in
     loss_is (a.result * k) (lost w.After-from-in-Showdown) ∙ ap (λ x. neg_ℤ (pos (x * k))) a.ensures
     ∙ sym (ap (λ x. lost_by x c.args.behind) c.in-Showdown.is)
 
 pub returns-in-Showdown-clause-small : goal.returns-in-Showdown-clause-small
 returns-in-Showdown-clause-small c =
     let w = goal.at.returns-in-Showdown-clause-small c in
-    let n = c.from-in-Showdown.result * (c.args.behind.on_board - c.args.behind.on_level) in
+    let n = c.from-in-Showdown.result * c.args.behind.off_level in
     let P : ℤ → Type 0 = λ t. unsigned_abs t < 2 ^ 122 in
     subst P (sym (loss_is n (lost w.After-from-in-Showdown))) (omega (arith, lost w.After-from-in-Showdown, loss_size n))

@@ -1,4 +1,4 @@
-use Rattle.std.proofs.Common.{◌-◌, ◌*◌, ◌<◌, ◌≤◌, ◌^◌, ◌∙◌, ℤ, pos, unsigned_abs, ap, arith, rules, subst, sym}
+use Rattle.std.proofs.Common.{◌*◌, ◌<◌, ◌≤◌, ◌^◌, ◌∙◌, ℤ, pos, unsigned_abs, ap, arith, rules, subst, sym}
 use Rattle.std.specs.Int.{w32}
 use mir.Val.{SFits}
 use Rattle.gs_boards.specs.Runs.{won_by}
@@ -23,11 +23,11 @@ returns-in-Fixed-clause-small c =
     subst P (sym (stake_is s c.from.result n h (omega (arith, c.requires.few)) c.from.ensures))
     (omega (arith, stake_small s n (2 ^ 82) h (omega (arith, c.requires.few))))
 
-won : (c : After-from-in-Showdown-2) → c.from-in-Showdown.result * c.from-in-Showdown-2.result * (c.args.before.on_board - c.args.before.on_level) ≤ 2 ^ 106
+won : (c : After-from-in-Showdown-2) → c.from-in-Showdown.result * c.from-in-Showdown-2.result * c.args.before.off_level ≤ 2 ^ 106
 won c =
     let chips : c.from-in-Showdown.result < 2 ^ 16 = omega arith in let win : c.from-in-Showdown-2.result < 2 ^ 8 = omega arith in
-    product_of_three c.from-in-Showdown.result c.from-in-Showdown-2.result (c.args.before.on_board - c.args.before.on_level) chips win
-    (omega (arith, c.requires.few))
+    product_of_three c.from-in-Showdown.result c.from-in-Showdown-2.result c.args.before.off_level chips win
+    (omega (arith, c.requires.few, c.requires.within))
 
 pub overflow_mul-result-in-Showdown-2 : goal.overflow_mul-result-in-Showdown-2
 overflow_mul-result-in-Showdown-2 c = let w = goal.at.overflow_mul-result-in-Showdown-2 c in record { fits = omega (arith, won w.After-from-in-Showdown-2) }
@@ -38,7 +38,7 @@ overflow_cast-result-in-Showdown c = let w = goal.at.overflow_cast-result-in-Sho
 pub returns-in-Showdown-clause-value : goal.returns-in-Showdown-clause-value
 returns-in-Showdown-clause-value c =
     let w = goal.at.returns-in-Showdown-clause-value c in
-    let a = c.from-in-Showdown in let b = c.from-in-Showdown-2 in let k = c.args.before.on_board - c.args.before.on_level in
+    let a = c.from-in-Showdown in let b = c.from-in-Showdown-2 in let k = c.args.before.off_level in
     counts (a.result * b.result * k) (won w.After-from-in-Showdown-2)
     ∙ ap (λ x. pos (x * b.result * k)) a.ensures ∙ ap (λ x. pos (c.in-Showdown.chips * x * k)) b.ensures
     ∙ sym (ap (λ x. won_by x c.args.place c.args.before) c.in-Showdown.is)
@@ -46,6 +46,6 @@ returns-in-Showdown-clause-value c =
 pub returns-in-Showdown-clause-small : goal.returns-in-Showdown-clause-small
 returns-in-Showdown-clause-small c =
     let w = goal.at.returns-in-Showdown-clause-small c in
-    let n = c.from-in-Showdown.result * c.from-in-Showdown-2.result * (c.args.before.on_board - c.args.before.on_level) in
+    let n = c.from-in-Showdown.result * c.from-in-Showdown-2.result * c.args.before.off_level in
     let P : ℤ → Type 0 = λ t. unsigned_abs t < 2 ^ 120 in
     subst P (sym (counts n (won w.After-from-in-Showdown-2))) (omega (arith, won w.After-from-in-Showdown-2))
