@@ -1,11 +1,11 @@
 //! The plan that takes the first move everywhere.
 
-ghost use Rattle.std.specs.Prelude.{◌≡◌, ◌+◌, ◌<◌, ◌≤◌, ℕ, IfOk, length};
+ghost use Rattle.std.specs.Prelude.{◌≡◌, ◌+◌, ◌<◌, ◌≤◌, ℕ, IfOk, IfSome, MatchOption, length, slice_index};
 ghost use Rattle.gs_model.specs.{Classes.{IsClass}, Frame.{player_at, point_count, round_of}, Positions.{at_point}};
 ghost use Rattle.gs_seq.specs.{Firsts.{AgreeBefore, AreFirstBefore, IsClear, IsFirstAt}, Games.{frame_in}};
-ghost use Rattle.gs_seq.specs.Slots.{AreOffsets, slot_count as slots_in, slots_before};
+ghost use Rattle.gs_seq.specs.{Slots.{AreOffsets, slot_count as slots_in, slots_before}, Sources.{slot_above}};
 
-use crate::flows::coming;
+use crate::flows::{StepSource, coming};
 use crate::form::Abstract;
 use crate::numbers::point_source;
 use crate::plan::Plan;
@@ -13,6 +13,17 @@ use crate::slots::point_total;
 use gs_filter::Classes;
 use gs_game::ValidGame;
 use std::alloc::{AllocError, Global};
+
+/// Returns the weight that comes to each class of a point, from the player's last step before it: that of the step at the first class, or 1 if there is none.
+fn first_came(source: Option<StepSource>, weights: &[u64]) -> u64
+    requires { IfSome source (λ s. slot_above s 1 < length weights.now) }
+    ensures { MatchOption source (result ≡ 1) (λ s. result ≡ slice_index weights.now (slot_above s 1)) }
+{
+    match source {
+        None => 1,
+        Some(step) => weights[step.first as usize + usize::from(step.choice)],
+    }
+}
 
 /// Gives the first move, at each class of a player's point, all the weight that comes there.
 fn put_first(
@@ -28,6 +39,7 @@ fn put_first(
     requires in_range { point < point_count (frame_in game.now) }
     requires own { player_at (frame_in game.now) point ≡ player }
     requires long { length weights.old ≡ slots_in (frame_in game.now) classes.now.lists player }
+    requires firsts { AreFirstBefore (frame_in game.now) classes.now.lists player weights.old point }
     requires clear { IsClear (slots_before (frame_in game.now) classes.now.lists player point) weights.old }
     ensures kept { AgreeBefore (slots_before (frame_in game.now) classes.now.lists player point) weights.old weights.new }
     ensures here { (c : ℕ) → IsClass classes.now.lists (round_of (frame_in game.now) (at_point point)) c
@@ -39,8 +51,7 @@ fn put_first(
     let moves = here.moves.len();
     let first = offsets[point as usize] as usize;
     for before in 0..classes.classes(here.round) {
-        let came = coming(game, classes, 1, weights, source, point, before + 1);
-        weights[first + before as usize * moves] = came;
+        weights[first + before as usize * moves] = first_came(source, weights);
     }
 }
 

@@ -2,10 +2,10 @@ use Rattle.gs_seq.proofs.Points.{length-points}
 use Rattle.std.proofs.Common.{◌≡◌, ◌+◌, ◌-◌, ◌*◌, ◌<◌, ◌≤◌, ◌^◌, length, get_or, set, ap, sym, ◌∙◌, subst, arith, ⊎_elim, get_or-set_other}
 use Rattle.std.proofs.{Math.Nat.{mul-le-mul_right}, lemmas.Bool.{cases_eq}}
 use Rattle.gs_game.specs.Games.{game_of}
-use Rattle.gs_model.specs.{Classes.{class_count, first_member}, Frame.{last_step, move_count, round_of}, Plans.{lift, number_before}, Positions.{at_point}}
+use Rattle.gs_model.specs.{Classes.{IsClass, class_count, first_member}, Frame.{last_step, move_count, round_of}, Plans.{lift, number_before}, Positions.{at_point}}
 use Rattle.gs_model.proofs.Ranges.{in_range}
-use Rattle.gs_seq.specs.{Firsts.{AgreeBefore, IsClear, IsFirstAt}, Games.{frame_in}, Slots.{plan_of, slots_before}}
-use Rattle.gs_seq.proofs.{Choices.{some_move}, Firsts.{first_kept, first_put, slots_own}, Leaks.{RowAt, row_at}}
+use Rattle.gs_seq.specs.{Firsts.{AgreeBefore, IsClear, IsFirstAt}, Games.{frame_in}, Slots.{plan_of, slots_before}, Sources.{MatchSource}}
+use Rattle.gs_seq.proofs.{Choices.{some_move}, Firsts.{first_came, first_kept, first_put, first_room, slots_own}, Leaks.{RowAt, row_at}}
 use Rattle.gs_seq.proofs.{Points.{Reads, playable, point_reads, round_in, walked_at}, SlotLaws.{over, slots_own_before}}
 use Rattle.gs_seq.proofs.first.put_first.Goals.{After-len-moves, In-loop-before}
 use Rattle.gs_seq.proofs.first.put_first.Goals as goal
@@ -47,21 +47,34 @@ classes-before-end-requires-clause-top c =
     c.requires.in_range in
     omega (arith, r.1, (over (frame_in c.args.game.now) c.args.classes.now c.requires.parents).rounds)
 
-pub coming-came-requires-clause-source : goal.coming-came-requires-clause-source
-coming-came-requires-clause-source c = c.point_source-source.ensures c.args.classes.now.lists c.requires.offsets
+-- the player's last step before the point
+source : (c : In-loop-before) → MatchSource (frame_in c.args.game.now) c.args.classes.now.lists c.args.player (at_point c.args.point) c.point_source-source.result
+source c = subst (λ p. MatchSource (frame_in c.args.game.now) c.args.classes.now.lists p (at_point c.args.point) c.point_source-source.result) c.requires.own
+    (c.point_source-source.ensures c.args.classes.now.lists c.requires.offsets)
 
-pub coming-came-requires-clause-class : goal.coming-came-requires-clause-class
-coming-came-requires-clause-class c = (omega arith, omega (arith, (row (goal.at.coming-came-requires-clause-class c).In-loop-before).below))
+-- the class that is written
+class : (c : In-loop-before) → IsClass c.args.classes.now.lists (round_of (frame_in c.args.game.now) (at_point c.args.point)) (c.loop-before.before + 1)
+class c = (omega arith, omega (arith, (row c).below))
 
-pub coming-came-requires-clause-long : goal.coming-came-requires-clause-long
-coming-came-requires-clause-long c =
-    omega (
+pub first_came-requires : goal.first_came-requires
+first_came-requires c =
+    let at = (goal.at.first_came-requires c).In-loop-before in
+    let g = c.args.game.now in
+    let f = frame_in g in
+    let q = c.args.point in
+    let p = c.args.player in
+    let lists = c.args.classes.now.lists in
+    first_room f (in_range (game_of g.game) (playable g)) lists (over f c.args.classes.now c.requires.parents) p
+    (walked_at g p q c.requires.in_range c.requires.own) q c.requires.in_range c.requires.own (c.loop-before.before + 1) (class at)
+    (length c.loop-before.weights)
+    (omega (
       arith,
       c.loop-before.auto.weights,
       c.requires.long,
-      slots_own_before (frame_in c.args.game.now) c.args.classes.now.lists c.args.player c.args.point
-          c.requires.own c.requires.in_range,
-    )
+      slots_own_before f lists p q c.requires.own c.requires.in_range,
+      ap (λ n. slots_before f lists n q) c.requires.own,
+    ))
+    c.point_source-source.result (source at)
 
 pub overflow_mul-weights : goal.overflow_mul-weights
 overflow_mul-weights c = omega (arith, inside (goal.at.overflow_mul-weights c).In-loop-before)
@@ -88,7 +101,7 @@ loop-before-preserved c =
     let some = some_move g q c.requires.in_range in
     let before = c.loop-before.before in
     let weights = c.loop-before.weights in
-    let came = c.coming-came.result in
+    let came = c.first_came.result in
     let slot = get_or c.args.offsets.now q 0 + before * c.len-moves.result in
     let place : slot ≡ slots_before f lists p q + before * move_count f q = omega (arith, r.starts, ap (λ n. before * n) r.many) in
     let one : before + 1 - 1 ≡ before = omega arith in
@@ -97,9 +110,8 @@ loop-before-preserved c =
     let classes = over f c.args.classes.now c.requires.parents in
     let is : came ≡ number_before f (lift f lists (plan_of f lists 1 weights)) (last_step f p (at_point q)) (round_of f (at_point q))
     (first_member lists (round_of f (at_point q)) (before + 1)) =
-    c.coming-came.ensures
-    ∙ ap (λ p. number_before f (lift f lists (plan_of f lists 1 weights)) (last_step f p (at_point q)) (round_of f (at_point q))
-    (first_member lists (round_of f (at_point q)) (before + 1))) c.requires.own in
+    first_came f ranged lists classes p w q c.requires.in_range c.requires.own (before + 1) (class at) c.args.weights.now weights c.requires.firsts
+    c.loop-before.invariant.kept c.point_source-source.result (source at) came c.first_came.ensures in
     let clear : IsClear slot weights = λ k lk. c.loop-before.invariant.clear k (omega (arith, place, lk)) in
     let same : AgreeBefore slot weights (set weights slot came) = λ j lj. get_or-set_other weights slot j came 0 (omega (arith, lj)) in
     record {
