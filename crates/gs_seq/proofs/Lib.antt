@@ -32,5 +32,6 @@ pub mod Singles
 pub mod Stopped
 pub mod Turns
 pub mod Wholed
+pub mod AlongRows
 pub mod Wholes
 pub mod PlanSlots

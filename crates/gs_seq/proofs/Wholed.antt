@@ -55,7 +55,7 @@ rows_slim g c e rows are i d l j b m =
 
 -- those of a round are those of its classes
 pub wholes_in_round : (f : Frame) (lists : ClassLists) (rows : List (Vec (Vec Pair Global) Global)) (wholes : List (Vec Pair Global)) → AreRows f lists rows
-    → AreWholes rows wholes → (round : ℕ) (d : Vec Pair Global) → 0 < round → round ≤ length wholes
+    → AreWholes rows wholes → (round : ℕ) (d : Vec Pair Global) → 0 < round → round ≤ length rows
     → AreWholesIn f lists round (get_or wholes (round - 1) d).items
 wholes_in_round f lists rows wholes are is round d some top =
     let items : Vec Pair Global → List Pair = λ v. v.items in
@@ -64,7 +64,7 @@ wholes_in_round f lists rows wholes are is round d some top =
     let b : Vec (Vec Pair Global) Global = some_item rows (omega (arith, long, some, top)) in
     let own : List (Vec Pair Global) = (get_or rows (round - 1) b).items in
     let here : (get_or wholes (round - 1) d).items ≡ map (λ (r : Vec Pair Global). whole_row r.items) own =
-    sym (get_or-map items wholes (round - 1) d [] (omega (arith, some, top))) ∙ ap (λ xs. get_or xs (round - 1) []) is
+    sym (get_or-map items wholes (round - 1) d [] (omega (arith, some, top, long))) ∙ ap (λ xs. get_or xs (round - 1) []) is
     ∙ get_or-map wholes_of rows (round - 1) b [] (omega (arith, some, top, long)) in
     let in_round = are.in_round round b some (omega (arith, top, long)) in
     record {

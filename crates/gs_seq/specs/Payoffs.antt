@@ -1,5 +1,5 @@
 -- What an end pays in the deals of pairs of classes.
-use Rattle.std.specs.Prelude.{ℕ, ◌-◌, ◌<◌, ◌≤◌, ◌≡◌, ◌==◌, ◌^◌, List, ℤ, pos, neg_ℤ, ◌*ℤ◌, if◌then◌else◌, slice_index}
+use Rattle.std.specs.Prelude.{All, ℕ, length, ◌-◌, ◌<◌, ◌≤◌, ◌≡◌, ◌==◌, ◌^◌, List, ℤ, pos, neg_ℤ, ◌*ℤ◌, if◌then◌else◌, slice_index}
 use Rattle.gs_model.specs.{Classes.{ClassLists, IsClass, class_count, classes_in}, Frame.{Frame, other_player, payoff_to, round_of}}
 use Rattle.gs_model.specs.{Pairs.{class_number, pair_sum}, Plans.{Plan}, Positions.{End, EndKind, Folded1, Folded2, Show, at_end}, Sums.{sum_z}}
 use Rattle.gs_seq.specs.{Rows.{AreWholesIn}, declared.pair.Pair.{Pair}}
@@ -47,6 +47,14 @@ abbrev pub number_sum : Frame → ClassLists → ℕ → List ℕ → ℕ → �
 number_sum f lists player numbers z c =
     let round = round_of f (at_end z) in
     sum_z (λ e. pos (slice_index numbers (e - 1)) *ℤ pair_sum f lists lists round (payoff_to f player z) c e) (classes_in lists round)
+
+-- each pair of a row has a number in the list, of at most 2^36
+abbrev pub HasNumbers : List ℕ → List Pair → Type 0
+HasNumbers numbers row = All (λ p. (0 < p.two) × (p.two ≤ length numbers) × (slice_index numbers (p.two - 1) ≤ 2 ^ 36)) row
+
+-- what an end pays a player in the deals of a row, each pair times the number of its class
+abbrev pub row_pays : ℕ → End → List ℕ → List Pair → ℤ
+row_pays player z numbers row = sum_z (λ (p : Pair). pos (slice_index numbers (p.two - 1)) *ℤ pair_pays player z p) row
 
 -- the numbers of an end's classes are all the same, and `wholes` has for each class all pairs of its row as one
 pub record AreWholesFor (f : Frame) (lists : ClassLists) (z : ℕ) (numbers : List ℕ) (wholes : List Pair) : Type 0 where

@@ -1,6 +1,6 @@
 //! A game in sequence form over lossless classes.
 
-ghost use Rattle.std.specs.Prelude.{◌≡◌, ◌<◌, ◌≤◌, ◌^◌, IfOk, Some};
+ghost use Rattle.std.specs.Prelude.{◌≡◌, ◌<◌, ◌≤◌, ◌^◌, IfOk, None, Some, length};
 ghost use Rattle.gs_boards.specs.declared.board_order.BoardOrder.{BoardOrder as Along};
 ghost use Rattle.gs_model.specs.Frame.{last_round};
 ghost use Rattle.gs_seq.specs.{Games.{frame_in}, Rows.{AreRows, AreWholes, IsSingleIn}, Singles.{HasSumsOf}, Slots.{AreOffsets, slot_count as slots_in}};
@@ -15,6 +15,7 @@ use crate::pair::Pair;
 use crate::pairs::{Pairs, first_after};
 use crate::plan::Plan;
 use crate::rows::{cells, rows_of, wholes_of};
+use crate::single::are_made;
 use crate::slots::{few_slots, offsets_of};
 use crate::stop::SeqStop;
 use gs_boards::BoardOrder;
@@ -39,7 +40,7 @@ pub struct Abstract<'a> {
     one: u32,
     two: u32,
     // for each round and class of player 1 its pairs; the last round is left out if its pairs are made from deals
-    rows: Vec<Vec<Vec<Pair>>>,
+    pub(crate) rows: Vec<Vec<Vec<Pair>>>,
     // for each of these rows all its pairs as one
     pub(crate) wholes: Vec<Vec<Pair>>,
     // the signals of the last round along their boards, if the pairs of its classes are made from deals
@@ -52,20 +53,20 @@ pub struct Abstract<'a> {
     ghost wholed: { AreWholes rows.items wholes.items },
     ghost ordered: { (b : Along) → order ≡ Some b → HasSumsOf (rules_of b.signals.now) (rules_of lossless.now.signals.now) },
     ghost single: { (b : Along) → order ≡ Some b → IsSingleIn lossless.now.classes.now.lists (last_round (frame_in lossless.now.signals.now.game.now)) },
+    ghost listed: { order ≡ None → length rows.items ≡ last_round (frame_in lossless.now.signals.now.game.now) },
 }
 
-/// Returns the signals of the last round along their boards, if the last round has no rows. `listed` is the number of rounds with rows.
+/// Returns the signals of the last round along their boards, if the pairs of that round's classes are made from deals.
 fn order_of<'a>(
     alloc: Global,
     lossless: &'a Lossless<'a>,
-    listed: usize,
 ) -> Result<Option<BoardOrder<'a>>, AllocError>
-    ensures { IfOk result (λ o. (b : Along) → o ≡ Some b
-        → HasSumsOf (rules_of b.signals.now) (rules_of lossless.entry.now.signals.now)
-        × (listed < last_round (frame_in lossless.entry.now.signals.now.game.now))) }
+    ensures sums { IfOk result (λ o. (b : Along) → o ≡ Some b → HasSumsOf (rules_of b.signals.now) (rules_of lossless.entry.now.signals.now)) }
+    ensures single { IfOk result (λ o. (b : Along) → o ≡ Some b
+        → IsSingleIn lossless.entry.now.classes.now.lists (last_round (frame_in lossless.entry.now.signals.now.game.now))) }
 {
     let signals = lossless.signals();
-    if listed < usize::from(signals.rounds()) {
+    if are_made(signals, lossless.classes()) {
         BoardOrder::of(alloc, signals)
     } else {
         Ok(None)
@@ -108,9 +109,9 @@ impl<'a> Abstract<'a> {
         let game = signals.game();
         let (one, two) = few_slots(game, classes, most.sequences)?;
         let offsets = offsets_of(alloc, game, classes)?;
-        let rows = rows_of(alloc, lossless)?;
+        let order = order_of(alloc, lossless)?;
+        let rows = rows_of(alloc, lossless, order.is_some())?;
         let wholes = wholes_of(alloc, &rows)?;
-        let order = order_of(alloc, lossless, rows.len())?;
         let count = cells(alloc, game, classes, &rows)?;
         if count > most.cells {
             return Err(SeqStop::TooManyCells { count });
@@ -166,6 +167,16 @@ impl<'a> Abstract<'a> {
         self.offsets[point as usize] + (class - 1) * moves + u32::from(choice)
     }
 
+    /// Returns the pairs of a class of player 1 in a round that has rows.
+    pub(crate) fn row(&self, round: u8, one: u32) -> &[Pair]
+        requires some { 0 < round }
+        requires listed { round ≤ length self.now.rows.items }
+        requires class { IsClass (lists_of self.now) round one }
+        ensures { IsRow (abstract_frame self.now) (lists_of self.now) round one result.now }
+    {
+        &self.rows[usize::from(round) - 1][one as usize - 1]
+    }
+
     /// Returns the pairs of a class of player 1 in a round: one for each class of player 2 that it meets in some deal, in ascending order.
     pub fn pairs(&self, round: u8, one: u32) -> Pairs<'_>
         requires some { 0 < round }
@@ -174,8 +185,7 @@ impl<'a> Abstract<'a> {
         ensures { IsRow (abstract_frame self.now) (lists_of self.now) round one result }
     {
         if usize::from(round) <= self.rows.len() {
-            let row = &self.rows[usize::from(round) - 1][one as usize - 1];
-            return Pairs::listed(row);
+            return Pairs::listed(self.row(round, one));
         }
         Pairs::made(self.lossless.signals().deals_of(one - 1))
     }
@@ -194,9 +204,11 @@ impl<'a> Abstract<'a> {
 
     /// Returns the signals of a round along their boards, if it is the last round and its pairs are made from deals.
     pub(crate) fn order_in(&self, round: u8) -> Option<&BoardOrder<'a>>
+        requires { round ≤ last_round (abstract_frame self.now) }
         ensures signals { IfSome result (λ order. HasSumsOf (rules_of order.now.signals.now) (rules_of self.now.lossless.now.signals.now)) }
         ensures last { IfSome result (λ order. round ≡ last_round (abstract_frame self.now)) }
         ensures single { IfSome result (λ order. IsSingleIn (lists_of self.now) (last_round (abstract_frame self.now))) }
+        ensures listed { result ≡ None → round ≤ length self.now.rows.items }
     {
         match &self.order {
             Some(order) if round == self.lossless.signals().rounds() => Some(order),

@@ -20,6 +20,7 @@ mod rows;
 mod single;
 mod slots;
 mod stop;
+mod weighing;
 
 pub use fault::PlanFault;
 pub use flows::{MOST_TOTAL, StepSource, class_above, plan_fault};

@@ -8,20 +8,11 @@ ghost use Rattle.gs_seq.specs.{Payoffs.{pair_pays}, Singles.{deal_pair}};
 
 use crate::form::Abstract;
 use crate::pair::Pair;
-use crate::pairs::Pairs;
-use crate::payoff::{add_pays, times_pays};
+use crate::payoff::times_pays;
 use crate::plan::Plan;
+use crate::weighing::{number_of, row_paid};
 use gs_boards::{BoardOrder, Pays};
 use gs_game::{End, EndKind};
-
-/// Returns the number of a class in a list with a number for each class.
-fn number_of(numbers: &[u64], class: u32) -> u64
-    requires some { 0 < class }
-    requires within { class ≤ length numbers.now }
-    ensures { result ≡ slice_index numbers.now (class - 1) }
-{
-    numbers[class as usize - 1]
-}
 
 /// Returns whether the first `count` numbers of a list are all the same.
 fn are_same(numbers: &[u64], count: usize) -> bool
@@ -53,7 +44,7 @@ impl<'a> Abstract<'a> {
     ghost use Rattle.std.specs.Prelude.{◌+◌, IfSome, get_or};
     ghost use Rattle.gs_model.specs.{Classes.{IsClass}, Frame.{end_at, end_count, last_round, other_player, round_of}, Positions.{at_end}};
     ghost use Rattle.gs_seq.specs.{Abstracts.{abstract_frame, lists_of}, Payoffs.{AreFew, AreNumbersAt, AreWholesFor, end_classes, end_sum, number_sum}};
-    ghost use Rattle.gs_seq.specs.{Plans.{IsPlanOf, class_plan}, Rows.{IsRow, IsSingleIn}, Singles.{HasSumsOf}};
+    ghost use Rattle.gs_seq.specs.{Plans.{IsPlanOf, class_plan}, Rows.{IsSingleIn}, Singles.{HasSumsOf}};
     ghost use Rattle.gs_tree.specs.Trees.{rules_of};
 
     /// Returns an end of the game, with its round.
@@ -104,17 +95,15 @@ impl<'a> Abstract<'a> {
         }
     }
 
-    /// Returns for each class of an end's round all pairs of its row as one, if that round has rows and the other player's numbers there are all the same.
+    /// Returns for each class of an end's round all pairs of its row as one, if the other player's numbers there are all the same.
     fn wholes_for(&self, end: u32, numbers: &[u64]) -> Option<&[Pair]>
         requires end { end < end_count (abstract_frame self.now) }
+        requires listed { round_of (abstract_frame self.now) (at_end end) ≤ length self.now.rows.items }
         requires wide { end_classes (abstract_frame self.now) (lists_of self.now) end ≤ length numbers.now }
         ensures { IfSome result (λ wholes. AreWholesFor (abstract_frame self.now) (lists_of self.now) end numbers.now wholes.now) }
     {
         let round = usize::from(self.end_in(end).round);
         let count = self.end_class_total(end) as usize;
-        if round > self.wholes.len() {
-            return None;
-        }
         if !are_same(numbers, count) {
             return None;
         }
@@ -148,6 +137,7 @@ impl<'a> Abstract<'a> {
     }
 
     /// Writes into `numbers` a plan's numbers at an end, class by class.
+    #[inline(never)]
     fn read_numbers(&self, plan: &Plan, end: u32, numbers: &mut [u64])
         requires some { 0 < plan.now.player }
         requires two { plan.now.player ≤ 2 }
@@ -164,12 +154,13 @@ impl<'a> Abstract<'a> {
         }
     }
 
-    /// Writes into `sums` what an end pays a player at each own class, class by class, from the other player's numbers there.
+    /// Writes into `sums` what an end of a round with rows pays a player at each own class, class by class, from the other player's numbers there.
     /// Leaves the rest of `sums` as it is.
     fn pay_all(&self, player: u8, end: u32, numbers: &[u64], sums: &mut [i128])
         requires some { 0 < player }
         requires two { player ≤ 2 }
         requires end { end < end_count (abstract_frame self.now) }
+        requires listed { round_of (abstract_frame self.now) (at_end end) ≤ length self.now.rows.items }
         requires wide { end_classes (abstract_frame self.now) (lists_of self.now) end ≤ length numbers.now }
         requires few { AreFew (end_classes (abstract_frame self.now) (lists_of self.now) end) numbers.now }
         requires room { end_classes (abstract_frame self.now) (lists_of self.now) end ≤ length sums.old }
@@ -196,6 +187,7 @@ impl<'a> Abstract<'a> {
         requires two { player ≤ 2 }
         requires end { end < end_count (abstract_frame self.now) }
         requires class { IsClass (lists_of self.now) (round_of (abstract_frame self.now) (at_end end)) class }
+        requires listed { round_of (abstract_frame self.now) (at_end end) ≤ length self.now.rows.items }
         requires wide { end_classes (abstract_frame self.now) (lists_of self.now) end ≤ length numbers.now }
         requires few { AreFew (end_classes (abstract_frame self.now) (lists_of self.now) end) numbers.now }
         requires wholes { IfSome wholes (λ w. AreWholesFor (abstract_frame self.now) (lists_of self.now) end numbers.now w.now) }
@@ -207,26 +199,7 @@ impl<'a> Abstract<'a> {
                 let number = number_of(numbers, class);
                 times_pays(number, player, at, wholes[class as usize - 1])
             }
-            None => self.row_paid(player, end, class, numbers, self.pairs(at.round, class)),
+            None => row_paid(player, at, self.row(at.round, class), numbers),
         }
-    }
-
-    /// Returns what an end pays a player at an own class, from the other player's numbers there and the pairs `row` of the class.
-    fn row_paid(&self, player: u8, end: u32, class: u32, numbers: &[u64], row: Pairs<'_>) -> i128
-        requires some { 0 < player }
-        requires two { player ≤ 2 }
-        requires end { end < end_count (abstract_frame self.now) }
-        requires wide { end_classes (abstract_frame self.now) (lists_of self.now) end ≤ length numbers.now }
-        requires few { AreFew (end_classes (abstract_frame self.now) (lists_of self.now) end) numbers.now }
-        requires row { IsRow (abstract_frame self.now) (lists_of self.now) (round_of (abstract_frame self.now) (at_end end)) class row }
-        ensures { result ≡ number_sum (abstract_frame self.now) (lists_of self.now) player numbers.now end class }
-    {
-        let at = self.end_in(end);
-        let mut sum = 0i128;
-        for pair in row {
-            let number = number_of(numbers, pair.two);
-            sum = add_pays(sum, number, player, at, pair);
-        }
-        sum
     }
 }

@@ -1,10 +1,10 @@
 //! The pairs of classes that meet in some deal, in rows: a row for each class of player 1 in each round.
 
-ghost use Rattle.std.specs.Prelude.{◌≡◌, ◌+◌, ◌*◌, ◌<◌, ◌≤◌, ◌^◌, IfOk, OnOk, All, map, pos, reverse, sum_by, unsigned_abs, ◌+ℤ◌, ◌*ℤ◌};
+ghost use Rattle.std.specs.Prelude.{◌≡◌, ◌+◌, ◌*◌, ◌<◌, ◌≤◌, ◌^◌, IfOk, IsTrue, OnOk, All, false, length, map, pos, reverse, sum_by, unsigned_abs, ◌+ℤ◌, ◌*ℤ◌};
 ghost use Rattle.gs_model.specs.{Classes.{IsClass}, Frame.{last_round}, Lossless.{IsLossless}};
 ghost use Rattle.gs_lossless.specs.declared.sides.Side.TheVariants as sides;
 ghost use Rattle.gs_seq.specs.{Cells.{AreCounts, cell_count}, Games.{frame_in}};
-ghost use Rattle.gs_seq.specs.Rows.{AreRows, AreRowsIn, AreWholes, IsModerate, IsRow, IsSlim, gathered, join, pair_of, pairs_of, together, whole_row};
+ghost use Rattle.gs_seq.specs.Rows.{AreRows, AreRowsIn, AreWholes, IsModerate, IsRow, IsSingleIn, IsSlim, gathered, join, pair_of, pairs_of, together, whole_row};
 
 use crate::before::rows_before;
 use crate::earlier::rows_above;
@@ -182,7 +182,8 @@ pub(crate) fn wholes_of(
 
 /// Returns the rows of all rounds. Makes those of the last round from its deals, and those of each earlier round from the rows of the next.
 fn rows_listed(alloc: Global, lossless: &Lossless) -> Result<Vec<Vec<Vec<Pair>>>, AllocError>
-    ensures { IfOk result (λ v. AreRows (frame_in lossless.now.signals.now.game.now) lossless.now.classes.now.lists v.items) }
+    ensures rows { IfOk result (λ v. AreRows (frame_in lossless.now.signals.now.game.now) lossless.now.classes.now.lists v.items) }
+    ensures all { IfOk result (λ v. length v.items ≡ last_round (frame_in lossless.now.signals.now.game.now)) }
 {
     let signals = lossless.signals();
     let last = signals.rounds();
@@ -196,10 +197,16 @@ fn rows_listed(alloc: Global, lossless: &Lossless) -> Result<Vec<Vec<Vec<Pair>>>
 }
 
 /// Returns the rows of all rounds, or of all but the last round if its pairs are made from deals.
-pub(crate) fn rows_of(alloc: Global, lossless: &Lossless) -> Result<Vec<Vec<Vec<Pair>>>, AllocError>
-    ensures { IfOk result (λ v. AreRows (frame_in lossless.now.signals.now.game.now) lossless.now.classes.now.lists v.items) }
+pub(crate) fn rows_of(
+    alloc: Global,
+    lossless: &Lossless,
+    made: bool,
+) -> Result<Vec<Vec<Vec<Pair>>>, AllocError>
+    requires { IsTrue made → IsSingleIn lossless.now.classes.now.lists (last_round (frame_in lossless.now.signals.now.game.now)) }
+    ensures rows { IfOk result (λ v. AreRows (frame_in lossless.now.signals.now.game.now) lossless.now.classes.now.lists v.items) }
+    ensures all { IfOk result (λ v. made ≡ false → length v.items ≡ last_round (frame_in lossless.now.signals.now.game.now)) }
 {
-    if are_made(lossless.signals(), lossless.classes()) {
+    if made {
         let rows = rows_before(alloc, lossless)?;
         return Ok(rows);
     }
@@ -275,6 +282,6 @@ pub fn cell_total(alloc: Global, signals: &Signals, classes: &Classes) -> Result
     ensures { IfOk result (λ n. n ≡ cell_count (frame_in signals.now.game.now) classes.now.lists) }
 {
     let lossless = Lossless::known(signals, classes);
-    let rows = rows_of(alloc, &lossless)?;
+    let rows = rows_of(alloc, &lossless, are_made(signals, classes))?;
     cells(alloc, signals.game(), classes, &rows)
 }

@@ -1,36 +1,34 @@
-use Rattle.std.proofs.{Common.{◌≡◌, ◌<◌, ap, ◌∙◌, refl, subst, arith}, lemmas.Result.{IfOk-weaker}}
+use Rattle.std.proofs.{Common.{◌≡◌, ap, ◌∙◌, refl, subst}, lemmas.Result.{IfOk-weaker}}
 use Rattle.std.specs.Prelude.{MatchOption, Option, Some}
 use Rattle.gs_boards.specs.declared.board_order.BoardOrder.{BoardOrder}
-use Rattle.gs_game.specs.Games.{game_of}
-use Rattle.gs_model.specs.{Game.{round_count}, Frame.{last_round}}
-use Rattle.gs_model.proofs.Walked.{last_round_of}
+use Rattle.gs_model.specs.Frame.{last_round}
 use Rattle.gs_tree.specs.{Plain.{IsPlain}, Trees.{rules_of}, Walk.{last_count}, declared.signals.Signals.{Signals}}
-use Rattle.gs_seq.specs.{Games.{frame_in}, Singles.{HasSumsOf}}
+use Rattle.gs_seq.specs.{Games.{frame_in}, Rows.{IsSingleIn}, Singles.{HasSumsOf}}
+use Rattle.gs_seq.proofs.Carried.{carried}
 use Rattle.gs_seq.proofs.form.order_of.Goals as goal
 
 -- the signals of one game have the same sums
 same_sums : (s t : Signals) → s ≡ t → HasSumsOf (rules_of s) (rules_of t)
 same_sums s t e = subst (λ (x : Signals). HasSumsOf (rules_of s) (rules_of x)) e (record { count = refl; sums = λ numbers pays signal. refl })
 
-pub returns-then-listed-from : goal.returns-then-listed-from
-returns-then-listed-from c =
+pub returns-then-are_made-clause-sums : goal.returns-then-are_made-clause-sums
+returns-then-are_made-clause-sums c =
     let s = c.args.lossless.now.signals.now in
-    let g = s.game.now in
-    let less : c.args.listed < last_round (frame_in g) =
-    omega (
-      arith,
-      c.if-listed-from.true,
-      c.from.ensures,
-      c.rounds.ensures.value,
-      ap (λ (x : Signals). round_count (rules_of x)) c.signals-signals.ensures.held,
-      last_round_of (game_of g.game),
-    ) in
     let mine = c.signals-signals.result.now in
     let Nothing : Type 0 = IsPlain (rules_of mine) → last_count (rules_of mine) ≡ 0 in
     IfOk-weaker c.of.result (λ (o : Option BoardOrder). MatchOption o Nothing (λ (y : BoardOrder). y.signals.now ≡ mine))
-    (λ (o : Option BoardOrder). (b : BoardOrder) → o ≡ Some b → HasSumsOf (rules_of b.signals.now) (rules_of s) × (c.args.listed < last_round (frame_in g)))
-    (λ o h b is. (
-      same_sums b.signals.now s (subst (λ (x : Option BoardOrder). MatchOption x Nothing (λ (y : BoardOrder). y.signals.now ≡ mine)) is h
-          ∙ c.signals-signals.ensures.held),
-      less,
-    )) c.of.ensures
+    (λ (o : Option BoardOrder). (b : BoardOrder) → o ≡ Some b → HasSumsOf (rules_of b.signals.now) (rules_of s))
+    (λ o h b is. same_sums b.signals.now s (subst (λ (x : Option BoardOrder). MatchOption x Nothing (λ (y : BoardOrder). y.signals.now ≡ mine)) is h
+    ∙ c.signals-signals.ensures.held)) c.of.ensures
+
+pub returns-then-are_made-clause-single : goal.returns-then-are_made-clause-single
+returns-then-are_made-clause-single c =
+    let s = c.args.lossless.now in
+    let single = carried c.signals-signals.result.now.game.now s.signals.now.game.now c.classes.result.now s.classes.now
+    (λ f lists. IsSingleIn lists (last_round f)) (ap (λ (x : Signals). x.game.now) c.signals-signals.ensures.held) c.classes.ensures.held
+    (c.are_made.ensures c.if-are_made.true) in
+    let mine = c.signals-signals.result.now in
+    IfOk-weaker c.of.result (λ (o : Option BoardOrder). MatchOption o (IsPlain (rules_of mine) → last_count (rules_of mine) ≡ 0)
+    (λ (y : BoardOrder). y.signals.now ≡ mine))
+    (λ (o : Option BoardOrder). (b : BoardOrder) → o ≡ Some b → IsSingleIn s.classes.now.lists (last_round (frame_in s.signals.now.game.now)))
+    (λ o h b is. single) c.of.ensures

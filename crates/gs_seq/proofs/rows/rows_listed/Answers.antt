@@ -66,13 +66,15 @@ loop-round-preserved c =
           (λ k d l. subst (λ n. AreRowsOf s (n + k) (get_or rows k d).items) at (i.each k d l)) c.in_ok-above.ensures;
     }
 
-pub returns : goal.returns
-returns c =
+pub returns-clause-all : goal.returns-clause-all
+returns-clause-all c = omega (arith, c.loop-round.invariant.long, c.loop-round.invariant.some, c.loop-round-test.false)
+
+pub returns-clause-rows : goal.returns-clause-rows
+returns-clause-rows c =
     let s = c.args.lossless.now in
-    let last = last_round (frame_in s.signals.now.game.now) in
     let i = c.loop-round.invariant in
     let rows = c.loop-round.rows.items in
-    let all : length rows ≡ last = omega (arith, i.long, i.some, c.loop-round-test.false) in
+    let all = returns-clause-all c in
     record {
       most = omega (arith, all);
       fewest = omega (arith, all);

@@ -1,17 +1,40 @@
 use Rattle.std.proofs.Common.{rules, ◌-◌, ◌∙◌, ap, sym, subst, arith, get_or}
 use Rattle.std.specs.Prelude.{IfSome, pos, ◌*ℤ◌, unsigned_abs}
 use Rattle.gs_model.specs.{Classes.{IsClass}, Frame.{end_at}}
-use Rattle.gs_seq.specs.{Abstracts.{abstract_frame, lists_of}, Payoffs.{AreWholesFor, pair_pays}, Rows.{IsRow}, declared.pair.Pair.{Pair}}
-use Rattle.gs_seq.proofs.{Forms.{given_in, one_or_two}, Signed.{read_back}, Wholes.{same_sum, whole_few, whole_moderate}}
-use Rattle.gs_seq.proofs.form.Abstract.paid.Goals.{In-Some}
+use Rattle.gs_seq.specs.{Abstracts.{abstract_frame, lists_of}, Payoffs.{AreWholesFor, pair_pays, row_pays}, Rows.{IsRow}, declared.pair.Pair.{Pair}}
+use Rattle.gs_seq.proofs.{Forms.{given_in, one_or_two}, Signed.{read_back}, Turns.{IsAlong}, AlongRows.{row_numbers, row_slim, row_total}}
+use Rattle.gs_seq.proofs.Wholes.{same_sum, whole_few, whole_moderate}
+use Rattle.gs_seq.proofs.form.Abstract.paid.Goals.{After-row, In-Some}
 use Rattle.gs_seq.proofs.form.Abstract.paid.Goals as goal
 
-pub pairs-requires-clause-class : goal.pairs-requires-clause-class
-pairs-requires-clause-class c = subst (λ r. IsClass (lists_of c.args.self.now) r c.args.class) (sym c.end_in-at.ensures.round) c.requires.class
+pub row-requires-clause-listed : goal.row-requires-clause-listed
+row-requires-clause-listed c = omega (arith, c.end_in-at.ensures.round, c.requires.listed)
 
-pub row_paid-requires-clause-row : goal.row_paid-requires-clause-row
-row_paid-requires-clause-row c = subst (λ r. IsRow (abstract_frame c.args.self.now) (lists_of c.args.self.now) r c.args.class c.pairs.result)
-    c.end_in-at.ensures.round c.pairs.ensures
+pub row-requires-clause-class : goal.row-requires-clause-class
+row-requires-clause-class c = subst (λ r. IsClass (lists_of c.args.self.now) r c.args.class) (sym c.end_in-at.ensures.round) c.requires.class
+
+-- the row of the class
+along : (c : After-row) → IsAlong c.args.self.now c.args.player c.args.end c.args.class c.row.result.now
+along c = record {
+  some = c.requires.some;
+  two = c.requires.two;
+  inside = c.requires.end;
+  is_row = subst (λ r. IsRow (abstract_frame c.args.self.now) (lists_of c.args.self.now) r c.args.class c.row.result.now) c.end_in-at.ensures.round c.row.ensures;
+}
+
+pub row_paid-requires-clause-slim : goal.row_paid-requires-clause-slim
+row_paid-requires-clause-slim c = row_slim c.args.self.now c.args.player c.args.end c.args.class _ (along (goal.at.row_paid-requires-clause-slim c).After-row)
+    c.args.numbers.now c.requires.wide c.requires.few
+
+pub row_paid-requires-clause-numbers : goal.row_paid-requires-clause-numbers
+row_paid-requires-clause-numbers c = row_numbers c.args.self.now c.args.player c.args.end c.args.class _
+    (along (goal.at.row_paid-requires-clause-numbers c).After-row) c.args.numbers.now c.requires.wide c.requires.few
+
+pub returns-in-None : goal.returns-in-None
+returns-in-None c = read_back c.row_paid.result _ (search rules) (c.row_paid.ensures
+    ∙ ap (λ e. row_pays c.args.player e c.args.numbers.now c.row.result.now) c.end_in-at.ensures.value
+    ∙ row_total c.args.self.now c.args.player c.args.end c.args.class _ (along (goal.at.returns-in-None c).After-row) c.args.numbers.now c.requires.wide
+    c.requires.few)
 
 -- what is known of the whole rows
 given_wholes : (c : In-Some) → AreWholesFor (abstract_frame c.args.self.now) (lists_of c.args.self.now) c.args.end c.args.numbers.now c.in-Some.wholes.now

@@ -1,5 +1,5 @@
-use Rattle.std.proofs.{Common.{◌≡◌, List, Vec, ap, sym, ◌∙◌, subst, arith, ⊎_elim}, lemmas.Result.{err_from_is_err_and}}
-use Rattle.std.specs.{declared.alloc.Global.{Global}, Prelude.{All, IfErr}}
+use Rattle.std.proofs.{Common.{◌≡◌, List, Vec, ap, refl, sym, true, ◌∙◌, subst, arith, ⊎_elim}, lemmas.Result.{err_from_is_err_and}}
+use Rattle.std.specs.{declared.alloc.Global.{Global}, Prelude.{All, IfErr, None, Option, Some, is_some}}
 use Rattle.gs_model.specs.{Classes.{ClassLists}, Frame.{Frame}}
 use Rattle.gs_tree.specs.declared.signals.Signals.{Signals}
 use Rattle.gs_seq.specs.{Cells.{cell_count}, Games.{frame_in}, Rows.{AreRows, AreWholes, IsSlim}, Slots.{AreOffsets, slot_count}}
@@ -37,11 +37,19 @@ returns-in_err-one-clause-refused c =
     subst (λ r. IfErr r (IsStopAt c.args.most f lists)) (sym e.1)
     (subst (IsStopAt c.args.most f lists) (sym e.2) (too_long c.args.most f lists c.in_err-one.field-0.0 long))
 
+-- what holds if there is a value holds if there is one
+where_some : {X : Type 0} (o : Option X) (P : Type 0) → ((x : X) → o ≡ Some x → P) → is_some o ≡ true → P
+where_some (Some x) P h t = h x refl
+where_some None P h t = absurd cc
+
+pub rows_of-requires : goal.rows_of-requires
+rows_of-requires c = λ t. where_some c.in_ok-order.order _ c.in_ok-order.ensures.single (sym c.is_some.ensures ∙ t)
+
 pub wholes_of-requires : goal.wholes_of-requires
 wholes_of-requires c =
     let s = c.args.lossless.now in
     subst (All (λ (v : Vec (Vec Pair Global) Global). All (λ (r : Vec Pair Global). IsSlim r.items) v.items)) (sym c.deref.ensures.value)
-    (rows_slim s.signals.now.game.now s.classes.now s.parents c.in_ok-rows.rows.items c.in_ok-rows.ensures)
+    (rows_slim s.signals.now.game.now s.classes.now s.parents c.in_ok-rows.rows.items c.in_ok-rows.ensures.rows)
 
 pub cells-requires-clause-rows : goal.cells-requires-clause-rows
 cells-requires-clause-rows c =
@@ -51,7 +59,7 @@ cells-requires-clause-rows c =
     let same : s.signals.now.game.now ≡ game = sym (c.game-game.ensures ∙ ap (λ (x : Signals). x.game.now) c.signals-signals.ensures.held) in
     subst (AreRows (frame_in game) classes.lists) (sym c.deref-2.ensures.value)
     (carried s.signals.now.game.now game s.classes.now classes (λ f lists. AreRows f lists c.in_ok-rows.rows.items) same
-    (sym c.classes-classes.ensures.held) c.in_ok-rows.ensures)
+    (sym c.classes-classes.ensures.held) c.in_ok-rows.ensures.rows)
 
 pub returns-then-count-most-clause-refused : goal.returns-then-count-most-clause-refused
 returns-then-count-most-clause-refused c = let at = (goal.at.returns-then-count-most-clause-refused c).In_ok-count in (few at, count at, c.if-count-most.true)
@@ -65,10 +73,11 @@ invariant_of-result c =
       placed = moved at (λ f lists. AreOffsets f lists c.in_ok-offsets.offsets.items) c.in_ok-offsets.ensures;
       ones = moved at (λ f lists. c.in_ok-one.one ≡ slot_count f lists 1) c.in_ok-one.ensures.one;
       twos = moved at (λ f lists. c.in_ok-one.two ≡ slot_count f lists 2) c.in_ok-one.ensures.two;
-      paired = c.in_ok-rows.ensures;
+      paired = c.in_ok-rows.ensures.rows;
       wholed = subst (λ (rows : List (Vec (Vec Pair Global) Global)). AreWholes rows c.in_ok-wholes.wholes.items) c.deref.ensures.value c.in_ok-wholes.ensures;
-      ordered = λ b is. (c.in_ok-order.ensures b is).0;
-      single = λ b is. c.in_ok-rows.ensures.single (omega (arith, (c.in_ok-order.ensures b is).1, c.len.ensures, c.in_ok-rows.rows.ok.0));
+      ordered = c.in_ok-order.ensures.sums;
+      single = c.in_ok-order.ensures.single;
+      listed = λ none. c.in_ok-rows.ensures.all (c.is_some.ensures ∙ ap is_some none);
     }
 
 pub returns-clause-small : goal.returns-clause-small

@@ -1,0 +1,57 @@
+use Rattle.std.proofs.Common.{rules, ◌≡◌, ◌*◌, ◌<◌, ◌^◌, ◌∙◌, ap, arith, get_or, of_z, pos, subst, sym, to_z}
+use Rattle.std.proofs.lemmas.List.{take_all}
+use Rattle.std.specs.{Int.{w128}, Prelude.{◌*ℤ◌, unsigned_abs}}
+use Rattle.gs_model.specs.Sums.{sum_z}
+use Rattle.gs_seq.specs.declared.pair.Pair.{Pair}
+use Rattle.gs_seq.proofs.{Signed.{read_back}, AlongRows.{along_more, along_small, more_small, number_to, product_small, weight_kept, weights_moderate}}
+use Rattle.gs_seq.proofs.weighing.weights_along.Goals.{After-times}
+use Rattle.gs_seq.proofs.weighing.weights_along.Goals as goal
+
+abbrev no_pair : Pair
+no_pair = record { two = 0; weight = 0; signed = pos 0 }
+
+-- the pair's part
+part : (c : After-times) → to_z w128 (of_z w128 c.times.result) ≡ (let p = get_or c.args.row.now c.loop-pair.pair-index no_pair in
+    pos (number_to c.args.numbers.now p) *ℤ pos p.weight)
+part c =
+    let p = get_or c.args.row.now c.loop-pair.pair-index no_pair in
+    read_back c.times.result _ (search rules) (c.times.ensures ∙ ap (λ z. pos c.number_of-number.result *ℤ z) (weight_kept c.args.row.now c.requires.slim c.loop-pair.pair-index no_pair c.loop-pair-test.true _ c.from.ensures)
+    ∙ ap (λ n. pos n *ℤ pos p.weight) c.number_of-number.ensures)
+
+pub number_of-number-requires-clause-some : goal.number_of-number-requires-clause-some
+number_of-number-requires-clause-some c = (c.requires.numbers c.loop-pair.pair-index no_pair c.loop-pair-test.true).0
+
+pub number_of-number-requires-clause-within : goal.number_of-number-requires-clause-within
+number_of-number-requires-clause-within c = (c.requires.numbers c.loop-pair.pair-index no_pair c.loop-pair-test.true).1
+
+pub times-requires-clause-few : goal.times-requires-clause-few
+times-requires-clause-few c = omega (arith, c.number_of-number.ensures, (c.requires.numbers c.loop-pair.pair-index no_pair c.loop-pair-test.true).2)
+
+pub times-requires-clause-fits : goal.times-requires-clause-fits
+times-requires-clause-fits c =
+    let p = get_or c.args.row.now c.loop-pair.pair-index no_pair in
+    subst (λ z. c.number_of-number.result * unsigned_abs z < 2 ^ 127) (sym (weight_kept c.args.row.now c.requires.slim c.loop-pair.pair-index no_pair c.loop-pair-test.true _ c.from.ensures))
+    (subst (λ n. n * unsigned_abs (pos p.weight) < 2 ^ 127) (sym c.number_of-number.ensures)
+    (product_small c.args.row.now c.args.numbers.now (λ p. pos p.weight) c.requires.slim c.requires.numbers (weights_moderate c.args.row.now) c.loop-pair.pair-index no_pair
+    c.loop-pair-test.true))
+
+pub plus-sum-requires : goal.plus-sum-requires
+plus-sum-requires c =
+    more_small c.args.row.now c.args.numbers.now (λ p. pos p.weight) c.requires.slim c.requires.numbers (weights_moderate c.args.row.now) c.loop-pair.pair-index no_pair c.loop-pair-test.true
+    _ _ c.loop-pair.invariant (part (goal.at.plus-sum-requires c).After-times)
+
+pub loop-pair-preserved : goal.loop-pair-preserved
+loop-pair-preserved c = read_back c.plus-sum.result _ (search rules) (c.plus-sum.ensures
+    ∙ along_more c.args.row.now c.args.numbers.now (λ p. pos p.weight) c.requires.slim c.requires.numbers (weights_moderate c.args.row.now) c.loop-pair.pair-index no_pair
+    c.loop-pair-test.true _ _ c.loop-pair.invariant (part (goal.at.loop-pair-preserved c).After-times))
+
+pub returns-clause-value : goal.returns-clause-value
+returns-clause-value c = c.loop-pair.invariant ∙ ap (sum_z (λ (p : Pair). pos (number_to c.args.numbers.now p) *ℤ pos p.weight))
+    (take_all c.loop-pair.pair-index c.args.row.now (omega (arith, c.loop-pair-test.false)))
+
+pub returns-clause-small : goal.returns-clause-small
+returns-clause-small c = omega (
+  arith,
+  along_small c.args.row.now c.args.numbers.now (λ p. pos p.weight) c.requires.slim c.requires.numbers (weights_moderate c.args.row.now) c.loop-pair.pair-index,
+  ap unsigned_abs c.loop-pair.invariant,
+)
