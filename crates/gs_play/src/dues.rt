@@ -1,8 +1,8 @@
 //! For each place the turn from which it has to be looked at again.
 
-ghost use Rattle.std.specs.Prelude.{◌≡◌, ◌*◌, ◌/◌, ◌<◌, ◌≤◌, ℕ, IfOk, length, set, replicate, slice_index};
+ghost use Rattle.std.specs.Prelude.{◌≡◌, ◌-◌, ◌*◌, ◌/◌, ◌<◌, ◌≤◌, ℕ, IfOk, length, set, replicate, slice_index};
 ghost use Rattle.std.specs.Int.{div_ceil};
-ghost use Rattle.gs_play.specs.DueTurns.{IsDues};
+ghost use Rattle.gs_play.specs.DueTurns.{IsDues, IsNoneDue};
 
 use std::alloc::{AllocError, Global};
 
@@ -62,6 +62,25 @@ pub(crate) fn soonest(dues: &Dues, most: u32) -> u32
     ensures least { (k : ℕ) → k < length dues.now.turns.items → result ≤ slice_index dues.now.turns.items k }
 {
     least(&dues.soonest, 0, dues.soonest.len(), most)
+}
+
+/// Returns the place behind the last one that is due in a turn, from `from` up to but not including `stop`. Returns `from` if none is due there.
+/// From `stop` on none is.
+pub(crate) fn past_due(turns: &[u32], from: usize, stop: usize, turn: u32) -> usize
+    requires order { from ≤ stop }
+    requires within { stop ≤ length turns.now }
+    requires behind { IsNoneDue turns.now stop (length turns.now) turn }
+    ensures from { from ≤ result }
+    ensures most { result ≤ stop }
+    ensures due { from < result → slice_index turns.now (result - 1) ≤ turn }
+    ensures behind { IsNoneDue turns.now result (length turns.now) turn }
+{
+    for place in (from..stop).rev() {
+        if turns[place] <= turn {
+            return place + 1;
+        }
+    }
+    from
 }
 
 /// Finds again what is kept for a block of places.

@@ -1,12 +1,14 @@
 //! What a move of the other player brings or takes away at ends, each turn from now on.
 
 ghost use Rattle.std.specs.Prelude.{◌≡◌, ◌-◌, ◌*◌, ◌^◌, ◌<◌, ◌≤◌, ℕ, ℤ, MatchOption, OnOk, get_or, length, neg_ℤ, pos, unsigned_abs};
+ghost use Rattle.gs_seq.specs.declared.pair.Pair.{Pair as Paired};
 ghost use Rattle.gs_game.specs.Seen.{end_of, step_of};
 ghost use Rattle.gs_model.specs.{Classes.{IsClass}, Frame.{end_count, leads_to, move_count, other_player, payoff_to, player_at, point_count, round_of}};
 ghost use Rattle.gs_model.specs.{Pairs.{pair_sum}, Positions.{at_end, at_point}};
 ghost use Rattle.gs_seq.specs.{Payoffs.{end_classes, end_sum, pair_pays}, Plans.{IsPlanOf, class_plan}};
 ghost use Rattle.gs_best.specs.Rooms.{IsWide};
-ghost use Rattle.gs_play.specs.{Plots.{HasNoWay, IsWayIn, LeadsTo}, Pushes.{IsPushed, with_sign}, Sides.{side_frame, side_lists}, Tables.{raise_sum}};
+ghost use Rattle.gs_play.specs.{Plots.{HasNoWay, IsWayIn, LeadsTo}, Pushes.{IsPushed, stake_pays, with_sign}};
+ghost use Rattle.gs_play.specs.{Sides.{side_frame, side_lists}, Tables.{raise_sum}};
 ghost use Rattle.gs_play.specs.Tallies.{HasTallyRoom, IsTally, risen, risen_at};
 
 use crate::line::rising;
@@ -27,28 +29,47 @@ pub(crate) struct Change {
     pub(crate) is_on: bool,
 }
 
-/// Returns what an end pays a player in the deals of a pair.
-fn pays(player: u8, end: End, pair: Pair) -> i64
-    requires few { pair.weight ≤ 67108864 }
-    requires moderate { unsigned_abs pair.signed ≤ 9 * pair.weight }
-    ensures { result ≡ pair_pays player (end_of end) pair }
+/// What an end pays for a pair: `factor` times the pair's signed weight at a showdown, `factor` times its weight at a fold.
+#[derive(Clone, Copy)]
+pub(crate) struct Stake {
+    pub(crate) factor: i64,
+    pub(crate) is_shown: bool,
+}
+
+/// Returns what a player gains for each pair at an end where the other player, `loser`, comes there from now on, or comes there no more.
+fn stake_of(loser: u8, end: End, is_on: bool) -> Stake
+    ensures few { unsigned_abs result.factor ≤ 65535 }
+    ensures pays { (p : Paired) → stake_pays result p ≡ with_sign is_on (neg_ℤ (pair_pays loser (end_of end) p)) }
 {
     let put = i64::from(end.put);
+    let gain = if is_on { -put } else { put };
     let folder = match end.kind {
         EndKind::Folded1 => 1,
         EndKind::Folded2 => 2,
-        EndKind::Show => return put * pair.signed,
+        EndKind::Show => {
+            return Stake {
+                factor: gain,
+                is_shown: true,
+            };
+        }
     };
-    let stake = if player == folder { -put } else { put };
-    stake * i64::from(pair.weight)
+    Stake {
+        factor: if loser == folder { -gain } else { gain },
+        is_shown: false,
+    }
 }
 
-/// Returns what a player gains where the other player loses `loss` from now on, or loses it no more.
-fn gain(loss: i64, is_on: bool) -> i64
-    requires { unsigned_abs loss < 2 ^ 63 }
-    ensures { result ≡ with_sign is_on (neg_ℤ loss) }
+/// Returns what a stake pays for a pair.
+fn pays(stake: Stake, pair: Pair) -> i64
+    requires factor { unsigned_abs stake.factor ≤ 65535 }
+    requires few { pair.weight ≤ 67108864 }
+    requires moderate { unsigned_abs pair.signed ≤ 9 * pair.weight }
+    ensures { result ≡ stake_pays stake pair }
 {
-    if is_on { -loss } else { loss }
+    if stake.is_shown {
+        return stake.factor * pair.signed;
+    }
+    stake.factor * i64::from(pair.weight)
 }
 
 /// Returns the move that leads to an end. Returns `None` if no move does.
@@ -104,9 +125,9 @@ fn push_row(
         (risen_at rise end (λ c. with_sign is_on (pair_sum f lists lists (round_of f (at_end end)) (payoff_to f player end) c class))) now tally.new }
 {
     let at = side.form.end_in(end);
+    let stake = stake_of(3 - side.player, at, is_on);
     for pair in side.form.pairs(at.round, class) {
-        let loss = pays(3 - side.player, at, pair);
-        turn_end(side, tally, way, pair.two, gain(loss, is_on), now);
+        turn_end(side, tally, way, pair.two, pays(stake, pair), now);
     }
 }
 
@@ -150,9 +171,10 @@ pub(crate) fn push(side: &Side<'_>, tally: &mut Tally, change: Change, now: u32)
         → IsTally f lists player pays rise now tally.old → IsTally f lists player pays rise' now tally.new }
 {
     let other = 3 - side.player;
+    let game = side.form.game();
     let span = side.plot.spans[change.step.point as usize];
     for end in span.first..span.stop {
-        if end_step(side.form.game(), other, end) != Some(change.step) {
+        if end_step(game, other, end) != Some(change.step) {
             continue;
         }
         push_end(side, tally, end, change, now);

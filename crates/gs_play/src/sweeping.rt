@@ -1,13 +1,13 @@
 //! Class totals found again where they are due, from the last cell to the first.
 
-ghost use Rattle.std.specs.Prelude.{◌≡◌, ◌+◌, ◌*◌, ◌<◌, ◌≤◌, ◌^◌, ℕ, ℤ, length, slice_index};
+ghost use Rattle.std.specs.Prelude.{◌≡◌, ◌+◌, ◌*◌, ◌<◌, ◌≤◌, ◌^◌, ℕ, ℤ, MatchOption, length, slice_index};
 ghost use Rattle.gs_model.specs.{Classes.{IsClass}, Frame.{point_count, round_of}, Positions.{at_point}};
 ghost use Rattle.gs_seq.specs.Abstracts.{abstract_frame, lists_of};
 ghost use Rattle.gs_best.specs.Tables.{classes_at, start_of};
-ghost use Rattle.gs_play.specs.{DueTurns.{IsNoneDue}, Plots.{IsRowIn, IsWayIn}, Sides.{side_frame, side_lists}};
+ghost use Rattle.gs_play.specs.{DueTurns.{IsNoneDue}, Plots.{HasNoWay, IsRowIn, IsWayIn, LeadsTo}, Sides.{side_frame, side_lists}};
 ghost use Rattle.gs_play.specs.Tallies.{AreSmallAtEnds, FeedsAbove, HasTallyRoom, IsLineFound, IsTally, TellsMoves, up_of};
 
-use crate::dues::{renew, set_due};
+use crate::dues::{past_due, renew, set_due};
 use crate::line::{Line, above, sum};
 use crate::plot::{Row, Way};
 use crate::side::Side;
@@ -50,9 +50,21 @@ fn find(side: &Side<'_>, tally: &mut Tally, cell: usize, row: Row, now: u32, las
     }
 }
 
-/// Finds the class total of a cell again. If it has changed, the worth that it counts for changes as much.
-fn settle(side: &Side<'_>, tally: &mut Tally, cell: usize, now: u32, last: u32)
-    requires cell { cell < start_of (side_frame side.now) (side_lists side.now) (point_count (side_frame side.now)) }
+/// Finds the class total of a cell of a row again. If it has changed, the worth that it counts for changes as much. `way` leads to the row's point.
+fn settle(
+    side: &Side<'_>,
+    tally: &mut Tally,
+    cell: usize,
+    row: Row,
+    way: Option<Way>,
+    now: u32,
+    last: u32,
+)
+    requires row { IsRowIn (side_frame side.now) (side_lists side.now) row }
+    requires from { row.cell ≤ cell }
+    requires below { cell < row.cell + classes_at (side_frame side.now) (side_lists side.now) row.point }
+    requires way { MatchOption way (HasNoWay (side_frame side.now) (at_point row.point))
+        (LeadsTo (side_frame side.now) (side_lists side.now) (at_point row.point)) }
     requires room { HasTallyRoom (side_frame side.now) (side_lists side.now) tally.old }
     requires order { now < last }
     requires turns { last ≤ 2 ^ 20 }
@@ -65,21 +77,62 @@ fn settle(side: &Side<'_>, tally: &mut Tally, cell: usize, now: u32, last: u32)
         → IsTally (side_frame side.now) (side_lists side.now) side.now.player pays rise now tally.old
         → IsTally (side_frame side.now) (side_lists side.now) side.now.player pays rise now tally.new }
 {
-    let row = side.plot.rows[side.plot.points[cell] as usize];
     let old = tally.totals[cell];
     find(side, tally, cell, row, now, last);
     let new = tally.totals[cell];
     if new == old {
         return;
     }
-    if let Some(step) = side.plot.to_points[row.point as usize] {
-        let way = Way {
-            row: side.plot.rows[step.point as usize],
-            choice: step.choice,
-            round: row.round,
-        };
+    if let Some(way) = way {
         let class = (cell - row.cell) as u32 + 1;
         feed(side.form, tally, way, class, above(new, old));
+    }
+}
+
+/// Returns the move that leads to the point of a row. Returns `None` if no move does.
+fn way_of(side: &Side<'_>, row: Row) -> Option<Way>
+    requires { IsRowIn (side_frame side.now) (side_lists side.now) row }
+    ensures { MatchOption result (HasNoWay (side_frame side.now) (at_point row.point))
+        (LeadsTo (side_frame side.now) (side_lists side.now) (at_point row.point)) }
+{
+    let step = side.plot.to_points[row.point as usize]?;
+    Some(Way {
+        row: side.plot.rows[step.point as usize],
+        choice: step.choice,
+        round: row.round,
+    })
+}
+
+/// Finds the class totals of some cells of a row again that are due in the turn `now`: from `from` up to but not including `stop`.
+fn sweep_row(
+    side: &Side<'_>,
+    tally: &mut Tally,
+    row: Row,
+    from: usize,
+    stop: usize,
+    now: u32,
+    last: u32,
+)
+    requires row { IsRowIn (side_frame side.now) (side_lists side.now) row }
+    requires from { row.cell ≤ from }
+    requires run { from ≤ stop }
+    requires below { stop ≤ row.cell + classes_at (side_frame side.now) (side_lists side.now) row.point }
+    requires room { HasTallyRoom (side_frame side.now) (side_lists side.now) tally.old }
+    requires order { now < last }
+    requires turns { last ≤ 2 ^ 20 }
+    requires behind { IsNoneDue tally.old.dues.turns.items stop (length tally.old.dues.turns.items) now }
+    ensures room { HasTallyRoom (side_frame side.now) (side_lists side.now) tally.new }
+    ensures settled { IsNoneDue tally.new.dues.turns.items from (length tally.new.dues.turns.items) now }
+    ensures tells { TellsMoves (side_frame side.now) (side_lists side.now) tally.old tally.new }
+    ensures kept { (pays rise : ℕ → ℕ → ℤ) → AreSmallAtEnds (side_frame side.now) (side_lists side.now) side.now.player pays rise
+        → IsTally (side_frame side.now) (side_lists side.now) side.now.player pays rise now tally.old
+        → IsTally (side_frame side.now) (side_lists side.now) side.now.player pays rise now tally.new }
+{
+    let way = way_of(side, row);
+    for cell in (from..stop).rev() {
+        if tally.dues.turns[cell] <= now {
+            settle(side, tally, cell, row, way, now, last);
+        }
     }
 }
 
@@ -99,10 +152,12 @@ fn sweep_block(side: &Side<'_>, tally: &mut Tally, block: usize, now: u32, last:
 {
     let from = block * 64;
     let stop = tally.totals.len().min(from + 64);
-    for cell in (from..stop).rev() {
-        if tally.dues.turns[cell] <= now {
-            settle(side, tally, cell, now, last);
-        }
+    let mut left = past_due(&tally.dues.turns, from, stop, now);
+    while from < left {
+        let row = side.plot.rows[side.plot.points[left - 1] as usize];
+        let first = row.cell.max(from);
+        sweep_row(side, tally, row, first, left, now, last);
+        left = past_due(&tally.dues.turns, from, first, now);
     }
     renew(&mut tally.dues, block, from, stop);
 }

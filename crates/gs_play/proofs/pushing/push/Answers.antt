@@ -72,7 +72,7 @@ few c =
 last : (c : After-end_step)
     → option_map step_of c.end_step.result ≡ last_step (side_frame c.args.side.now) (other_player c.args.side.now.player) (at_end c.loop-end.end)
 last c =
-    subst (λ g. option_map step_of c.end_step.result ≡ last_step (frame_in g) (other_player c.args.side.now.player) (at_end c.loop-end.end)) c.game.ensures
+    subst (λ g. option_map step_of c.end_step.result ≡ last_step (frame_in g) (other_player c.args.side.now.player) (at_end c.loop-end.end)) c.game-game.ensures
     c.end_step.ensures
 
 -- where it is not another step than the move's, it is the move

@@ -1,8 +1,8 @@
-use Rattle.std.proofs.Common.{◌≡◌, List, refl, ap, sym, ◌∙◌, subst, arith, of_z, to_z, to_z-of_z}
-use Rattle.std.specs.Prelude.{neg_ℤ, unsigned_abs}
+use Rattle.std.proofs.Common.{List, refl, ap, sym, ◌∙◌, subst, of_z, to_z, to_z-of_z}
+use Rattle.std.specs.Prelude.{neg_ℤ}
 use mir.Syntax.{w64}
 use Rattle.gs_model.specs.Classes.{IsClass}
-use Rattle.gs_model.specs.Frame.{end_at, other_player, round_of}
+use Rattle.gs_model.specs.Frame.{other_player, round_of}
 use Rattle.gs_seq.specs.Payoffs.{pair_pays}
 use Rattle.gs_seq.specs.Rows.{IsRow}
 use Rattle.gs_seq.specs.declared.pair.Pair.{Pair}
@@ -10,7 +10,7 @@ use Rattle.gs_seq.proofs.Turns.{IsKnown}
 use Rattle.gs_play.specs.Pushes.{with_sign}
 use Rattle.gs_play.specs.Sides.{side_frame, side_lists}
 use Rattle.gs_play.proofs.Pushed.{pair_known, row_begun, row_ended, row_further}
-use Rattle.gs_play.proofs.pushing.push_row.Goals.{After-pays-loss, In-Some}
+use Rattle.gs_play.proofs.pushing.push_row.Goals.{In-Some}
 use Rattle.gs_play.proofs.pushing.push_row.Goals as goal
 
 -- what is known of the pair
@@ -18,13 +18,6 @@ pair : (c : In-Some) → IsKnown (side_frame c.args.side.now) (side_lists c.args
 pair c =
     pair_known c.args.side.now c.args.end c.args.class c.requires.end c.args.is_on c.args.now c.loop-pair.pair-iterator c.next.new.self c.in-Some.pair
     c.args.tally.now c.loop-pair.tally c.loop-pair.invariant.walk c.in-Some.ensures.steps
-
--- what the other player loses there
-loss : (c : After-pays-loss) → to_z w64 (of_z w64 c.pays-loss.result)
-    ≡ pair_pays (other_player c.args.side.now.player) (end_at (side_frame c.args.side.now) c.args.end) c.in-Some.pair
-loss c =
-    to_z-of_z {w = w64} (record { sfits = c.pays-loss.type_inv }) ∙ c.pays-loss.ensures
-    ∙ ap (λ e. pair_pays (other_player c.args.side.now.player) e c.in-Some.pair) c.end_in-at.ensures.value
 
 pub loop-pair-init : goal.loop-pair-init
 loop-pair-init c =
@@ -39,14 +32,8 @@ loop-pair-init c =
           c.into_iter-pair-iterator.ensures.into_iter_gives;
     }
 
-pub pays-loss-requires : goal.pays-loss-requires
-pays-loss-requires c = let k = pair (goal.at.pays-loss-requires c).In-Some in record { few = k.weight; moderate = k.signed }
-
-pub gain-requires : goal.gain-requires
-gain-requires c =
-    let at = goal.at.gain-requires c in
-    let k = pair at.In-Some in
-    omega (arith, ap unsigned_abs (loss at.After-pays-loss), k.pays, k.weight)
+pub pays-requires : goal.pays-requires
+pays-requires c = let k = pair (goal.at.pays-requires c).In-Some in record { factor = c.stake_of-stake.ensures.few; few = k.weight; moderate = k.signed }
 
 pub turn_end-requires-clause-class : goal.turn_end-requires-clause-class
 turn_end-requires-clause-class c =
@@ -57,15 +44,15 @@ turn_end-requires-clause-class c =
 
 pub loop-pair-preserved : goal.loop-pair-preserved
 loop-pair-preserved c =
-    let at = goal.at.loop-pair-preserved c in
     let side = c.args.side.now in
     record {
       room = c.turn_end.ensures.room;
       moved = c.turn_end.ensures.moved ∙ c.loop-pair.invariant.moved;
       picks = c.turn_end.ensures.picks ∙ c.loop-pair.invariant.picks;
       walk = row_further side c.args.end c.args.class c.requires.end c.args.is_on c.args.now c.loop-pair.pair-iterator c.next.new.self c.in-Some.pair
-          c.args.tally.now c.loop-pair.tally c.loop-pair.invariant.walk c.in-Some.ensures.steps (to_z w64 (of_z w64 c.gain.result)) c.turn_end.new.tally
-          (to_z-of_z {w = w64} (record { sfits = c.gain.type_inv }) ∙ c.gain.ensures ∙ ap (λ x. with_sign c.args.is_on (neg_ℤ x)) (loss at.After-pays-loss))
+          c.args.tally.now c.loop-pair.tally c.loop-pair.invariant.walk c.in-Some.ensures.steps (to_z w64 (of_z w64 c.pays.result)) c.turn_end.new.tally
+          (to_z-of_z {w = w64} (record { sfits = c.pays.type_inv }) ∙ c.pays.ensures ∙ c.stake_of-stake.ensures.pays c.in-Some.pair
+          ∙ ap (λ e. with_sign c.args.is_on (neg_ℤ (pair_pays (other_player side.player) e c.in-Some.pair))) c.end_in-at.ensures.value)
           (λ pays rise h. c.turn_end.ensures.turned c.args.end pays rise c.requires.end c.requires.way.leads h);
     }
 

@@ -1,39 +1,68 @@
-use Rattle.std.proofs.Common.{◌≡◌, ℕ, ◌-◌, ◌<◌, sym, subst, arith, ⊎_elim, Vec}
-use Rattle.std.specs.Prelude.{slice_index}
+use Rattle.std.proofs.Common.{ℕ, ◌-◌, ◌<◌, List, length, sym, subst, arith, Vec}
 use Rattle.std.specs.declared.alloc.Global.{Global}
-use Rattle.std.proofs.lemmas.Bool.{cases_eq}
 use Rattle.gs_best.specs.Tables.{moves_of}
+use Rattle.gs_play.specs.DueTurns.{IsNoneDue}
+use Rattle.gs_play.specs.Plots.{IsCellOf}
 use Rattle.gs_play.specs.Sides.{side_frame, side_lists}
 use Rattle.gs_play.specs.Tables.{AreSettledUntil}
 use Rattle.gs_play.specs.Tallies.{slopes_of, zeros_of}
+use Rattle.gs_play.proofs.PlotRows.{IsRowAt, point_at, row_at}
 use Rattle.gs_play.proofs.Tells.{tells_next}
+use Rattle.gs_play.proofs.sweeping.sweep_block.Goals.{After-index-row}
 use Rattle.gs_play.proofs.sweeping.sweep_block.Goals as goal
 
-pub loop-cell-preserved-then-index-now : goal.loop-cell-preserved-then-index-now
-loop-cell-preserved-then-index-now c =
-    let cell = c.loop-cell.cell in
-    let was = c.loop-cell.invariant in
-    let new = c.settle.new.tally in
-    let is = c.settle.ensures in
+-- the row of the cell
+point_is : (c : After-index-row) → IsCellOf (side_frame c.args.side.now) (side_lists c.args.side.now) c.index.result.now (c.loop-left.left - 1)
+point_is c =
+    let s = c.args.side.now in
+    point_at (side_frame s) (side_lists s) s.plot.now s.plotted (c.loop-left.left - 1) c.index.result.now
+    (omega (arith, c.loop-left.invariant.few, c.loop-left-test.true, c.loop-left.invariant.room.totals)) c.index.ensures
+
+row_of : (c : After-index-row) → IsRowAt (side_frame c.args.side.now) (side_lists c.args.side.now) c.index.result.now c.index-row.result.now
+row_of c =
+    let s = c.args.side.now in
+    row_at (side_frame s) (side_lists s) s.plot.now s.plotted c.index.result.now (point_is c).inside c.index-row.result.now c.index-row.ensures
+
+has : (c : After-index-row) → IsCellOf (side_frame c.args.side.now) (side_lists c.args.side.now) c.index-row.result.now.point (c.loop-left.left - 1)
+has c = subst (λ q. IsCellOf (side_frame c.args.side.now) (side_lists c.args.side.now) q (c.loop-left.left - 1)) (sym (row_of c).point) (point_is c)
+
+pub sweep_row-requires-clause-row : goal.sweep_row-requires-clause-row
+sweep_row-requires-clause-row c = (row_of (goal.at.sweep_row-requires-clause-row c).After-index-row).known
+
+pub sweep_row-requires-clause-below : goal.sweep_row-requires-clause-below
+sweep_row-requires-clause-below c =
+    let at = (goal.at.sweep_row-requires-clause-below c).After-index-row in
+    omega (arith, (has at).below, (row_of at).known.cell, c.loop-left-test.true)
+
+pub loop-left-smaller : goal.loop-left-smaller
+loop-left-smaller c =
+    let at = (goal.at.loop-left-smaller c).After-index-row in
+    omega (arith, (has at).from, (row_of at).known.cell, c.loop-left-test.true, c.past_due-left-in-loop-left.ensures.most, c.max-first.ensures)
+
+pub loop-left-preserved : goal.loop-left-preserved
+loop-left-preserved c =
+    let at = (goal.at.loop-left-preserved c).After-index-row in
+    let was = c.loop-left.invariant in
+    let is = c.sweep_row.ensures in
+    let next = c.past_due-left-in-loop-left in
+    let sooner : next.result < c.loop-left.left =
+    omega (arith, (has at).from, (row_of at).known.cell, c.loop-left-test.true, next.ensures.most, c.max-first.ensures) in
     record {
       room = is.room;
-      none = λ k lo hi. ⊎_elim
-          (λ (same : k ≡ cell - 1). subst (λ i. c.args.now < slice_index new.dues.turns.items i) (sym same) is.later)
-          (λ (other : k ≡ cell - 1 → ⊥).
-          let e = is.behind k (omega (arith, lo, other)) in
-          let h = was.none k (omega (arith, lo, other, c.loop-cell-test.true)) (omega (arith, hi, is.room.turns, was.room.turns)) in
-          omega (arith, e, h))
-          (cases_eq k (cell - 1));
-      tells = tells_next (side_frame c.args.side.now) (side_lists c.args.side.now) c.args.tally.now c.loop-cell.tally new was.tells is.tells;
-      kept = λ pays rise few h. is.kept pays rise few (λ k lo hi. was.none k (omega (arith, lo, c.loop-cell-test.true)) hi) (was.kept pays rise few h);
+      from = next.ensures.from;
+      most = omega (arith, sooner, was.most);
+      few = omega (arith, sooner, was.few, is.room.totals, was.room.totals);
+      none = subst (λ (xs : List ℕ). IsNoneDue xs next.result (length xs) c.args.now) c.deref-in-loop-left.ensures.value next.ensures.behind;
+      tells = tells_next (side_frame c.args.side.now) (side_lists c.args.side.now) c.args.tally.now c.loop-left.tally c.sweep_row.new.tally was.tells is.tells;
+      kept = λ pays rise few h. is.kept pays rise few (was.kept pays rise few h);
     }
 
 pub returns-clause-kept : goal.returns-clause-kept
 returns-clause-kept c = λ pays rise few h.
     let f = side_frame c.args.side.now in
     let lists = side_lists c.args.side.now in
-    let t = c.loop-cell.tally in
-    let k = c.loop-cell.invariant.kept pays rise few h in
+    let t = c.loop-left.tally in
+    let k = c.loop-left.invariant.kept pays rise few h in
     record {
       zeros = k.zeros;
       slopes = k.slopes;

@@ -1,14 +1,20 @@
-use Rattle.std.proofs.Common.{ℕ, ℤ, length}
+use Rattle.std.proofs.Common.{ℕ, ℤ, ◌≤◌, length}
 use Rattle.gs_play.specs.DueTurns.{IsNoneDue}
 use Rattle.gs_play.specs.Sides.{side_frame, side_lists}
 use Rattle.gs_play.specs.Tallies.{AreSmallAtEnds, HasTallyRoom, IsTally, TellsMoves}
 use Rattle.gs_play.proofs.sweeping.sweep_block.Given as goal
 
-abbrev pub invariant-loop-cell : goal.invariant-loop-cell
-invariant-loop-cell l = let f = side_frame l.side in let lists = side_lists l.side in record {
+abbrev pub invariant-loop-left : goal.invariant-loop-left
+invariant-loop-left l = let f = side_frame l.side in let lists = side_lists l.side in record {
   room : HasTallyRoom f lists l.tally;
-  none : IsNoneDue l.tally.dues.turns.items l.cell (length l.tally.dues.turns.items) l.now;
+  from : l.from ≤ l.left;
+  most : l.left ≤ l.stop;
+  few : l.left ≤ length l.tally.totals.items;
+  none : IsNoneDue l.tally.dues.turns.items l.left (length l.tally.dues.turns.items) l.now;
   tells : TellsMoves f lists l.initial.tally l.tally;
   kept : (pays rise : ℕ → ℕ → ℤ) → AreSmallAtEnds f lists l.side.player pays rise → IsTally f lists l.side.player pays rise l.now l.initial.tally
       → IsTally f lists l.side.player pays rise l.now l.tally;
 }
+
+abbrev pub decreases-loop-left : goal.decreases-loop-left
+decreases-loop-left l = l.left
