@@ -1,8 +1,7 @@
 -- Members of one class and the classes of their parents.
-use Rattle.std.proofs.Common.{◌≡◌, ◌==◌, ◌+◌, ◌-◌, ◌<◌, ◌≤◌, ℕ, List, map, length, get_or, sym, ◌∙◌, ap, subst, arith, Vec, Global}
-use Rattle.std.proofs.lemmas.List.{get_or_default}
+use Rattle.std.proofs.Common.{◌≡◌, ◌==◌, ◌+◌, ◌-◌, ◌<◌, ◌≤◌, ℕ, List, map, length, get_or, sym, ◌∙◌, ap, subst, arith}
 use Rattle.std.specs.List.{position_or_len}
-use Rattle.gs_model.specs.{Numbering.{greatest, IsNumbered}, Classes.{ClassLists, list_of, IsClasses}, Rows.{rows}}
+use Rattle.gs_model.specs.{Numbering.{greatest, IsNumbered}, Classes.{ClassLists, list_of, IsClasses}}
 use Rattle.gs_filter.specs.{declared.tally.Tally.{Tally}, Tallies.{tallies_of, AreReady}, Filter.{AreParents}}
 use Rattle.gs_filter.specs.Faults.{class_above, first_beside, StaysTogether, Agree, AllNumbered, AllTogether}
 use Rattle.gs_filter.proofs.TallyLaws.{length-tallies_of, first_in, number_in, tally_read, round_tallies}
@@ -16,30 +15,26 @@ module _ (parents above list : List ℕ) (tallies : List Tally) (ready : AreRead
   pub class_within : get_or list s 0 - 1 < length tallies
   class_within = let n = own_class in let e : length tallies ≡ greatest list = ap length ready.tallied ∙ length-tallies_of list in omega (arith, n.0, n.1)
 
-  pub first_is : (d : Tally) → (get_or tallies (get_or list s 0 - 1) d).first ≡ first_beside list s
-  first_is d =
-      let n = own_class in
-      let t = get_or tallies (get_or list s 0 - 1) d in
-      ap (λ (t : Tally). t.first) (tally_read list tallies (get_or list s 0) ready.tallied n.0 n.1 t
-      (get_or_default tallies (get_or list s 0 - 1) d t class_within))
+  pub first_is : (t : Tally) → t ≡ get_or tallies (get_or list s 0 - 1) t → t.first ≡ first_beside list s
+  first_is t is = let n = own_class in ap (λ (t : Tally). t.first) (tally_read list tallies (get_or list s 0) ready.tallied n.0 n.1 t is)
 
   pub first_within : first_beside list s < length parents
   first_within = let n = own_class in let f = first_in list (get_or list s 0) ready.numbered n.0 n.1 in omega (arith, ready.long)
 
-  pub read_first_within : (d : Tally) → (get_or tallies (get_or list s 0 - 1) d).first < length parents
-  read_first_within d = subst (λ i. i < length parents) (sym (first_is d)) first_within
+  pub read_first_within : (t : Tally) → t ≡ get_or tallies (get_or list s 0 - 1) t → t.first < length parents
+  read_first_within t is = subst (λ i. i < length parents) (sym (first_is t is)) first_within
 
-  pub above_first_within : (d : Tally) → get_or parents (get_or tallies (get_or list s 0 - 1) d).first 0 < length above
-  above_first_within d = ready.in_range _ (read_first_within d)
+  pub above_first_within : (t : Tally) → t ≡ get_or tallies (get_or list s 0 - 1) t → get_or parents t.first 0 < length above
+  above_first_within t is = ready.in_range _ (read_first_within t is)
 
 -- ---- rounds
 
-module _ (parents : List (List ℕ)) (lists : ClassLists) (tallies : List (Vec Tally Global)) (forest : AreParents parents) (agree : Agree parents lists)
-    (numbered : AllNumbered lists) (tallied : rows tallies ≡ map tallies_of lists) where
-  pub ready_at : (round : ℕ) (ps above list : List ℕ) (ts : List Tally) (v : Vec Tally Global) → 1 < round → round ≤ length lists → ps ≡ list_of parents round
+module _ (parents : List (List ℕ)) (lists : ClassLists) (tallies : List (List Tally)) (forest : AreParents parents) (agree : Agree parents lists)
+    (numbered : AllNumbered lists) (tallied : tallies ≡ map tallies_of lists) where
+  pub ready_at : (round : ℕ) (ps above list : List ℕ) (ts : List Tally) → 1 < round → round ≤ length lists → ps ≡ list_of parents round
       → above ≡ list_of lists (round - 1) → list ≡ list_of lists round
-      → v ≡ get_or tallies (round - 1) v → ts ≡ v.items → AreReady ps above list ts
-  ready_at round ps above list ts v some top p a l is t =
+      → ts ≡ get_or tallies (round - 1) ts → AreReady ps above list ts
+  ready_at round ps above list ts some top p a l is =
       let both = agree.rounds in
       let here = agree.lengths round (omega arith) (omega arith) in
       let before = agree.lengths (round - 1) (omega arith) (omega arith) in
@@ -51,7 +46,7 @@ module _ (parents : List (List ℕ)) (lists : ClassLists) (tallies : List (Vec T
         in_range = λ s h. subst (λ (x : List ℕ). get_or x s 0 < length above) (sym p) (let r = forest.in_range round s some (omega arith) (omega arith) in
             omega arith);
         numbered = subst IsNumbered (sym l) (numbered round (omega arith) top);
-        tallied = t ∙ round_tallies lists tallies tallied round v (omega arith) top is ∙ ap tallies_of (sym l);
+        tallied = round_tallies lists tallies tallied round ts (omega arith) top is ∙ ap tallies_of (sym l);
       }
 
 -- lists that break no rule are classes

@@ -55,7 +55,7 @@ pub single_at : (parents : List (List ℕ)) (round : ℕ) → 0 < round → roun
     → list_of (single_classes parents) round ≡ range_with_len 1 (length (list_of parents round))
 single_at parents round some top = get_or-map (λ (l : List ℕ). range_with_len 1 (length l)) parents (round - 1) [] [] (omega arith)
 
-counts : (n : ℕ) → IsNumbered (range_with_len 1 n)
+pub counts : (n : ℕ) → IsNumbered (range_with_len 1 n)
 counts n k l =
     let xs = range_with_len 1 n in
     let long = length-range_with_len 1 n in

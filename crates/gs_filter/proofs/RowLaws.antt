@@ -1,6 +1,6 @@
 -- Lists of lists, by rounds.
 use Rattle.std.proofs.Common.{◌≡◌, ◌+◌, ◌-◌, ◌<◌, ◌≤◌, ◌++◌, ◌∷◌, map, take, ℕ, List, [], length, get_or, sym, ◌∙◌, ap, arith, Vec, Global}
-use Rattle.std.proofs.lemmas.List.{get_or-map, length-map, map_push, map_more}
+use Rattle.std.proofs.lemmas.List.{get_or-map, length-map, map_more}
 use Rattle.gs_model.specs.{Classes.{list_of}, Rows.{rows}}
 
 pub length-rows : {X : Type 0} (vs : List (Vec X Global)) → length (rows vs) ≡ length vs
@@ -16,11 +16,10 @@ row_read {X} vs i v l is = ap (λ (x : Vec X Global). x.items) is ∙ sym (get_o
 pub round_read : (vs : List (Vec ℕ Global)) (i : ℕ) (v : Vec ℕ Global) → i < length vs → v ≡ get_or vs i v → v.items ≡ list_of (rows vs) (i + 1)
 round_read vs i v l is = row_read vs i v l is ∙ sym (list_at (rows vs) i)
 
--- one more list behind what is made of the lists before a round
-pub made_more : {X : Type 0} (f : List ℕ → List X) (lists : List (List ℕ)) (vs : List (Vec X Global)) (round : ℕ) (v : Vec X Global)
-    → 0 < round → round ≤ length lists →
-    rows vs ≡ map f (take (round - 1) lists) → v.items ≡ f (list_of lists round) → rows (vs ++ v ∷ []) ≡ map f (take (round + 1 - 1) lists)
-made_more {X} f lists vs round v some top before is =
+-- one more behind what is made of the lists before a round
+pub made_more : {X : Type 0} (f : List ℕ → X) (lists : List (List ℕ)) (made : List X) (round : ℕ) (x : X) → 0 < round → round ≤ length lists
+    → made ≡ map f (take (round - 1) lists) → x ≡ f (list_of lists round) → made ++ x ∷ [] ≡ map f (take (round + 1 - 1) lists)
+made_more f lists made round x some top before is =
     let here : round - 1 + 1 ≡ round + 1 - 1 = omega arith in
-    map_push (λ (u : Vec X Global). u.items) vs v ∙ ap (λ ys. ys ++ v.items ∷ []) before ∙ ap (λ y. map f (take (round - 1) lists) ++ y ∷ []) is
+    ap (λ ys. ys ++ x ∷ []) before ∙ ap (λ y. map f (take (round - 1) lists) ++ y ∷ []) is
     ∙ sym (map_more f lists (round - 1) [] (omega arith)) ∙ ap (λ k. map f (take k lists)) here

@@ -1,17 +1,16 @@
 -- One more number, and the sizes and first members of the classes.
 use Rattle.std.proofs.Common.{◌≡◌, ◌≢◌, ◌==◌, ◌+◌, ◌-◌, ◌<◌, ◌≤◌, ◌++◌, ℕ, Bool, true, false, cond, List, [], ◌∷◌, map, length, take, sym, ◌∙◌, ap, subst}
-use Rattle.std.proofs.Common.{get_or, set, arith, ⊎_elim, count_by, refl, true≢false, below_more, Vec, Global}
+use Rattle.std.proofs.Common.{get_or, set, arith, ⊎_elim, count_by, refl, true≢false, below_more}
 use Rattle.std.proofs.lemmas.Bool.{cases_eq, cases_lt, ne_eqb, eq-eqb, eqb-true, cond-true, cond-false}
-use Rattle.std.proofs.lemmas.List.{same_lists, get_or-take, take-take, length-take-le, get_or-set_same, get_or-set_other, length-set, take_more, length-map}
+use Rattle.std.proofs.lemmas.List.{same_lists, get_or-take, take-take, length-take-le, get_or-set_same, get_or-set_other, length-set, take_more}
 use Rattle.std.proofs.lemmas.List.{get_or-map}
 use Rattle.std.proofs.lemmas.List.FromFn.{length-map-range_with_len, get_or-map-range_with_len, map-range_with_len_more}
 use Rattle.std.proofs.lemmas.List.Folds.{position_or_len_push}
 use Rattle.std.proofs.lemmas.List.Sums.{position_or_len_is, fails_before_first, sum_by_push, sum_by-cons, count_by-le-length, passes_at_first}
 use Rattle.std.specs.List.{range_with_len, position_or_len}
-use Rattle.gs_model.specs.{Numbering.{greatest, IsNumbered}, Classes.{ClassLists, list_of}, Rows.{rows}}
+use Rattle.gs_model.specs.{Numbering.{greatest, IsNumbered}, Classes.{ClassLists, list_of}}
 use Rattle.gs_model.proofs.{Numbered.{greatest_push, occurs, whole}, Push.{le_greatest}, Order.{counts_none}}
 use Rattle.gs_filter.specs.{declared.tally.Tally.{Tally}, Tallies.{tally_of, tallies_of, IsNextNumber}}
-use Rattle.gs_filter.proofs.RowLaws.{row_read, length-rows}
 
 -- the numbers before a place are numbered
 pub numbered_before : (list : List ℕ) (at : ℕ) → at ≤ length list → ((k : ℕ) → k < at → IsNextNumber list k) → IsNumbered (take at list)
@@ -214,10 +213,7 @@ pub first_member_of : (list : List ℕ) (class : ℕ) → IsNumbered list → 0 
 first_member_of list class h low high = eqb-true _ class (passes_at_first (λ x. x == class) list 0 (first_in list class h low high))
 
 -- the tallies of a round
-pub round_tallies : (lists : ClassLists) (tallies : List (Vec Tally Global)) → rows tallies ≡ map tallies_of lists → (round : ℕ) (v : Vec Tally Global)
-    → 0 < round → round ≤ length lists → v ≡ get_or tallies (round - 1) v
-    → v.items ≡ tallies_of (list_of lists round)
-round_tallies lists tallies tallied round v some top is =
-    let n : length tallies ≡ length lists = sym (length-rows tallies) ∙ ap length tallied ∙ length-map lists tallies_of in
-    row_read tallies (round - 1) v (omega arith) is ∙ ap (λ (l : List (List Tally)). get_or l (round - 1) []) tallied
-    ∙ get_or-map tallies_of lists (round - 1) [] [] (omega arith)
+pub round_tallies : (lists : ClassLists) (tallies : List (List Tally)) → tallies ≡ map tallies_of lists → (round : ℕ) (ts : List Tally)
+    → 0 < round → round ≤ length lists → ts ≡ get_or tallies (round - 1) ts → ts ≡ tallies_of (list_of lists round)
+round_tallies lists tallies tallied round ts some top is =
+    is ∙ ap (λ (l : List (List Tally)). get_or l (round - 1) ts) tallied ∙ get_or-map tallies_of lists (round - 1) [] ts (omega arith)

@@ -3,3 +3,4 @@ pub mod Tallies
 pub mod Faults
 pub mod FaultText
 pub mod Laws
+pub mod Members

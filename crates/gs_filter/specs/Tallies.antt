@@ -11,6 +11,10 @@ tally_of list class = record { size = count_by (λ x. x == class) list; first = 
 abbrev pub tallies_of : List ℕ → List Tally
 tallies_of list = map (tally_of list) (range_with_len 1 (greatest list))
 
+-- the tallies of `n` classes that have one member each, in the order of their members
+abbrev pub single_tallies : ℕ → List Tally
+single_tallies n = map (λ at. record { size = 1; first = at }) (range_with_len 0 n)
+
 -- the number at a place is at least 1, and at most one above the greatest before it
 abbrev pub IsNextNumber : List ℕ → ℕ → Type 0
 IsNextNumber list at = (0 < get_or list at 0) × (get_or list at 0 ≤ 1 + greatest (take at list))

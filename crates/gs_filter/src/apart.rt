@@ -7,20 +7,20 @@ ghost use Rattle.gs_filter.specs.Faults.{Agree, AllNumbered, AllTogether, AreTog
 
 use crate::fault::ClassFault;
 use crate::rows::of_round;
-use crate::tally::Tally;
+use crate::tallies::Tallies;
 
 /// Returns the first pair of signals of one class whose parents are in different classes: the first member of the class, then the other signal.
 fn first_apart_in(
     parents: &[u32],
     above: &[u32],
     list: &[u32],
-    tallies: &[Tally],
+    tallies: &Tallies,
 ) -> Option<(u32, u32)>
     requires { AreReady parents.now above.now list.now tallies.now }
     ensures { MatchOption result (AreTogether parents.now above.now list.now) (λ pair. AreFirstApartIn parents.now above.now list.now pair.0 pair.1) }
 {
     for (at, class) in list.iter().enumerate() {
-        let first = tallies[*class as usize - 1].first;
+        let first = tallies.at(*class as usize - 1).first;
         let wanted = above[parents[first as usize] as usize];
         if above[parents[at] as usize] != wanted {
             return Some((first, at as u32));
@@ -33,12 +33,12 @@ fn first_apart_in(
 pub(crate) fn first_apart(
     parents: &[Vec<u32>],
     lists: &[Vec<u32>],
-    tallies: &[Vec<Tally>],
+    tallies: &[Tallies],
 ) -> Option<ClassFault>
     requires parents { AreParents (rows parents.now) }
     requires agree { Agree (rows parents.now) (rows lists.now) }
     requires numbered { AllNumbered (rows lists.now) }
-    requires tallied { rows tallies.now ≡ map tallies_of (rows lists.now) }
+    requires tallied { tallies.now ≡ map tallies_of (rows lists.now) }
     ensures { MatchOption result (AllTogether (rows parents.now) (rows lists.now)) (IsApart (rows parents.now) (rows lists.now)) }
 {
     for round in 2..lists.len() as u32 + 1 {

@@ -7,7 +7,8 @@ ghost use Rattle.gs_filter.specs.Filter.{AreParents, IsParentClass, single_class
 use crate::apart::first_apart;
 use crate::fault::ClassFault;
 use crate::rows::{copy_of, counted, first_length, of_round};
-use crate::tally::{Tally, tally_lists};
+use crate::tallies::{Tallies, tally_lists};
+use crate::tally::Tally;
 use std::alloc::{AllocError, Global};
 use std::marker::Model;
 
@@ -19,7 +20,7 @@ use std::marker::Model;
 pub struct Classes {
     parents: Vec<Vec<u32>>,
     lists: Vec<Vec<u32>>,
-    tallies: Vec<Vec<Tally>>,
+    tallies: Vec<Tallies>,
     ghost are_parents: { AreParents (rows parents.items) },
     ghost are_classes: { IsClasses (rows parents.items) (rows lists.items) },
 }
@@ -35,7 +36,7 @@ impl Model for Classes {
 
     ghost view = { λ c. record { parents = rows c.parents.items; lists = rows c.lists.items; forest = c.are_parents; classes = c.are_classes } };
 
-    ghost invariant = { λ c. rows c.tallies.items ≡ map tallies_of (rows c.lists.items) };
+    ghost invariant = { λ c. c.tallies.items ≡ map tallies_of (rows c.lists.items) };
 }
 
 impl Classes {
@@ -177,7 +178,7 @@ impl Classes {
         requires class { IsClass self.now.lists round class }
         ensures { result ≡ tally_of (list_of self.now.lists round) class }
     {
-        self.tallies[round as usize - 1][class as usize - 1]
+        self.tallies[round as usize - 1].at(class as usize - 1)
     }
 
     /// Returns for each round the class of each signal.

@@ -5,9 +5,12 @@ mod apart;
 mod classes;
 mod fault;
 mod laws;
+mod members;
 mod rows;
+mod tallies;
 mod tally;
 
 pub use classes::Classes;
 pub use fault::ClassFault;
 pub use laws::classes_have_no_fault;
+pub use members::next_members;

@@ -1,11 +1,9 @@
 //! Sizes and first members of the classes of a list.
 
-ghost use Rattle.std.specs.Prelude.{◌≡◌, ◌<◌, ◌≤◌, ◌^◌, length, map, IfOk, OnOk, IfErr};
-ghost use Rattle.gs_model.specs.{Rows.{rows}, Numbering.{IsNumbered}};
-ghost use Rattle.gs_filter.specs.{Tallies.{tallies_of, IsStopOf}, Filter.{AreShort}, Faults.{AllNumbered, IsUnseen}};
+ghost use Rattle.std.specs.Prelude.{◌≡◌, ◌<◌, ◌^◌, length, IfOk, OnOk, IfErr};
+ghost use Rattle.gs_model.specs.Numbering.{IsNumbered};
+ghost use Rattle.gs_filter.specs.Tallies.{tallies_of, IsStopOf};
 
-use crate::fault::ClassFault;
-use crate::rows::of_round;
 use std::alloc::{AllocFailed, Global};
 
 /// The size and the first member of a class.
@@ -35,7 +33,7 @@ impl<T: Drop> From<AllocFailed<T>> for Stop {
 }
 
 /// Returns the tally of each class of a list. Errors: the first place whose number is invalid, or `Memory` if memory runs out.
-pub(crate) fn tally_list(alloc: Global, list: &[u32]) -> Result<Vec<Tally>, Stop>
+pub(crate) fn count_members(alloc: Global, list: &[u32]) -> Result<Vec<Tally>, Stop>
     requires { length list.now < 2 ^ 32 }
     ensures tallied { IfOk result (λ tallies. tallies.items ≡ tallies_of list.now) }
     ensures numbered { OnOk result (IsNumbered list.now) }
@@ -55,25 +53,6 @@ pub(crate) fn tally_list(alloc: Global, list: &[u32]) -> Result<Vec<Tally>, Stop
             })?;
         } else {
             tallies[class - 1].size += 1;
-        }
-    }
-    Ok(tallies)
-}
-
-/// Returns the tallies of each list. Errors: the first invalid number, by round and place, or `Memory` if memory runs out.
-pub(crate) fn tally_lists(alloc: Global, lists: &[Vec<u32>]) -> Result<Vec<Vec<Tally>>, ClassFault>
-    requires few { length lists.now ≤ 4 }
-    requires short { AreShort (rows lists.now) }
-    ensures tallied { IfOk result (λ tallies. rows tallies.items ≡ map tallies_of (rows lists.now)) }
-    ensures numbered { OnOk result (AllNumbered (rows lists.now)) }
-    ensures unseen { IfErr result (IsUnseen (rows lists.now)) }
-{
-    let mut tallies = Vec::new(alloc);
-    for round in 1..lists.len() as u32 + 1 {
-        match tally_list(alloc, of_round(lists, round)) {
-            Ok(list) => tallies.push(list)?,
-            Err(Stop::Unseen(at)) => return Err(ClassFault::NotFirstSeen { round, at }),
-            Err(Stop::Memory) => return Err(ClassFault::Memory),
         }
     }
     Ok(tallies)

@@ -7,9 +7,9 @@ pub first_apart_in-apart-requires : goal.first_apart_in-apart-requires
 first_apart_in-apart-requires c =
     ready_at (rows c.args.parents.now) (rows c.args.lists.now) c.args.tallies.now c.requires.parents c.requires.agree c.requires.numbered c.requires.tallied
     c.loop-round.round c.of_round.result.now
-    c.of_round-in-loop-round.result.now c.of_round-in-loop-round-2.result.now c.deref.result.now c.index-tallies-round.result (omega arith)
+    c.of_round-in-loop-round.result.now c.of_round-in-loop-round-2.result.now c.index-tallies-round.result (omega arith)
     (omega (arith, length-rows c.args.lists.now)) c.of_round.ensures c.of_round-in-loop-round.ensures
-    c.of_round-in-loop-round-2.ensures c.index-tallies-round.is c.deref.ensures.value
+    c.of_round-in-loop-round-2.ensures c.index-tallies-round.is
 
 pub returns : goal.returns
 returns c = λ r some top. c.loop-round.invariant r some (omega (arith, length-rows c.args.lists.now))

@@ -1,5 +1,5 @@
 use Rattle.std.proofs.Common.{◌≡◌, length, map, ◌∙◌, ap, subst, arith}
-use Rattle.gs_model.specs.{Classes.{list_of, class_count}, Rows.{rows}}
+use Rattle.gs_model.specs.Classes.{list_of, class_count}
 use Rattle.gs_filter.specs.{Filter.{Filter}, Tallies.{tallies_of}}
 use Rattle.gs_filter.proofs.{TallyLaws.{round_tallies, length-tallies_of}, ClassLaws.{count_fits}}
 use Rattle.gs_filter.proofs.classes.Classes.classes.Goals as goal
@@ -7,10 +7,10 @@ use Rattle.gs_filter.proofs.classes.Classes.classes.Goals as goal
 module _ (c : goal.After-len) where
   count : c.len.result ≡ class_count c.args.self.now.lists c.args.round
   count =
-      let tallied = subst (λ (f : Filter). rows c.self.inside.tallies.items ≡ map tallies_of f.lists) c.self.view_is c.self.invariant in
+      let tallied = subst (λ (f : Filter). c.self.inside.tallies.items ≡ map tallies_of f.lists) c.self.view_is c.self.invariant in
       let e = round_tallies c.args.self.now.lists c.self.inside.tallies.items tallied c.args.round c.index.result.now c.requires.some c.requires.top
       c.index.ensures in
-      c.len.ensures ∙ c.index.result.now.ok.0 ∙ ap length e ∙ length-tallies_of (list_of c.args.self.now.lists c.args.round)
+      c.len.ensures ∙ ap length e ∙ length-tallies_of (list_of c.args.self.now.lists c.args.round)
 
 pub overflow_cast-result : goal.overflow_cast-result
 overflow_cast-result c =

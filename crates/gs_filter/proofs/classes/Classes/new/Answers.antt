@@ -1,6 +1,6 @@
-use Rattle.std.proofs.Common.{◌≡◌, ℕ, List, map, subst, sym, Vec, Global}
+use Rattle.std.proofs.Common.{ℕ, List, subst, sym, Vec, Global}
 use Rattle.gs_model.specs.{Classes.{IsClasses}, Rows.{rows}}
-use Rattle.gs_filter.specs.{Filter.{AreParents}, Tallies.{tallies_of}, Faults.{Agree, AllNumbered, AllTogether}}
+use Rattle.gs_filter.specs.{Filter.{AreParents}, Faults.{Agree, AllNumbered, AllTogether}}
 use Rattle.gs_filter.proofs.ApartLaws.{classes_from}
 use Rattle.gs_filter.proofs.classes.Classes.new.Goals as goal
 

@@ -2,9 +2,9 @@ use Rattle.std.proofs.Common.{◌≡◌, length, arith, take, ap, ◌∙◌, Vec
 use Rattle.gs_model.specs.Numbering.{greatest}
 use Rattle.gs_filter.specs.declared.tally.Tally.{Tally}
 use Rattle.gs_filter.proofs.TallyLaws.{length-tallies_of, turn_new, turn_old, size_fits, counted_more}
-use Rattle.gs_filter.proofs.tally.tally_list.Goals.{then-class-eq0-via-then-class-eq0, then-class-eq0-via-else-class-eq0+then-class-seen}
-use Rattle.gs_filter.proofs.tally.tally_list.Goals.{then-class-seen-2+in_ok-push, else-class-seen-2}
-use Rattle.gs_filter.proofs.tally.tally_list.Goals as goal
+use Rattle.gs_filter.proofs.tally.count_members.Goals.{then-class-eq0-via-then-class-eq0, then-class-eq0-via-else-class-eq0+then-class-seen}
+use Rattle.gs_filter.proofs.tally.count_members.Goals.{then-class-seen-2+in_ok-push, else-class-seen-2}
+use Rattle.gs_filter.proofs.tally.count_members.Goals as goal
 
 pub returns-then-class-eq0-clause-unseen : goal.returns-then-class-eq0-clause-unseen
 returns-then-class-eq0-clause-unseen c =

@@ -1,6 +1,6 @@
 use Rattle.std.proofs.Common.{◌≡◌, ◌<◌, ℕ, take}
 use Rattle.gs_filter.specs.Tallies.{tallies_of, IsNextNumber}
-use Rattle.gs_filter.proofs.tally.tally_list.Given as goal
+use Rattle.gs_filter.proofs.tally.count_members.Given as goal
 
 abbrev pub invariant-loop-at : goal.invariant-loop-at
 invariant-loop-at l = record {

@@ -2,16 +2,16 @@ use Rattle.std.proofs.{Common.{◌≡◌, ◌≤◌, length, ◌∙◌, ap, arit
 use Rattle.gs_model.specs.{Numbering.{IsNumbered}, Classes.{list_of}, Rows.{rows}}
 use Rattle.gs_filter.specs.Tallies.{tallies_of}
 use Rattle.gs_filter.proofs.RowLaws.{length-rows, made_more}
-use Rattle.gs_filter.proofs.tally.tally_lists.Goals as goal
+use Rattle.gs_filter.proofs.tallies.tally_lists.Goals as goal
 
 pub loop-round-preserved : goal.loop-round-preserved
 loop-round-preserved c =
     let top : c.loop-round.round ≤ length (rows c.args.lists.now) = omega (arith, length-rows c.args.lists.now) in
-    let made : c.in-Ok.list.items ≡ tallies_of (list_of (rows c.args.lists.now) c.loop-round.round) = c.in-Ok.ensures.tallied
+    let made : c.in-Ok.list ≡ tallies_of (list_of (rows c.args.lists.now) c.loop-round.round) = c.in-Ok.ensures.tallied
     ∙ ap tallies_of c.of_round.ensures in
     record {
       tallied =
-          ap rows c.in_ok-push-in-Ok.ensures.items
+          c.in_ok-push-in-Ok.ensures.items
           ∙ made_more tallies_of (rows c.args.lists.now) c.loop-round.tallies.items c.loop-round.round c.in-Ok.list
           (omega arith) top c.loop-round.invariant.tallied made;
       numbered = λ r some below. ⊎_elim
