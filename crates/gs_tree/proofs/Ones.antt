@@ -1,13 +1,22 @@
--- Ones ahead of a list: each number is 1 exactly where each of the list is.
-use Rattle.std.proofs.Common.{◌≡◌, ◌++◌, EachIndex, List, arith, refl, replicate, slice_index, suc, zero, ℕ}
+-- A list of ones and two lists behind it: each number is 1 exactly where each of both lists is.
+use Rattle.std.proofs.Common.{◌≡◌, ◌++◌, ◌∷◌, [], EachIndex, List, arith, refl, replicate, slice_index, suc, zero, ℕ}
 
-pub ones_ahead : (n : ℕ) (ns : List ℕ) → EachIndex ns (λ i. slice_index ns i ≡ 1)
-    → EachIndex (replicate n 1 ++ ns) (λ i. slice_index (replicate n 1 ++ ns) i ≡ 1)
-ones_ahead zero ns h i l = h i l
-ones_ahead (suc n) ns h zero l = refl
-ones_ahead (suc n) ns h (suc i) l = ones_ahead n ns h i (omega (arith, l))
+pub ones_joined : (ms ns : List ℕ) → EachIndex ms (λ i. slice_index ms i ≡ 1) → EachIndex ns (λ i. slice_index ns i ≡ 1)
+    → EachIndex (ms ++ ns) (λ i. slice_index (ms ++ ns) i ≡ 1)
+ones_joined [] ns g h i l = h i l
+ones_joined (m ∷ ms) ns g h zero l = g 0 (omega arith)
+ones_joined (m ∷ ms) ns g h (suc i) l = ones_joined ms ns (λ k b. g (suc k) (omega (arith, b))) h i (omega (arith, l))
 
-pub ones_behind : (n : ℕ) (ns : List ℕ) → EachIndex (replicate n 1 ++ ns) (λ i. slice_index (replicate n 1 ++ ns) i ≡ 1)
-    → EachIndex ns (λ i. slice_index ns i ≡ 1)
-ones_behind zero ns h = h
-ones_behind (suc n) ns h = ones_behind n ns (λ i l. h (suc i) (omega (arith, l)))
+pub ones_ahead : (ms ns : List ℕ) → EachIndex (ms ++ ns) (λ i. slice_index (ms ++ ns) i ≡ 1) → EachIndex ms (λ i. slice_index ms i ≡ 1)
+ones_ahead [] ns h i l = absurd (omega (arith, l))
+ones_ahead (m ∷ ms) ns h zero l = h 0 (omega arith)
+ones_ahead (m ∷ ms) ns h (suc i) l = ones_ahead ms ns (λ k b. h (suc k) (omega (arith, b))) i (omega (arith, l))
+
+pub ones_behind : (ms ns : List ℕ) → EachIndex (ms ++ ns) (λ i. slice_index (ms ++ ns) i ≡ 1) → EachIndex ns (λ i. slice_index ns i ≡ 1)
+ones_behind [] ns h i l = h i l
+ones_behind (m ∷ ms) ns h i l = ones_behind ms ns (λ k b. h (suc k) (omega (arith, b))) i l
+
+pub are_replicated : (n : ℕ) → EachIndex {X = ℕ} (replicate n 1) (λ i. slice_index (replicate n 1) i ≡ 1)
+are_replicated zero i l = absurd (omega (arith, l))
+are_replicated (suc n) zero l = refl
+are_replicated (suc n) (suc i) l = are_replicated n i (omega (arith, l))

@@ -1,11 +1,11 @@
 //! The own cards of last-round signals as bits.
 
-ghost use Rattle.std.specs.Prelude.{◌≡◌, ◌<◌, ◌==◌, ℕ, All, IfOk, IfSome, count_by, if◌then◌else◌, min};
+ghost use Rattle.std.specs.Prelude.{◌≡◌, ◌<◌, ◌==◌, ℕ, All, IfOk, MatchOption, count_by, if◌then◌else◌, min};
 ghost use Rattle.std.specs.Int.{bit_at};
 ghost use Rattle.std.specs.Int.RustNames.{bit_and};
 ghost use Rattle.gs_game.specs.{Games.{game_of}, Limits.{IsWithinLimits}};
 ghost use Rattle.gs_model.specs.Game.{round_count};
-ghost use Rattle.gs_tree.specs.{Kept.{AreKeptCards}, Masks.{AreMasks}};
+ghost use Rattle.gs_tree.specs.{Kept.{AreKeptCards}, Masks.{AreMasks, HasMasks}, Walk.{last_count}};
 
 use crate::kept::{Hands, part};
 use gs_card::Card;
@@ -34,10 +34,11 @@ pub(crate) fn masks_of(
     requires hands { AreKeptCards (game_of game.now) (round_count (game_of game.now)) hands.now.paths hands.now.owns.items hands.now.publics.items hands.now.own
         hands.now.public }
     requires limits { IsWithinLimits (game_of game.now) }
-    ensures { IfOk result (λ m. IfSome m (λ v. AreMasks (game_of game.now) v.items)) }
+    ensures { IfOk result (λ m. MatchOption m (HasMasks (game_of game.now) → last_count (game_of game.now) ≡ 0)
+        (λ v. AreMasks (game_of game.now) v.items)) }
 {
     let copies = game.deck.counts();
-    if hands.own == 1 || !are_single(copies) {
+    if hands.own <= 1 || !are_single(copies) {
         return Ok(None);
     }
     let count = hands.paths.len() as u32;

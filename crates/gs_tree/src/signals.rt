@@ -1,12 +1,12 @@
 //! The raw signals of a game, round by round.
 
-ghost use Rattle.std.specs.{Prelude.{◌≡◌, ◌==◌, if◌then◌else◌, All, IfOk, IfSome, IsTrue, MatchBool, map, length}, List.{range_with_len}};
+ghost use Rattle.std.specs.{Prelude.{◌≡◌, ◌==◌, if◌then◌else◌, All, IfOk, IsTrue, MatchBool, MatchOption, map, length}, List.{range_with_len}};
 ghost use Rattle.std.proofs.Props.{props};
 ghost use Rattle.gs_model.specs.{Game.{round_count}, Signals.{parents as parents_in, signals}, ViewTree.{signal_strength}};
 ghost use Rattle.gs_card.specs.Rankings.{ranking_of};
 ghost use Rattle.gs_rank.specs.Hands.{IsStrength};
 ghost use Rattle.gs_game.specs.Games.{game_of};
-ghost use Rattle.gs_tree.specs.{Boards.{AreBoards}, Kept.{AreKeptCards}, Masks.{AreMasks}, Plain.{IsPlain}, Tables.{AreTables}, Walk.{last_count}};
+ghost use Rattle.gs_tree.specs.{Boards.{AreBoards}, Kept.{AreKeptCards}, Masks.{AreMasks, HasMasks}, Plain.{IsPlain}, Tables.{AreTables}, Walk.{last_count}};
 
 use crate::boards::{Boards, link_boards};
 use crate::deal::Deal;
@@ -52,7 +52,8 @@ pub struct Signals<'g> {
     ghost dealt: { AreKeptCards (game_of game.now.game) (round_count (game_of game.now.game)) hands.paths hands.owns.items hands.publics.items hands.own
         hands.public },
     ghost strong: { All (IsStrength (ranking_of game.now.game.ranking)) strengths.items },
-    ghost masked: { IfSome masks (λ v. AreMasks (game_of game.now.game) v.items) } by { Prim.hlevel props },
+    ghost masked: { MatchOption masks (HasMasks (game_of game.now.game) → last_count (game_of game.now.game) ≡ 0)
+        (λ v. AreMasks (game_of game.now.game) v.items) } by { Prim.hlevel props },
     ghost even: { IsTrue plain → IsPlain (game_of game.now.game) },
     ghost counted: { length tables.layers.items ≡ round_count (game_of game.now.game) },
 }
@@ -66,14 +67,14 @@ pub fn parents_of(alloc: Global, game: &ValidGame) -> Result<Vec<Vec<u32>>, Allo
 }
 
 impl<'g> Signals<'g> {
-    ghost use Rattle.std.specs.Prelude.{◌≡◌, ◌≤◌, ◌<◌, ◌+◌, ◌-◌, ◌++◌, ◌*◌, ◌==◌, ◌↔◌, ℕ, true, EachIndex, IfOk, IfSome, IsTrue, OnOk};
+    ghost use Rattle.std.specs.Prelude.{◌≡◌, ◌≤◌, ◌<◌, ◌+◌, ◌-◌, ◌++◌, ◌*◌, ◌==◌, ◌↔◌, ℕ, true, EachIndex, IfOk, IfSome, IsTrue, MatchOption, OnOk};
     ghost use Rattle.std.specs.Prelude.{slice_index, filter, map, length, string_bytes};
     ghost use Rattle.std.specs.List.{range_with_len};
     ghost use Rattle.gs_model.specs.Game.{round_count};
     ghost use Rattle.gs_model.specs.Signals.{signals, parents as parents_in, signal_at, child_count, first_child, last_edge, left_by, own_cards, public_cards};
     ghost use Rattle.gs_model.specs.{ViewTree.{signal_strength}, Deals.{Deal as Dealt, deals, own_ways, path_weight}};
-    ghost use Rattle.gs_tree.specs.{Boards.{AreBoards}, Masks.{AreMasks}, Trees.{rules_of, deck_of}, Walk.{deal_at, last_count, shows_same, IsNextPair, IsRowStart}};
-    ghost use Rattle.gs_tree.specs.Texts.{signal_text};
+    ghost use Rattle.gs_tree.specs.{Boards.{AreBoards}, Masks.{AreMasks, HasMasks}, Texts.{signal_text}, Trees.{rules_of, deck_of}};
+    ghost use Rattle.gs_tree.specs.Walk.{deal_at, last_count, shows_same, IsNextPair, IsRowStart};
     ghost use Rattle.gs_card.specs.Decks.{IsDeck};
 
     /// Returns the signals of a valid game. Fails only if memory runs out.
@@ -219,7 +220,8 @@ impl<'g> Signals<'g> {
 
     /// Returns the own cards of each last-round signal as bits, if no kind of card has more than one copy and each player is dealt more than one private card.
     pub fn masks(&self) -> Option<&[u64]>
-        ensures { IfSome result (λ masks. AreMasks (rules_of self.now) masks.now) }
+        ensures { MatchOption result (HasMasks (rules_of self.now) → last_count (rules_of self.now) ≡ 0)
+            (λ masks. AreMasks (rules_of self.now) masks.now) }
     {
         match &self.masks {
             Some(masks) => Some(masks.as_slice()),

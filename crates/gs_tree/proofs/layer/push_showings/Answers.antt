@@ -63,3 +63,6 @@ push_publics-requires-in-loop-own-clause-few_copies c = grind (arith, common_ste
 
 pub of-requires : goal.of-requires
 of-requires c = grind (arith, common_steps)
+
+pub few_ways-own_ways-requires-clause-few_copies : goal.few_ways-own_ways-requires-clause-few_copies
+few_ways-own_ways-requires-clause-few_copies c = grind arith

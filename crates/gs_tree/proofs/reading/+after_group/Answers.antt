@@ -1,5 +1,5 @@
 use Rattle.std.proofs.Common.{arith}
-use Rattle.std.proofs.lemmas.Grind.{common_steps}
+use Rattle.std.proofs.lemmas.Grind.{common_steps, elements}
 use Rattle.gs_tree.proofs.reading.+after_group.Goals as goal
 
 pub returns-in-empty : goal.returns-in-empty
@@ -7,3 +7,6 @@ returns-in-empty t c = grind (arith, common_steps)
 
 pub returns-in_ok-rest-in-len1-up : goal.returns-in_ok-rest-in-len1-up
 returns-in_ok-rest-in-len1-up t c = grind (arith, common_steps)
+
+pub after_group-requires : goal.after_group-requires
+after_group-requires t c = grind (arith, elements)

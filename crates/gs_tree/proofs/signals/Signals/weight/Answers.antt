@@ -1,7 +1,7 @@
 use Rattle.std.proofs.{Common.{◌≡◌, ◌*◌, ℕ, List, true, get_or, sym, ap, ◌∙◌, arith, cond, subst}, lemmas.Grind.{get_or_default_zero}}
-use Rattle.std.specs.{Global.{Vec}, Int.{bit_at}, Prelude.{IfSome}}
+use Rattle.std.specs.{Global.{Vec}, Int.{bit_at}, Prelude.{MatchOption}}
 use Rattle.gs_model.specs.{Deals.{path_weight, own_ways, same_public}, Game.{Game, round_count}, Signals.{signal_at, left_by}}
-use Rattle.gs_tree.specs.{Masks.{AreMasks}, Trees.{rules_of}, Walk.{deal_at}}
+use Rattle.gs_tree.specs.{Masks.{AreMasks, HasMasks}, Trees.{rules_of}, Walk.{deal_at, last_count}}
 use Rattle.gs_tree.proofs.{Weighed.{mask_weight_is, pair_weight_is}, Weights.{deal_small}}
 use Rattle.gs_tree.proofs.signals.Signals.weight.Goals as goal
 
@@ -28,7 +28,7 @@ returns-in-Some c =
     let z = c.args.self.now in
     let g : Game = rules_of z in
     let masks : List ℕ = c.in-Some.masks.items in
-    let h : AreMasks g masks = subst (λ m. IfSome m (λ (v : Vec ℕ). AreMasks g v.items)) c.in-Some.is z.masked in
+    let h : AreMasks g masks = subst (λ m. MatchOption m (HasMasks g → last_count g ≡ 0) (λ (v : Vec ℕ). AreMasks g v.items)) c.in-Some.is z.masked in
     let one : c.index.result.now ≡ get_or masks c.args.one 0 = c.index.ensures
     ∙ get_or_default_zero masks c.args.one c.index.result.now (omega (arith, h.long, c.requires.one_in)) in
     let two : c.index-in-Some.result.now ≡ get_or masks c.args.two 0 = c.index-in-Some.ensures
