@@ -1,17 +1,18 @@
 -- The steps of the scans, and what their answers make of classes.
-use Rattle.std.proofs.Common.{◌≡◌, ◌≢◌, ℕ, ◌+◌, ◌-◌, ◌<◌, ◌≤◌, false, List, length, get_or, set, refl, sym, ap, ◌∙◌, subst, arith, ⊎_elim, true≢false, Option}
-use Rattle.std.proofs.Common.{Some, None, Vec, Global}
-use Rattle.std.proofs.{lemmas.Bool.{cases_eq, cases_lt}, lemmas.List.{get_or-set_other, get_or-set_same}}
+use Rattle.std.proofs.Common.{◌≡◌, ◌≢◌, ℕ, ◌+◌, ◌-◌, ◌<◌, ◌≤◌, false, List, length, get_or, set, refl, sym, ap, ◌∙◌, subst, arith, ⊎_elim, inl, inr}
+use Rattle.std.proofs.Common.{true≢false, Option, Some, None, Vec, Global}
+use Rattle.std.proofs.{lemmas.Bool.{cases_eq, cases_lt}, lemmas.List.{get_or-set_other, get_or-set_same, length-set}}
 use Rattle.std.specs.{Option.{option_or}, Prelude.{is_some, unwrap_or}}
 use Rattle.gs_filter.specs.Filter.{Filter, single_classes}
-use Rattle.gs_filter.proofs.{ClassLaws.{single_are_classes}, TallyLaws.{first_member_of}}
-use Rattle.gs_model.specs.{Classes.{ClassLists, class_count, class_of, class_size, first_member, list_of}, Frame.{Frame, frame_of, last_round, signal_count}}
-use Rattle.gs_model.specs.{Game.{Game, round_count}, Lossless.{Alike, IsFirstUnlike, IsLossless}, Numbering.{IsNumbered}, Signals.{signals}}
+use Rattle.gs_filter.proofs.ClassLaws.{single_are_classes}
+use Rattle.gs_model.specs.{Classes.{ClassLists, class_of, first_member, list_of}, Frame.{Frame, frame_of, last_round, signal_count}}
+use Rattle.gs_model.specs.{Game.{Game, round_count}, Lossless.{Alike, IsFirstUnlike, IsLossless}, Signals.{signals}}
 use Rattle.gs_model.proofs.{Ranges.{signal_count_is}, Walked.{last_round_of}}
-use Rattle.gs_lossless.specs.{Amounts.{HaveEqualAmounts, AgreesWithFirst, AreAmounts, AreSideFirsts, HasSide}, Scans.{AgreeBelow, IsFirstApart, StoredBelow}}
-use Rattle.gs_lossless.specs.{Stops.{AreAlikeBelow, IsChildrenApart, MatchUnlike}, declared.parts.Part.{Part}, declared.sides.Side.{Side}}
+use Rattle.gs_lossless.specs.Amounts.{HaveEqualAmounts, AgreesWithFirst, AreAmounts, AreSideFirsts, HasSide}
+use Rattle.gs_lossless.specs.{Scans.{AgreeBelow, AreFirstsKept, IsFirstApart, IsFirstKept}, Stops.{AreAlikeBelow, IsChildrenApart, MatchUnlike}}
+use Rattle.gs_lossless.specs.{declared.parts.Part.{Part}, declared.sides.Side.{Side}}
 use Rattle.gs_lossless.specs.declared.sides.Side.TheVariants.{Deals, Children}
-use Rattle.gs_lossless.proofs.{Descent.{list_long}, Settled.{agree_children, agree_deals, alike_from, first_le, not_lossless, over, singles}}
+use Rattle.gs_lossless.proofs.{Descent.{list_long}, Settled.{agree_children, agree_deals, alike_from, not_lossless, over, singles}}
 
 pub side_in : (f : Frame) (side : Side) (round : ℕ) → HasSide f side round → (0 < round) × (round ≤ last_round f)
 side_in f Deals round h = h
@@ -31,62 +32,34 @@ side_classes g l e side round h = list_long g l e round (side_in (frame_of g) si
 
 -- ---- sums that are kept
 
--- a class whose first member is a signal is that signal's
-class_is : (lists : ClassLists) (round signal k : ℕ) → IsNumbered (list_of lists round) → 0 < k → k ≤ class_count lists round
-    → first_member lists round k ≡ signal → k ≡ class_of lists round signal
-class_is lists round signal k n a b e = sym (first_member_of (list_of lists round) k n a b) ∙ ap (class_of lists round) e
+module _ (f : Frame) (lists : ClassLists) (side : Side) (round class : ℕ) (kept : List (Vec Part Global)) (sums : Vec Part Global) (some : 0 < class)
+    (l : class ≤ length kept) (here : AreAmounts f lists side round (first_member lists round class) sums.items) where
+  -- the sums that were put in are kept
+  pub kept_here : IsFirstKept f lists side round class (set kept (class - 1) sums)
+  kept_here d = subst (λ (v : Vec Part Global). AreAmounts f lists side round (first_member lists round class) v.items)
+      (sym (get_or-set_same kept (class - 1) sums d (omega (arith, some, l)))) here
 
-module _ (f : Frame) (lists : ClassLists) (side : Side) (round signal : ℕ) (kept : List (Vec Part Global)) (n : IsNumbered (list_of lists round))
-    (h : StoredBelow f lists side round signal kept) where
-  stored_skip : ((k : ℕ) → 0 < k → k ≤ class_count lists round → first_member lists round k ≡ signal → class_size lists round k ≢ 1 → ⊥)
-      → StoredBelow f lists side round (signal + 1) kept
-  stored_skip bad = λ k d a b l m. ⊎_elim (λ under. h k d a b under m) (λ over. absurd (let e : first_member lists round k
-      ≡ signal = omega (arith, l, over) in bad k a b e m)) (cases_lt (first_member lists round k) signal)
-
-  -- past the one member of a class
-  pub stored_single : class_size lists round (class_of lists round signal) ≡ 1 → StoredBelow f lists side round (signal + 1) kept
-  stored_single one = stored_skip (λ k a b e m. m (ap (class_size lists round) (class_is lists round signal k n a b e) ∙ one))
-
-  -- past a later member of a class
-  pub stored_later : (first_member lists round (class_of lists round signal) ≡ signal → ⊥) → StoredBelow f lists side round (signal + 1) kept
-  stored_later later = stored_skip (λ k a b e m. later (ap (first_member lists round) (sym (class_is lists round signal k n a b e)) ∙ e))
-
-  -- past the first member, whose sums are kept
-  pub stored_first : (sums : Vec Part Global) → class_of lists round signal - 1 < length kept → 0 < class_of lists round signal
-      → first_member lists round (class_of lists round signal) ≡ signal
-      → AreAmounts f lists side round signal sums.items → StoredBelow f lists side round (signal + 1)
-      (set kept (class_of lists round signal - 1) sums)
-  stored_first sums l some first here = λ k d a b m many. ⊎_elim
-      (λ same.
-      let read : get_or (set kept (class_of lists round signal - 1) sums) (k - 1) d ≡ sums =
-      ap (λ j. get_or (set kept (class_of lists round signal - 1) sums) (j - 1) d) same
-      ∙ get_or-set_same kept (class_of lists round signal - 1) sums d l in
-      let own : first_member lists round k ≡ signal = ap (first_member lists round) same ∙ first in
-      subst (λ (v : Vec Part Global). AreAmounts f lists side round (first_member lists round k) v.items) (sym read)
-      (subst (λ x. AreAmounts f lists side round x sums.items) (sym own) here))
+  -- and so are all others
+  pub kept_more : AreFirstsKept f lists side round kept → AreFirstsKept f lists side round (set kept (class - 1) sums)
+  kept_more h k a b = ⊎_elim
+      (λ same. inr (subst (λ j. IsFirstKept f lists side round j (set kept (class - 1) sums)) (sym same) kept_here))
       (λ other.
-      let apart : k - 1 ≢ class_of lists round signal - 1 = λ e. other (omega (arith, e, a, some)) in
-      let read : get_or (set kept (class_of lists round signal - 1) sums) (k - 1) d ≡ get_or kept (k - 1) d =
-      get_or-set_other kept (class_of lists round signal - 1) (k - 1) sums d apart in
-      let under : first_member lists round k < signal = ⊎_elim (λ u. u) (λ o. absurd (let e : first_member lists round k ≡ signal = omega (arith, m, o) in
-      other (class_is lists round signal k n a b e))) (cases_lt (first_member lists round k) signal) in
-      subst (λ (v : Vec Part Global). AreAmounts f lists side round (first_member lists round k) v.items) (sym read) (h k d a b under many))
-      (cases_eq k (class_of lists round signal))
+      let apart : k - 1 ≢ class - 1 = λ e. other (omega (arith, e, a, some)) in
+      let read : (d : Vec Part Global) → get_or (set kept (class - 1) sums) (k - 1) d ≡ get_or kept (k - 1) d =
+      λ d. get_or-set_other kept (class - 1) (k - 1) sums d apart in
+      ⊎_elim (λ none. inl (λ d. ap (λ (v : Vec Part Global). v.items) (read d) ∙ none d))
+      (λ has. inr (λ d. subst (λ (v : Vec Part Global). AreAmounts f lists side round (first_member lists round k) v.items) (sym (read d)) (has d)))
+      (h k a (omega (arith, b, length-set kept (class - 1) sums))))
+      (cases_eq k class)
 
 pub agree_more : (f : Frame) (lists : ClassLists) (side : Side) (round signal : ℕ) → AgreeBelow f lists side round signal
     → AgreesWithFirst f lists side round signal → AgreeBelow f lists side round (signal + 1)
 agree_more f lists side round signal h here s l = ⊎_elim (λ under. h s under) (λ over. let e : signal ≡ s = omega (arith, l, over) in
     subst (AgreesWithFirst f lists side round) e here) (cases_lt s signal)
 
--- a signal that an earlier one stands for is not the first member of its class, and agrees with that one
+-- a signal that an earlier one stands for agrees with the first member of its class
 module _ (f : Frame) (lists : ClassLists) (side : Side) (round signal : ℕ) (firsts : List ℕ) (h : AreSideFirsts f lists side round firsts)
     (l : signal < length firsts) (under : get_or firsts signal 0 < signal) where
-  pub stood_later : first_member lists round (class_of lists round signal) ≡ signal → ⊥
-  stood_later e =
-      let le = first_le lists round (get_or firsts signal 0) in
-      let own = ap (first_member lists round) (h.class signal l) in
-      absurd (omega (arith, le, own, e, under))
-
   pub stood_agrees : AgreeBelow f lists side round signal → AgreesWithFirst f lists side round signal
   stood_agrees below = subst (λ (k : ℕ). HaveEqualAmounts f lists side round (first_member lists round k) signal) (h.class signal l)
       (λ c o. below (get_or firsts signal 0) under c o ∙ h.agree signal l c o)

@@ -1,6 +1,6 @@
 -- The first signal of a round that differs from the first member of its class.
-use Rattle.std.specs.{Prelude.{ℕ, ◌-◌, ◌<◌, ◌≤◌, ◌≡◌, ◌≢◌, List, Option, Some, None, Vec, get_or, length}, declared.alloc.Global.{Global}}
-use Rattle.gs_model.specs.{Classes.{ClassLists, class_count, class_of, class_size, first_member}, Frame.{Frame}}
+use Rattle.std.specs.{Prelude.{ℕ, ◌-◌, ◌<◌, ◌≤◌, ◌≡◌, ◌⊎◌, List, [], Option, Some, None, Vec, get_or, length}, declared.alloc.Global.{Global}}
+use Rattle.gs_model.specs.{Classes.{ClassLists, class_of, class_size, first_member}, Frame.{Frame}}
 use Rattle.gs_lossless.specs.{Amounts.{AgreesWithFirst, AreAmounts, AreSideFirsts}, declared.parts.Part.{Part}, declared.sides.Side.{Side}}
 
 -- the signals of a round before `end` agree with the first members of their classes
@@ -20,8 +20,12 @@ StandFor f lists side round firsts = 0 < length firsts → AreSideFirsts f lists
 abbrev pub AreAloneBelow : ClassLists → ℕ → ℕ → Type 0
 AreAloneBelow lists round end = (s : ℕ) → s < end → class_size lists round (class_of lists round s) ≡ 1
 
--- for each class with more than one member, `kept` has the sums of the first member if that member comes before `signal`
-abbrev pub StoredBelow : Frame → ClassLists → Side → ℕ → ℕ → List (Vec Part Global) → Type 0
-StoredBelow f lists side round signal kept =
-    (k : ℕ) (d : Vec Part Global) → 0 < k → k ≤ class_count lists round → first_member lists round k < signal → class_size lists round k ≢ 1
-    → AreAmounts f lists side round (first_member lists round k) (get_or kept (k - 1) d).items
+-- `kept` has the sums of the first member of a class
+abbrev pub IsFirstKept : Frame → ClassLists → Side → ℕ → ℕ → List (Vec Part Global) → Type 0
+IsFirstKept f lists side round class kept = (d : Vec Part Global)
+    → AreAmounts f lists side round (first_member lists round class) (get_or kept (class - 1) d).items
+
+-- for each class `kept` has an empty list, or the sums of the first member
+abbrev pub AreFirstsKept : Frame → ClassLists → Side → ℕ → List (Vec Part Global) → Type 0
+AreFirstsKept f lists side round kept = (class : ℕ) → 0 < class → class ≤ length kept
+    → ((d : Vec Part Global) → (get_or kept (class - 1) d).items ≡ []) ⊎ IsFirstKept f lists side round class kept

@@ -1,13 +1,13 @@
 //! The first signal of a round that differs from the first member of its class.
 
-ghost use Rattle.std.specs.Prelude.{◌<◌, ◌≤◌, IfOk, IsTrue, length};
-ghost use Rattle.gs_model.specs.{Classes.{list_of}, Frame.{frame_of}, Signals.{signals as signals_in}};
+ghost use Rattle.std.specs.Prelude.{◌≡◌, ◌<◌, ◌≤◌, Decides, IfOk, IsTrue, OnOk, length};
+ghost use Rattle.gs_model.specs.{Classes.{IsClass, class_of, list_of}, Frame.{frame_of}, Signals.{signals as signals_in}};
 ghost use Rattle.gs_tree.specs.Trees.{rules_of};
-ghost use Rattle.gs_lossless.specs.{Amounts.{HasSide}, Scans.{AreAloneBelow, IsFirstApart}};
+ghost use Rattle.gs_lossless.specs.{Amounts.{AgreesWithFirst, HasSide}, Scans.{AreAloneBelow, AreFirstsKept, IsFirstApart, IsFirstKept}};
 
 use crate::grouped::Grouped;
 use crate::lists::empty_lists;
-use crate::parts::are_same;
+use crate::parts::{Part, are_same};
 use crate::side_keys::SideKeys;
 use crate::sides::Side;
 use crate::standing::{has_earlier, stand_ins_at};
@@ -34,8 +34,53 @@ fn are_alone(classes: &Classes, round: u8) -> bool
     true
 }
 
+/// Makes the sums of the first member of a class, unless they are kept.
+fn keep_first(
+    alloc: Global,
+    at: &SideKeys<'_>,
+    class: u32,
+    kept: &mut Vec<Vec<Part>>,
+) -> Result<(), AllocError>
+    requires class { IsClass at.now.classes.now.lists at.now.round class }
+    requires within { class ≤ length kept.old.items }
+    requires kept { AreFirstsKept (frame_of (rules_of at.now.signals.now)) at.now.classes.now.lists at.now.side at.now.round kept.old.items }
+    ensures kept { OnOk result (AreFirstsKept (frame_of (rules_of at.now.signals.now)) at.now.classes.now.lists at.now.side at.now.round kept.new.items) }
+    ensures first { OnOk result (IsFirstKept (frame_of (rules_of at.now.signals.now)) at.now.classes.now.lists at.now.side at.now.round class kept.new.items) }
+    ensures long { OnOk result (length kept.new.items ≡ length kept.old.items) }
+{
+    let place = class as usize - 1;
+    if !kept[place].is_empty() {
+        return Ok(());
+    }
+    let mut sums = at.sums(alloc, at.classes.first(at.round, class))?;
+    sums.shrink_to_fit();
+    kept[place] = sums;
+    Ok(())
+}
+
+/// Returns whether a signal agrees on the side with the first member of its class. Keeps the sums of that first member.
+fn agrees(
+    alloc: Global,
+    at: &SideKeys<'_>,
+    signal: u32,
+    kept: &mut Vec<Vec<Part>>,
+) -> Result<bool, AllocError>
+    requires in_range { signal < length (signals_in (rules_of at.now.signals.now) at.now.round) }
+    requires within { class_of at.now.classes.now.lists at.now.round signal ≤ length kept.old.items }
+    requires kept { AreFirstsKept (frame_of (rules_of at.now.signals.now)) at.now.classes.now.lists at.now.side at.now.round kept.old.items }
+    ensures kept { OnOk result (AreFirstsKept (frame_of (rules_of at.now.signals.now)) at.now.classes.now.lists at.now.side at.now.round kept.new.items) }
+    ensures long { OnOk result (length kept.new.items ≡ length kept.old.items) }
+    ensures agrees { IfOk result (λ b. Decides b (AgreesWithFirst (frame_of (rules_of at.now.signals.now)) at.now.classes.now.lists at.now.side at.now.round
+        signal)) }
+{
+    let class = at.classes.class_of(at.round, signal);
+    keep_first(alloc, at, class, kept)?;
+    let sums = at.sums(alloc, signal)?;
+    Ok(are_same(&kept[class as usize - 1], &sums))
+}
+
 /// Returns the first signal before `end` that differs on the side from the first member of its class.
-/// Keeps the sums of the first member of each class with more than one member. The first `end` signals are in at most as many classes.
+/// Makes the sums of a first member once another member is compared with it. The first `end` signals are in at most as many classes.
 /// Once stand-ins are listed, makes no sums of a signal with an earlier stand-in.
 fn apart_before(alloc: Global, at: &SideKeys<'_>, end: u32) -> Result<Option<u32>, AllocError>
     requires { end ≤ length (signals_in (rules_of at.now.signals.now) at.now.round) }
@@ -50,16 +95,11 @@ fn apart_before(alloc: Global, at: &SideKeys<'_>, end: u32) -> Result<Option<u32
         if has_earlier(&firsts, signal) {
             continue;
         }
-        let class = classes.class_of(round, signal);
-        if classes.size(round, class) == 1 {
+        if classes.first(round, classes.class_of(round, signal)) == signal {
             continue;
         }
-        let mut sums = at.sums(alloc, signal)?;
-        let place = class as usize - 1;
-        if classes.first(round, class) == signal {
-            sums.shrink_to_fit();
-            kept[place] = sums;
-        } else if !are_same(&kept[place], &sums) {
+        let same = agrees(alloc, at, signal, &mut kept)?;
+        if !same {
             return Ok(Some(signal));
         }
     }

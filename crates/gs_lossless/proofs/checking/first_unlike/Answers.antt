@@ -6,6 +6,11 @@ use Rattle.gs_lossless.specs.Stops.{MatchUnlike}
 use Rattle.gs_lossless.proofs.{Descent.{list_long}, Scanned.{alike_more, first_unlike_from, not_single, refuted}, Settled.{lossless_by_firsts, over}}
 use Rattle.gs_lossless.proofs.checking.first_unlike.Goals as goal
 
+pub unlike_in-requires-clause-top : goal.unlike_in-requires-clause-top
+unlike_in-requires-clause-top c =
+    let g = rules_of c.args.grouped.now.signals.now in
+    omega (arith, c.loop-before-test.true, c.rounds-before-end.ensures.value, last_round_of g)
+
 pub class_of-class-requires-clause-within : goal.class_of-class-requires-clause-within
 class_of-class-requires-clause-within c =
     let g = rules_of c.args.grouped.now.signals.now in

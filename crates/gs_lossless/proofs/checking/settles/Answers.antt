@@ -7,6 +7,16 @@ use Rattle.gs_lossless.specs.{Amounts.{AgreesWithFirst}, Scans.{AgreeBelow}, dec
 use Rattle.gs_lossless.proofs.{Descent.{count_last, playable}, Scanned.{none_apart}, Settled.{lossless_by_last, over}}
 use Rattle.gs_lossless.proofs.checking.settles.Goals as goal
 
+pub first_apart-requires-clause-side : goal.first_apart-requires-clause-side
+first_apart-requires-clause-side c =
+    let g = rules_of c.args.grouped.now.signals.now in
+    (omega (arith, c.loop-round.auto.round), omega (arith, c.loop-round-test.true, c.rounds-last.ensures.value, last_round_of g))
+
+pub first_apart-requires-2-clause-side : goal.first_apart-requires-2-clause-side
+first_apart-requires-2-clause-side c =
+    let g = rules_of c.args.grouped.now.signals.now in
+    (c.rounds-last.ensures.some, omega (arith, c.rounds-last.ensures.value, last_round_of g))
+
 pub loop-round-preserved : goal.loop-round-preserved
 loop-round-preserved c =
     let g = rules_of c.args.grouped.now.signals.now in

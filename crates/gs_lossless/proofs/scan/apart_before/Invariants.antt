@@ -2,13 +2,13 @@ use Rattle.std.proofs.Common.{◌≡◌, length}
 use Rattle.std.specs.Prelude.{min}
 use Rattle.gs_model.specs.{Classes.{class_count}, Frame.{frame_of}}
 use Rattle.gs_tree.specs.Trees.{rules_of}
-use Rattle.gs_lossless.specs.Scans.{AgreeBelow, StandFor, StoredBelow}
+use Rattle.gs_lossless.specs.Scans.{AgreeBelow, AreFirstsKept, StandFor}
 use Rattle.gs_lossless.proofs.scan.apart_before.Given as goal
 
 abbrev pub invariant-loop-signal : goal.invariant-loop-signal
 invariant-loop-signal l = record {
   long : length l.kept.items ≡ min (class_count l.at.classes.now.lists l.at.round) l.end;
-  stored : StoredBelow (frame_of (rules_of l.at.signals.now)) l.at.classes.now.lists l.at.side l.at.round l.signal l.kept.items;
+  kept : AreFirstsKept (frame_of (rules_of l.at.signals.now)) l.at.classes.now.lists l.at.side l.at.round l.kept.items;
   stand : StandFor (frame_of (rules_of l.at.signals.now)) l.at.classes.now.lists l.at.side l.at.round l.firsts.items;
   agree : AgreeBelow (frame_of (rules_of l.at.signals.now)) l.at.classes.now.lists l.at.side l.at.round l.signal;
 }
