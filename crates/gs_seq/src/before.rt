@@ -62,19 +62,33 @@ fn row_by(
     )
 }
 
+/// Returns the rows of a round before the last, from the deals of the game that stops after it.
+fn stopped_rows(
+    alloc: Global,
+    at: &StoppedRound<'_>,
+    deals: &SideKeys<'_>,
+) -> Result<Vec<Vec<Pair>>, AllocError>
+    requires signals { deals.now.signals.now ≡ at.now.stopped.now }
+    requires classes { deals.now.classes.now ≡ at.now.seen.now }
+    requires side { (deals.now.side ≡ sides.Deals) × (deals.now.round ≡ at.now.round) }
+    ensures { IfOk result (λ v. AreRowsIn (frame_in at.now.signals.now.game.now) at.now.classes.now.lists at.now.round v.items) }
+{
+    let ways = ways_on(at);
+    let count = at.classes.classes(at.round);
+    let mut rows = Vec::with_capacity(alloc, count as usize)?;
+    for before in 0..count {
+        let row = row_by(alloc, at, deals, ways, before + 1)?;
+        rows.push(row)?;
+    }
+    Ok(rows)
+}
+
 /// Returns the rows of a round before the last, from the game that stops after it.
 fn rows_by(alloc: Global, at: &StoppedRound<'_>) -> Result<Vec<Vec<Pair>>, AllocError>
     ensures { IfOk result (λ v. AreRowsIn (frame_in at.now.signals.now.game.now) at.now.classes.now.lists at.now.round v.items) }
 {
     let deals = SideKeys::of(alloc, at.stopped, at.seen, Side::Deals, at.round)?;
-    let ways = ways_on(at);
-    let count = at.classes.classes(at.round);
-    let mut rows = Vec::with_capacity(alloc, count as usize)?;
-    for before in 0..count {
-        let row = row_by(alloc, at, &deals, ways, before + 1)?;
-        rows.push(row)?;
-    }
-    Ok(rows)
+    stopped_rows(alloc, at, &deals)
 }
 
 /// Returns the rows of a round before the last. Walks all deals if the rounds up to it deal a player more than one own card.

@@ -4,7 +4,8 @@ ghost use Rattle.std.specs.Prelude.{◌≡◌, ◌+◌, ◌*◌, ◌<◌, ◌≤
 ghost use Rattle.gs_model.specs.{Classes.{IsClass}, Frame.{last_round}, Lossless.{IsLossless}};
 ghost use Rattle.gs_lossless.specs.declared.sides.Side.TheVariants as sides;
 ghost use Rattle.gs_seq.specs.{Cells.{AreCounts, cell_count}, Games.{frame_in}};
-ghost use Rattle.gs_seq.specs.Rows.{AreRows, AreRowsIn, AreWholes, IsModerate, IsRow, IsSingleIn, IsSlim, gathered, join, pair_of, pairs_of, together, whole_row};
+ghost use Rattle.gs_seq.specs.Rows.{AreRows, AreRowsIn, AreWholes, IsModerate, IsRow, IsSingleIn, IsSlim};
+ghost use Rattle.gs_seq.specs.Rows.{gathered, join, pair_of, pairs_of, together, whole_row};
 
 use crate::before::rows_before;
 use crate::earlier::rows_above;
@@ -116,6 +117,21 @@ fn class_row(alloc: Global, deals: &SideKeys<'_>, class: u32) -> Result<Vec<Pair
 }
 
 /// Returns the rows of all classes of a round.
+fn class_rows(alloc: Global, deals: &SideKeys<'_>) -> Result<Vec<Vec<Pair>>, AllocError>
+    requires side { deals.now.side ≡ sides.Deals }
+    requires lossless { IsLossless (frame_in deals.now.signals.now.game.now) deals.now.classes.now.lists }
+    ensures { IfOk result (λ v. AreRowsIn (frame_in deals.now.signals.now.game.now) deals.now.classes.now.lists deals.now.round v.items) }
+{
+    let count = deals.classes.classes(deals.round);
+    let mut rows = Vec::with_capacity(alloc, count as usize)?;
+    for before in 0..count {
+        let row = class_row(alloc, deals, before + 1)?;
+        rows.push(row)?;
+    }
+    Ok(rows)
+}
+
+/// Returns the rows of a round, from all deals.
 pub(crate) fn rows_in(
     alloc: Global,
     signals: &Signals,
@@ -129,12 +145,7 @@ pub(crate) fn rows_in(
     ensures { IfOk result (λ v. AreRowsIn (frame_in signals.now.game.now) classes.now.lists round v.items) }
 {
     let deals = SideKeys::of(alloc, signals, classes, Side::Deals, round)?;
-    let count = classes.classes(round);
-    let mut rows = Vec::with_capacity(alloc, count as usize)?;
-    for before in 0..count {
-        rows.push(class_row(alloc, &deals, before + 1)?)?;
-    }
-    Ok(rows)
+    class_rows(alloc, &deals)
 }
 
 /// Returns all pairs of a row as one.

@@ -16,3 +16,15 @@ stopped_classes-requires-clause-top c =
 
 pub rows_in-requires-clause-top : goal.rows_in-requires-clause-top
 rows_in-requires-clause-top c = omega (arith, c.requires.before_last, last_round_of (rules_of c.args.signals.now))
+
+pub invariant_of-stopped : goal.invariant_of-stopped
+invariant_of-stopped c = let s = c.in_ok-stopped.stopped in record
+    { listed = s.listed; ranked = s.ranked; beside = s.beside; dealt = s.dealt; strong = s.strong; masked = s.masked; even = s.even; counted = s.counted }
+
+pub invariant_of-stopped-in-Some : goal.invariant_of-stopped-in-Some
+invariant_of-stopped-in-Some c = let s = c.in_ok-stopped.stopped in record
+    { listed = s.listed; ranked = s.ranked; beside = s.beside; dealt = s.dealt; strong = s.strong; masked = s.masked; even = s.even; counted = s.counted }
+
+pub invariant_of-stopped-in-Some-2 : goal.invariant_of-stopped-in-Some-2
+invariant_of-stopped-in-Some-2 c = let s = c.in_ok-stopped.stopped in record
+    { listed = s.listed; ranked = s.ranked; beside = s.beside; dealt = s.dealt; strong = s.strong; masked = s.masked; even = s.even; counted = s.counted }

@@ -1,33 +1,10 @@
-use Rattle.std.proofs.Common.{◌+◌, ◌∙◌, Vec, sym, arith}
-use Rattle.std.specs.declared.alloc.Global.{Global}
-use Rattle.gs_tree.specs.Trees.{rules_of}
-use Rattle.gs_seq.specs.{Games.{frame_in}, Rows.{IsRow}, declared.pair.Pair.{Pair}}
-use Rattle.gs_seq.proofs.{CellLaws.{pushed_to}, SlotLaws.{over}, Stopped.{in_stopped}}
+use Rattle.std.proofs.Common.{arith}
+use Rattle.gs_seq.proofs.Stopped.{in_stopped}
 use Rattle.gs_seq.proofs.before.rows_by.Goals as goal
-use Rattle.gs_model.proofs.Walked.{last_round_of}
 
 pub of-requires-clause-side : goal.of-requires-clause-side
 of-requires-clause-side c = in_stopped c.args.at.now.signals.now.game.now c.args.at.now.stopped.now.game.now c.args.at.now.round c.args.at.now.some
     (omega (arith, c.args.at.now.before_last)) c.args.at.now.stops
 
-pub classes-count-requires-clause-top : goal.classes-count-requires-clause-top
-classes-count-requires-clause-top c =
-    omega (
-      arith,
-      c.args.at.now.before_last,
-      last_round_of (rules_of c.args.at.now.signals.now),
-      (over (frame_in c.args.at.now.signals.now.game.now) c.args.at.now.classes.now c.args.at.now.parents).rounds,
-    )
-
-pub loop-before-preserved : goal.loop-before-preserved
-loop-before-preserved c =
-    let rows = c.loop-before.rows in
-    record {
-      long = omega (arith, c.in_ok-push.ensures.len, c.loop-before.invariant.long);
-      row = pushed_to (λ j (v : Vec Pair Global). IsRow (frame_in c.args.at.now.signals.now.game.now) c.args.at.now.classes.now.lists c.args.at.now.round
-          (j + 1) v.items) rows.items _ c.in_ok-row.row c.loop-before.before c.in_ok-push.ensures.items
-          (sym rows.ok.0 ∙ c.loop-before.invariant.long) c.loop-before.invariant.row c.in_ok-row.ensures;
-    }
-
-pub row_by-requires-clause-signals : goal.row_by-requires-clause-signals
-row_by-requires-clause-signals c = c.in_ok-deals.ensures.signals
+pub stopped_rows-requires-clause-signals : goal.stopped_rows-requires-clause-signals
+stopped_rows-requires-clause-signals c = c.in_ok-deals.ensures.signals

@@ -1,4 +1,4 @@
-use Rattle.std.proofs.{Common.{◌≡◌, ◌+◌, ◌++◌, ◌∷◌, [], map, take, get_or, pos, sym, ap, ◌∙◌, append_assoc}, lemmas.List.{map_push, take_more}}
+use Rattle.std.proofs.{Common.{◌≡◌, ◌+◌, ◌++◌, ◌∷◌, [], map, take, get_or, pos, sym, ap, ◌∙◌, append_assoc, arith}, lemmas.List.{map_push, take_all, take_more}}
 use Rattle.gs_seq.specs.{Rows.{part_up}, declared.pair.Pair.{Pair}}
 use Rattle.gs_seq.proofs.earlier.push_above.Goals as goal
 
@@ -14,3 +14,7 @@ loop-pair-preserved c =
     c.in_ok-push.ensures.items ∙ ap (λ xs. xs ++ c.part_above.result ∷ []) c.loop-pair.invariant
     ∙ ap (λ p. before ++ map up (take i row) ++ p ∷ []) c.part_above.ensures
     ∙ append_assoc before (map up (take i row)) (up (get_or row i d) ∷ []) ∙ ap (λ ys. before ++ ys) (sym more)
+
+pub returns : goal.returns
+returns c = c.loop-pair.invariant ∙ ap (λ xs. c.args.parts.now.items ++ map (part_up c.args.classes.now c.args.round) xs)
+    (take_all c.loop-pair.pair-index c.args.row.now (omega (arith, c.loop-pair-test.false)))

@@ -18,6 +18,9 @@ returns-in-Some-clause-last c =
           (game_of g.game),
     )
 
+pub returns-in-Some-clause-single : goal.returns-in-Some-clause-single
+returns-in-Some-clause-single c = c.args.self.now.single c.in-Some.order c.in-Some.is
+
 pub returns-in_default-clause-listed : goal.returns-in_default-clause-listed
 returns-in_default-clause-listed c =
     let a = c.args.self.now in

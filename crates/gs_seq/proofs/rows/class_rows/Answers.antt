@@ -1,0 +1,19 @@
+use Rattle.std.proofs.Common.{◌+◌, ◌∙◌, Vec, sym, arith}
+use Rattle.std.specs.declared.alloc.Global.{Global}
+use Rattle.gs_seq.specs.{Games.{frame_in}, Rows.{IsRow}, declared.pair.Pair.{Pair}}
+use Rattle.gs_seq.proofs.CellLaws.{pushed_to}
+use Rattle.gs_seq.proofs.rows.class_rows.Goals as goal
+
+pub class_row-requires-clause-class : goal.class_row-requires-clause-class
+class_row-requires-clause-class c = (omega (arith), omega (arith, c.loop-before-test.true, c.classes-count.ensures))
+
+pub loop-before-preserved : goal.loop-before-preserved
+loop-before-preserved c =
+    let rows = c.loop-before.rows in
+    let at = c.args.deals.now in
+    record {
+      long = omega (arith, c.in_ok-push.ensures.len, c.loop-before.invariant.long);
+      row = pushed_to (λ j (v : Vec Pair Global). IsRow (frame_in at.signals.now.game.now) at.classes.now.lists at.round (j + 1) v.items) rows.items
+          _ c.in_ok-row.row c.loop-before.before c.in_ok-push.ensures.items
+          (sym rows.ok.0 ∙ c.loop-before.invariant.long) c.loop-before.invariant.row c.in_ok-row.ensures;
+    }
