@@ -69,15 +69,43 @@ module _ {X : Type 0} (eq : X → X → Bool) (exact : (x y : X) → Decides (eq
   items_decide : (xs ys : List X) → Decides (pointwise eq xs ys) (xs ≡ ys)
   items_decide xs ys = slice_eq-Decides {E = eq} exact xs ys (pointwise eq xs ys) refl
 
+  -- the number of an item's list leads to its key
+  pub number_leads : (sign : ℕ → List X → Type 0) (keys : List (Vec X Global)) (parts : List X) (i n : ℕ) → IsNumberOf eq keys parts n → sign i parts
+      → HasKey sign keys i n
+  number_leads sign keys parts i n number signs = record {
+    some = number.some;
+    key = number.key;
+    stands = number.stands;
+    signs = subst (sign i) ((items_decide parts number.key.items).0 number.same) signs;
+  }
+
+  -- two numbers are equal exactly where the keys are
+  pub number_tells : (sign : ℕ → List X → Type 0) (keys : List (Vec X Global)) → IsDistinct (same_parts eq) keys → (i j m n : ℕ) (R : Type 0)
+      → HasKey sign keys i m → HasKey sign keys j n → ((a b : List X) → sign i a → sign j b → (a ≡ b) ↔ R) → (m ≡ n) ↔ R
+  number_tells sign keys distinct i j m n R a b law =
+      let both = law a.key.items b.key.items a.signs b.signs in (
+        (λ e.
+            let there : slice_get keys (m - 1) ≡ Some b.key = ap (λ n. slice_get keys (n - 1)) e ∙ b.stands in
+            let one : Some a.key ≡ Some b.key = sym a.stands ∙ there in
+            let k : a.key ≡ b.key = cc in
+            both.0 (ap (λ (v : Vec X Global). v.items) k)),
+        (λ r.
+            let items : a.key.items ≡ b.key.items = both.1 r in
+            let same : same_parts eq a.key b.key ≡ true = (items_decide a.key.items b.key.items).1 items in
+            let flips = λ (x y : Vec X Global) (e : same_parts eq x y ≡ true). (items_decide y.items x.items).1 (sym ((items_decide x.items y.items).0 e)) in
+            let place : m - 1 ≡ n - 1 =
+            one_place (same_parts eq) flips keys distinct (m - 1) (n - 1) a.key b.key a.stands b.stands same in
+            let some_a = a.some in let some_b = b.some in
+            omega arith),
+      )
+
   -- one more item, with the number of its key
   pub leads_more : (sign : ℕ → List X → Type 0) (keys more : List (Vec X Global)) (numbers : List ℕ) (parts : List X) (n : ℕ)
       → LeadToKeys sign keys numbers → StayIn keys more → IsNumberOf eq more parts n → sign (length numbers) parts → LeadToKeys sign more (numbers ++ n ∷ [])
   leads_more sign keys more numbers parts n leads stay number signs i l = ⊎_elim
       (λ e.
       let at : get_or (numbers ++ n ∷ []) i 0 ≡ n = ap (λ j. get_or (numbers ++ n ∷ []) j 0) e ∙ at_new numbers n in
-      let items : parts ≡ number.key.items = (items_decide parts number.key.items).0 number.same in
-      let here : sign i number.key.items = subst (λ j. sign j number.key.items) (sym e) (subst (λ l. sign (length numbers) l) items signs) in
-      let h : HasKey sign more i n = record { some = number.some; key = number.key; stands = number.stands; signs = here } in
+      let h : HasKey sign more i n = number_leads sign more parts i n number (subst (λ j. sign j parts) (sym e) signs) in
       subst (λ m. HasKey sign more i m) (sym at) h)
       (λ ne.
       let lt : i < length numbers = omega (arith, length-append numbers (n ∷ [])) in
@@ -121,23 +149,8 @@ module _ {X : Type 0} (eq : X → X → Bool) (exact : (x y : X) → Decides (eq
       → (P R : ℕ → ℕ → Type 0) → ((i j : ℕ) (a b : List X) → i < length numbers → j < length numbers → P i j → sign i a → sign j b → (a ≡ b) ↔ R i j)
       → (i j : ℕ) → i < length numbers → j < length numbers → P i j → (get_or numbers i 0 ≡ get_or numbers j 0) ↔ R i j
   numbers_are sign keys numbers distinct leads P R law i j li lj p =
-      let a = leads i li in
-      let b = leads j lj in
-      let both = law i j a.key.items b.key.items li lj p a.signs b.signs in (
-        (λ e.
-            let there : slice_get keys (get_or numbers i 0 - 1) ≡ Some b.key = ap (λ n. slice_get keys (n - 1)) e ∙ b.stands in
-            let one : Some a.key ≡ Some b.key = sym a.stands ∙ there in
-            let k : a.key ≡ b.key = cc in
-            both.0 (ap (λ (v : Vec X Global). v.items) k)),
-        (λ r.
-            let items : a.key.items ≡ b.key.items = both.1 r in
-            let same : same_parts eq a.key b.key ≡ true = (items_decide a.key.items b.key.items).1 items in
-            let flips = λ (x y : Vec X Global) (e : same_parts eq x y ≡ true). (items_decide y.items x.items).1 (sym ((items_decide x.items y.items).0 e)) in
-            let place : get_or numbers i 0 - 1 ≡ get_or numbers j 0 - 1 =
-            one_place (same_parts eq) flips keys distinct (get_or numbers i 0 - 1) (get_or numbers j 0 - 1) a.key b.key a.stands b.stands same in
-            let some_a = a.some in let some_b = b.some in
-            omega arith),
-      )
+      number_tells sign keys distinct i j (get_or numbers i 0) (get_or numbers j 0) (R i j) (leads i li) (leads j lj)
+      (λ a b x y. law i j a b li lj p x y)
 
   module _ (sign : ℕ → List X → Type 0) where
     -- what a loop over items knows before one of them: the lists that were seen, and the numbers of the items before it

@@ -1,6 +1,6 @@
 pub mod Each
 pub mod Agreed
-pub mod Linked
+pub mod MemberNumbers
 pub mod Turned
 pub mod Splits
 pub mod Known

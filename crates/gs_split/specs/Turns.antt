@@ -15,17 +15,6 @@ pub record AreSettled (lists : ClassLists) (round : ℕ) (firsts : List ℕ) (se
   pub long : length settled ≡ class_count lists round
   pub first : (s : ℕ) → s < length firsts → IsSettled lists round settled s → get_or firsts s 0 ≡ first_member lists round (class_of lists round s)
 
--- the first member of a class from a place on, or the number of signals of the round if none follows
-pub record IsMemberFrom (lists : ClassLists) (round from class next : ℕ) : Type 0 where
-  pub behind : from ≤ next
-  pub is : next < length (list_of lists round) → class_of lists round next ≡ class
-  pub none : (s : ℕ) → from ≤ s → s < next → class_of lists round s ≡ class → ⊥
-
--- for each signal of a round the next member of its class, or the number of signals if none follows
-pub record AreNextMembers (lists : ClassLists) (round : ℕ) (nexts : List ℕ) : Type 0 where
-  pub long : length nexts ≡ length (list_of lists round)
-  pub each : (s : ℕ) → s < length nexts → IsMemberFrom lists round (s + 1) (class_of lists round s) (get_or nexts s 0)
-
 -- numbers of the members of one class: equal exactly where the members agree on one side
 abbrev pub AreMemberNumbers : Frame → ClassLists → Side → ℕ → ℕ → List ℕ → Type 0
 AreMemberNumbers f lists side round class numbers = (i j : ℕ) → i < length numbers → j < length numbers → class_of lists round i ≡ class

@@ -1,37 +1,17 @@
-//! The members of a class, each with the next one, and their numbers.
+//! The numbers of the members of a class.
 
 ghost use Rattle.std.specs.Prelude.{◌≡◌, ◌<◌, ◌≤◌, ℕ, IfOk, OnOk, get_or, length};
 ghost use Rattle.gs_model.specs.{Classes.{IsClass, class_of}, Frame.{frame_of}};
 ghost use Rattle.gs_tree.specs.Trees.{rules_of};
 ghost use Rattle.gs_lossless.specs.Amounts.{AreSideFirsts};
-ghost use Rattle.gs_split.specs.Turns.{AreMemberNumbers, AreNextMembers};
+ghost use Rattle.gs_filter.specs.Members.{AreNextMembers};
+ghost use Rattle.gs_split.specs.Turns.{AreMemberNumbers};
 
 use gs_filter::Classes;
 use gs_iso::number_of_list;
 use gs_lossless::SideKeys;
 use indexmap::IndexSet;
 use std::alloc::{AllocError, Global};
-
-/// Returns for each signal of a round the next member of its class, or the number of signals of the round if no member follows.
-pub(crate) fn next_members(
-    alloc: Global,
-    classes: &Classes,
-    round: u8,
-) -> Result<Vec<u32>, AllocError>
-    requires some { 0 < round }
-    requires top { round ≤ length classes.now.lists }
-    ensures { IfOk result (λ v. AreNextMembers classes.now.lists round v.items) }
-{
-    let count = classes.signals(round);
-    let mut heads = vec![in alloc; count; classes.classes(round) as usize]?;
-    let mut nexts = vec![in alloc; count; count as usize]?;
-    for signal in (0..count).rev() {
-        let place = classes.class_of(round, signal) as usize - 1;
-        nexts[signal as usize] = heads[place];
-        heads[place] = signal;
-    }
-    Ok(nexts)
-}
 
 /// Sets the numbers of the members of a class. Two members get equal numbers exactly if they agree on the side.
 /// Makes sums only of members without an earlier stand-in, and keeps them until the class is done. `nexts` has the next member of the class of each signal.

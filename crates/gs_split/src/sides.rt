@@ -6,8 +6,8 @@ ghost use Rattle.gs_tree.specs.Trees.{rules_of};
 ghost use Rattle.gs_lossless.specs.Amounts.{AreSideFirsts, HasSide};
 ghost use Rattle.gs_split.specs.Turns.{AreSettled, AreSideNumbers, AreTurnNumbers};
 
-use crate::members::{next_members, number_members};
-use gs_filter::Classes;
+use crate::members::number_members;
+use gs_filter::{Classes, next_members};
 use gs_lossless::{Boards, Grouped, Side, SideKeys};
 use gs_tree::Signals;
 use std::alloc::{AllocError, Global};

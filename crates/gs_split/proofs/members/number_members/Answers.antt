@@ -4,7 +4,9 @@ use Rattle.gs_model.specs.{Classes.{list_of}, Frame.{frame_of, signal_count}, Si
 use Rattle.gs_tree.specs.Trees.{rules_of}
 use Rattle.gs_lossless.specs.{Amounts.{AreAmounts}, declared.side_keys.SideKeys.{SideKeys}}
 use Rattle.gs_lossless.proofs.{Merge.{part_decides}, Scanned.{side_classes, side_signals}}
-use Rattle.gs_split.proofs.{Agreed.{part_eq}, Linked.{member_first, number_leads, number_stood, numbered_all, numbered_first, numbering_more}}
+use Rattle.gs_filter.proofs.Linked.{member_first}
+use Rattle.gs_iso.proofs.Numbered.{number_leads}
+use Rattle.gs_split.proofs.{Agreed.{part_eq}, MemberNumbers.{number_stood, numbered_all, numbered_first, numbering_more}}
 use Rattle.gs_split.proofs.members.number_members.Goals as goal
 
 -- the list of the round has a class for each of its signals

@@ -1,7 +1,7 @@
 use Rattle.std.proofs.Common.{◌-◌, length}
 use Rattle.gs_model.specs.Frame.{frame_of}
 use Rattle.gs_tree.specs.Trees.{rules_of}
-use Rattle.gs_split.proofs.Linked.{AreNumbering}
+use Rattle.gs_split.proofs.MemberNumbers.{AreNumbering}
 use Rattle.gs_split.proofs.members.number_members.Given as goal
 
 abbrev pub invariant-loop-next : goal.invariant-loop-next

@@ -8,7 +8,7 @@ use Rattle.gs_tree.specs.Trees.{rules_of}
 use Rattle.gs_lossless.specs.Amounts.{AreSideFirsts}
 use Rattle.gs_lossless.proofs.{Scanned.{side_classes, side_signals}, SideOf.{as_asked}}
 use Rattle.gs_split.specs.Turns.{AreMemberNumbers, AreSettled, AreSideNumbers}
-use Rattle.gs_split.proofs.Linked.{AreDone, done_all, done_more, done_settled}
+use Rattle.gs_split.proofs.MemberNumbers.{AreDone, done_all, done_more, done_settled}
 use Rattle.gs_split.proofs.sides.side_numbers.Goals.{In_ok-firsts, Start}
 use Rattle.gs_split.proofs.sides.side_numbers.Goals as goal
 

@@ -1,5 +1,0 @@
-use Rattle.gs_split.proofs.Linked.{AreLinked}
-use Rattle.gs_split.proofs.members.next_members.Given as goal
-
-abbrev pub invariant-loop-signal : goal.invariant-loop-signal
-invariant-loop-signal l = AreLinked l.classes.lists l.round l.signal l.heads.items l.nexts.items
