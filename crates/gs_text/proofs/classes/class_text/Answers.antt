@@ -3,12 +3,12 @@ use Rattle.std.specs.Prelude.{[]}
 use Rattle.gs_model.specs.Classes.{list_of}
 use Rattle.gs_tree.specs.Trees.{rules_of, deck_of}
 use Rattle.gs_text.specs.ClassText.{round_text, signal_texts}
-use Rattle.gs_text.proofs.Lines.{rounds-more}
+use Rattle.gs_text.proofs.Lines.{lines-more}
 use Rattle.gs_text.proofs.classes.class_text.Goals as goal
 
 pub loop-index-preserved : goal.loop-index-preserved
 loop-index-preserved c =
     let s = c.args.signals.now in
-    rounds-more (λ round. round_text round (signal_texts (deck_of s) (rules_of s) round) (list_of c.args.classes.now.lists round)) []
-    (string_bytes c.loop-index.text) (string_bytes c.push_classes.new.text) c.loop-index.index
-    c.loop-index.invariant c.in_ok-push_classes.ensures
+    lines-more (λ round. round_text round (signal_texts (deck_of s) (rules_of s) round) (list_of c.args.classes.now.lists round)) []
+    (string_bytes c.loop-index.text) (string_bytes c.push_round.new.text) c.loop-index.index
+    c.loop-index.invariant c.in_ok-push_round.ensures

@@ -1,20 +1,42 @@
-use Rattle.std.proofs.{Common.{◌≡◌, ℕ, List, map, string_bytes, length, sym, ◌∙◌}, lemmas.List.{length-map}}
-use Rattle.gs_model.specs.Signals.{signals}
+use Rattle.std.proofs.Common.{◌≡◌, ◌++◌, ℕ, List, [], ap, append_assoc, arith, length, string_bytes, sym, ◌∙◌}
+use Rattle.std.proofs.lemmas.List.{append-nil, length-map}
+use Rattle.std.specs.{Prelude.{flat_map}, List.{range_with_len, zip}}
+use Rattle.gs_model.specs.{Classes.{class_count, list_of}, Signals.{signals}}
 use Rattle.gs_tree.specs.{Texts.{signal_text}, Trees.{deck_of, rules_of}}
-use Rattle.gs_text.specs.ClassText.{signal_texts}
-use Rattle.gs_text.proofs.Lines.{in_range, round_told}
+use Rattle.gs_text.specs.ClassText.{class_line, round_line, signal_texts}
+use Rattle.gs_text.proofs.Lines.{lines-more}
+use Rattle.gs_text.proofs.classes.push_round.Goals.{Start}
 use Rattle.gs_text.proofs.classes.push_round.Goals as goal
 
-pub round_lines-requires-clause-numbers : goal.round_lines-requires-clause-numbers
-round_lines-requires-clause-numbers c = in_range c.args.classes.now c.args.count c.requires.count c.requires.numbers
+-- the line of the round, with its numbers of classes and signals
+abbrev first : Start → List ℕ
+first c = round_line c.args.round (class_count c.args.classes.now.lists c.args.round)
+    (length (signal_texts (deck_of c.args.signals.now) (rules_of c.args.signals.now) c.args.round))
+
+abbrev line : Start → ℕ → List ℕ
+line c = class_line
+    (zip (signal_texts (deck_of c.args.signals.now) (rules_of c.args.signals.now) c.args.round) (list_of c.args.classes.now.lists c.args.round))
+
+pub loop-index-init : goal.loop-index-init
+loop-index-init c =
+    let s = c.args.signals.now in
+    let old = string_bytes c.args.text.now in
+    let total = c.count.ensures.value ∙ sym (length-map (signals (rules_of s) c.args.round) (signal_text (deck_of s))) in
+    c.in_ok-push_round_line.ensures ∙ ap (λ n. old ++ round_line c.args.round n c.count.result) c.classes-count.ensures
+    ∙ ap (λ n. old ++ round_line c.args.round (class_count c.args.classes.now.lists c.args.round) n) total
+    ∙ sym (append-nil (old ++ first (goal.at.loop-index-init c).Start))
+
+pub loop-index-preserved : goal.loop-index-preserved
+loop-index-preserved c =
+    let start = (goal.at.loop-index-preserved c).Start in
+    lines-more (line start) (string_bytes c.args.text.now ++ first start) (string_bytes c.loop-index.text) (string_bytes c.push_class.new.text)
+    c.loop-index.index c.loop-index.invariant c.in_ok-push_class.ensures
 
 pub returns : goal.returns
 returns c =
-    let s = c.args.signals.now in
-    let texts : List (List ℕ) = signal_texts (deck_of s) (rules_of s) c.args.round in
-    let total : c.count-total.result ≡ length texts = c.count-total.ensures.value
-    ∙ sym (length-map (signals (rules_of s) c.args.round) (signal_text (deck_of s))) in
-    round_told (string_bytes c.args.text.now) (string_bytes c.push_round_line.new.text) (string_bytes c.push_lines.new.text) c.args.round c.args.count
-    c.count-total.result texts c.args.classes.now
-    (map string_bytes c.in_ok-lines.lines.items) c.requires.count total c.in_ok-push_round_line.ensures c.in_ok-lines.ensures
-    (rw c.deref.ensures.value at c.in_ok-push_lines.ensures)
+    let start = (goal.at.returns c).Start in
+    let old = string_bytes c.args.text.now in
+    let many : c.loop-index.index ≡ class_count c.args.classes.now.lists c.args.round =
+    omega (arith, c.loop-index-test.false, c.loop-index.auto.index-end, c.classes-count.ensures) in
+    c.loop-index.invariant ∙ append_assoc old (first start) (flat_map (line start) (range_with_len 1 c.loop-index.index))
+    ∙ ap (λ n. old ++ (first start ++ flat_map (line start) (range_with_len 1 n))) many
