@@ -1,35 +1,53 @@
 -- One step of the induction backwards: a point gets its row, and all later ones stay as they are.
-use Rattle.std.proofs.{Common.{◌≡◌, ◌≢◌, ℕ, ◌+◌, ◌-◌, ◌<◌, ◌≤◌, List, get_or, sym, ap, ◌∙◌, subst, arith, ⊎_elim}, lemmas.Bool.{cases_eq}, lemmas.Int.{ints}}
+use Rattle.std.proofs.Common.{◌≡◌, ◌≢◌, ℕ, ◌+◌, ◌-◌, ◌<◌, ◌≤◌, ◌++◌, List, drop, get_or, length, sym, ap, ◌∙◌, subst, arith, ⊎_elim}
+use Rattle.std.proofs.{lemmas.Bool.{cases_eq}, lemmas.Int.{ints}, lemmas.List.{get_or-append_right, get_or_append_left, get_or-drop}}
 use Rattle.std.specs.Prelude.{ℤ, pos, ◌≤ℤ◌, ◌<ℤ◌}
 use Rattle.gs_model.specs.{BestAnswers.{Values}, Classes.{ClassLists, IsClass}, Frame.{Frame, choices_at, move_count, player_at, point_count, round_of}}
 use Rattle.gs_model.specs.{FrameFacts.{IsFrom}, Positions.{Target, at_end, at_point}, Sums.{sum_z}}
-use Rattle.gs_best.specs.{ClassTotals.{total_worth}, Places.{AreFirstFrom, IsFollowedFrom}, Rows.{AreSums, IsCopied, IsMerged}, Tables.{classes_at, start_of}}
-use Rattle.gs_best.proofs.{Placed.{row_later}, Ranges.{sum_same}}
+use Rattle.gs_best.specs.{ClassTotals.{total_worth}, Places.{AreFirstFrom, IsFollowedFrom}, Rows.{AreSums, IsMerged}, Tables.{classes_at, start_of}}
+use Rattle.gs_seq.proofs.SlotLaws.{sum_range_le, sum_range_more}
+use Rattle.gs_best.proofs.Ranges.{sum_same}
 
 -- what comes later than a point comes later than all points before it
 pub later_on : (q p : ℕ) → q ≤ p → (t : Target) → IsFrom (p + 1) t → IsFrom (q + 1) t
 later_on q p l (at_point n) h = omega arith
 later_on q p l (at_end z) h = tt
 
-module _ {A : Type 0} (zero : A) (f : Frame) (lists : ClassLists) (q start count : ℕ) (at : start ≡ start_of f lists q) (wide : count
-    ≡ classes_at f lists q) (row old new : List A) (copied : IsCopied zero start count row old new) where
-  -- a row that is copied into a list at its point leaves the rows of later points as they were
-  pub kept_later : (p c : ℕ) → q + 1 ≤ p → IsClass lists (round_of f (at_point p)) c
-      → get_or new (start_of f lists p + (c - 1)) zero ≡ get_or old (start_of f lists p + (c - 1)) zero
-  kept_later p c lo lc = copied.behind (start_of f lists p + (c - 1)) (omega (
-    arith,
-    row_later (classes_at f lists) q start count p at wide (omega (arith, lo)),
-  ))
+-- a list with a row for each point: one point gets its row, and the rows of later points stay as they were
+pub record IsSetAt {A : Type 0} (zero : A) (f : Frame) (lists : ClassLists) (q : ℕ) (row old new : List A) : Type 0 where
+  pub here : (c : ℕ) → IsClass lists (round_of f (at_point q)) c → get_or new (start_of f lists q + (c - 1)) zero ≡ get_or row (c - 1) zero
+  pub later : (p c : ℕ) → q + 1 ≤ p → get_or new (start_of f lists p + (c - 1)) zero ≡ get_or old (start_of f lists p + (c - 1)) zero
 
-  pub copied_here : (c : ℕ) → IsClass lists (round_of f (at_point q)) c → get_or new (start_of f lists q + (c - 1)) zero ≡ get_or row (c - 1) zero
-  copied_here c lc = let e : start_of f lists q + (c - 1) ≡ start + (c - 1) = omega (arith, at) in
-      ap (λ i. get_or new i zero) e ∙ copied.here (c - 1) (omega (arith, lc.0, lc.1, wide))
+module _ {A : Type 0} (zero : A) (f : Frame) (lists : ClassLists) (q start from : ℕ) (at : start ≡ start_of f lists q)
+    (next : from ≡ start_of f lists (q + 1)) where
+  in_row : (new : List A) (c : ℕ) → get_or new (start_of f lists q + (c - 1)) zero ≡ get_or (drop start new) (c - 1) zero
+  in_row new c =
+      let e : start_of f lists q + (c - 1) ≡ start + (c - 1) = omega (arith, at) in
+      ap (λ i. get_or new i zero) e ∙ sym (get_or-drop start new (c - 1) zero)
+
+  behind : (p c : ℕ) → q + 1 ≤ p → from ≤ start_of f lists p + (c - 1)
+  behind p c l = omega (arith, next, sum_range_le (classes_at f lists) (q + 1) p l)
+
+  -- a list that changes before the next point's row
+  pub set_before : (old new : List A) → ((i : ℕ) → from ≤ i → get_or new i zero ≡ get_or old i zero) → IsSetAt zero f lists q (drop start new) old new
+  set_before old new kept = record { here = λ c lc. in_row new c; later = λ p c l. kept (start_of f lists p + (c - 1)) (behind p c l) }
+
+  -- a list of which another part stands behind
+  pub set_front : (old new rest : List A) → length old ≡ from → length new ≡ from → IsSetAt zero f lists q (drop start new) (old ++ rest) (new ++ rest)
+  set_front old new rest long same = record {
+    here = λ c lc.
+        let inside : start_of f lists q + (c - 1) < length new = omega (arith, same, next, sum_range_more (classes_at f lists) q, lc.0, lc.1) in
+        get_or_append_left new rest zero (start_of f lists q + (c - 1)) inside ∙ in_row new c;
+    later = λ p c l.
+        let i = start_of f lists p + (c - 1) in
+        get_or-append_right new rest from i zero same (behind p c l) ∙ sym (get_or-append_right old rest from i zero long (behind p c l));
+  }
 
 module _ (f : Frame) (lists : ClassLists) (player q : ℕ) (lq : q < point_count f) (v v' : Values) (move move' : ℕ → ℕ → ℕ) (row : List ℤ)
-    (value_later : (p c : ℕ) → q + 1 ≤ p → IsClass lists (round_of f (at_point p)) c → v' (at_point p) c ≡ v (at_point p) c) (value_here : (c : ℕ)
-    → IsClass lists (round_of f (at_point q)) c → v' (at_point q) c ≡ get_or row (c - 1) (pos 0))
+    (value_later : (p c : ℕ) → q + 1 ≤ p → v' (at_point p) c ≡ v (at_point p) c)
+    (value_here : (c : ℕ) → IsClass lists (round_of f (at_point q)) c → v' (at_point q) c ≡ get_or row (c - 1) (pos 0))
     (same_worth : (p m c : ℕ) → q ≤ p → p < point_count f → m < move_count f p → total_worth f lists v' p m c ≡ total_worth f lists v p m c)
-    (kept : (p c : ℕ) → q + 1 ≤ p → IsClass lists (round_of f (at_point p)) c → move' p c ≡ move p c) where
+    (kept : (p c : ℕ) → q + 1 ≤ p → move' p c ≡ move p c) where
   same_sum : (p c : ℕ) → q ≤ p → p < point_count f
       → sum_z (λ m. total_worth f lists v' p m c) (choices_at f p) ≡ sum_z (λ m. total_worth f lists v p m c) (choices_at f p)
   same_sum p c lo lp = sum_same (λ m. total_worth f lists v' p m c) (λ m. total_worth f lists v p m c) 0 (move_count f p)
@@ -45,7 +63,7 @@ module _ (f : Frame) (lists : ClassLists) (player q : ℕ) (lq : q < point_count
           (λ (same : p ≡ q). let P : ℕ → Type 0 = λ p. player_at f p ≡ player → IsClass lists (round_of f (at_point p)) c → move' p c < move_count f p in
           subst P (sym same) (λ own lc. own_in own c lc))
           (λ (other : p ≡ q → ⊥). λ own lc. let a = h.in_range p c (omega arith) lp own lc in
-          subst (λ m. m < move_count f p) (sym (kept p c (omega arith) lc)) a)
+          subst (λ m. m < move_count f p) (sym (kept p c (omega arith))) a)
           (cases_eq p q);
       reached = λ p c lo lp. ⊎_elim
           (λ (same : p ≡ q). let P : ℕ → Type 0 = λ p. player_at f p ≡ player → IsClass lists (round_of f (at_point p)) c
@@ -53,8 +71,8 @@ module _ (f : Frame) (lists : ClassLists) (player q : ℕ) (lq : q < point_count
           (λ own lc. value_here c lc ∙ own_is own c lc ∙ sym (same_worth q (move' q c) c (omega arith) lq (own_in own c lc))))
           (λ (other : p ≡ q → ⊥). λ own lc.
           let later : q + 1 ≤ p = omega arith in
-          value_later p c later lc ∙ h.reached p c later lp own lc ∙ sym (same_worth p (move p c) c lo lp (h.in_range p c later lp own lc))
-          ∙ ap (λ m. total_worth f lists v' p m c) (sym (kept p c later lc)))
+          value_later p c later ∙ h.reached p c later lp own lc ∙ sym (same_worth p (move p c) c lo lp (h.in_range p c later lp own lc))
+          ∙ ap (λ m. total_worth f lists v' p m c) (sym (kept p c later)))
           (cases_eq p q);
       at_others = λ p c lo lp. ⊎_elim
           (λ (same : p ≡ q). let P : ℕ → Type 0 = λ p. player_at f p ≢ player → IsClass lists (round_of f (at_point p)) c
@@ -62,7 +80,7 @@ module _ (f : Frame) (lists : ClassLists) (player q : ℕ) (lq : q < point_count
           (λ other lc. value_here c lc ∙ sums other c lc ∙ sym (same_sum q c (omega arith) lq)))
           (λ (not : p ≡ q → ⊥). λ other lc.
           let later : q + 1 ≤ p = omega arith in
-          value_later p c later lc ∙ h.at_others p c later lp other lc ∙ sym (same_sum p c lo lp))
+          value_later p c later ∙ h.at_others p c later lp other lc ∙ sym (same_sum p c lo lp))
           (cases_eq p q);
     }
 
@@ -78,7 +96,7 @@ module _ (f : Frame) (lists : ClassLists) (player q : ℕ) (lq : q < point_count
         (λ own lm lc. let a = more m c own lm lc in let e = same_worth q m c (omega arith) lq lm in let g = value_here c lc in omega (arith, ints, a, e, g)))
         (λ (other : p ≡ q → ⊥). λ own lm lc.
         let later : q + 1 ≤ p = omega arith in
-        let a = h.none_more p m c later lp own lm lc in let e = same_worth p m c lo lp lm in let g = value_later p c later lc in omega (arith, ints, a, e, g))
+        let a = h.none_more p m c later lp own lm lc in let e = same_worth p m c lo lp lm in let g = value_later p c later in omega (arith, ints, a, e, g))
         (cases_eq p q);
     none_before = λ p m c lo lp. ⊎_elim
         (λ (same : p ≡ q). let P : ℕ → Type 0 = λ p. player_at f p ≡ player → IsClass lists (round_of f (at_point p)) c → m < move' p c
@@ -87,9 +105,9 @@ module _ (f : Frame) (lists : ClassLists) (player q : ℕ) (lq : q < point_count
         omega (arith, ints, b, e, g)))
         (λ (other : p ≡ q → ⊥). λ own lc lm.
         let later : q + 1 ≤ p = omega arith in
-        let lm' = subst (λ n. m < n) (kept p c later lc) lm in
+        let lm' = subst (λ n. m < n) (kept p c later) lm in
         let inr = g.in_range p c later lp own lc in
-        let a = h.none_before p m c later lp own lc lm' in let e = same_worth p m c lo lp (omega (arith, lm', inr)) in let k = value_later p c later lc in
+        let a = h.none_before p m c later lp own lc lm' in let e = same_worth p m c lo lp (omega (arith, lm', inr)) in let k = value_later p c later in
         omega (arith, ints, a, e, k))
         (cases_eq p q);
   }

@@ -2,10 +2,10 @@
 use Rattle.std.proofs.Common.{◌≡◌, ℕ, ◌+◌, ◌<◌, ◌≤◌, ◌^◌, Bool, true, false, cond, List, get_or, ◌-◌, refl, sym, ap, ◌∙◌, subst, arith, true≢false, ⊎_elim}
 use Rattle.std.proofs.{lemmas.Bool.{cases_eq}, lemmas.Bool.Decides.{Decides-eqb}, lemmas.Int.{ints}, Math.IntN.{+ℤ_idl}}
 use Rattle.std.specs.{Prelude.{◌==◌, ◌||◌, ℤ, pos, ◌+ℤ◌, ◌≤ℤ◌, ◌<ℤ◌, int_lt, unsigned_abs}, List.{range_with_len}}
-use Rattle.gs_model.specs.{Classes.{ClassLists, IsClass, class_count}, Frame.{Frame, round_of}, Positions.{at_point}, Sums.{sum_z}}
+use Rattle.gs_model.specs.{Classes.{ClassLists, IsClass, class_count}, Frame.{Frame, move_count, round_of}, Positions.{at_point}, Sums.{sum_z}}
 use Rattle.gs_model.proofs.Sparse.{abs_sum}
 use Rattle.gs_seq.proofs.EndTotals.{range_more}
-use Rattle.gs_best.specs.Rows.{AreWorthsAdded, AreGreatest, AreRaised, AreSums, AreWorths, IsFirstGreatest, Worths, raises}
+use Rattle.gs_best.specs.{Rows.{AreWorthsAdded, AreGreatest, AreRaised, AreSums, AreWorths, IsFirstGreatest, IsMerged, Worths, raises}, Tables.{classes_at}}
 
 less_is : (a b : ℤ) → int_lt a b ≡ true → a <ℤ b
 less_is a b h = grind (arith, ints)
@@ -119,3 +119,16 @@ module _ (f : Frame) (lists : ClassLists) (worth : Worths) (q n count : ℕ) (al
       let l : k < count = omega (arith, lc.0, lc.1, all) in
       let b = get_or old k (pos 0) in
       r k l ∙ ap (λ z. cond (n == 0) z (b +ℤ z)) (new c lc) ∙ sum_one W n b (λ some. h some c lc)
+
+-- rows that agree at the classes of a point
+pub merged_rows : (f : Frame) (lists : ClassLists) (player : ℕ) (worth : Worths) (q : ℕ) (best best' : List ℤ) (moves moves' : List ℕ)
+    → ((k : ℕ) → k < classes_at f lists q → get_or best' k (pos 0) ≡ get_or best k (pos 0))
+    → ((k : ℕ) → k < classes_at f lists q → get_or moves' k 0 ≡ get_or moves k 0) → IsMerged f lists player worth q best moves
+    → IsMerged f lists player worth q best' moves'
+merged_rows f lists player worth q best best' moves moves' same_best same_moves h = record {
+  own = λ own c lc.
+      let in' : c - 1 < classes_at f lists q = omega (arith, lc.0, lc.1) in
+      subst (λ v. IsFirstGreatest (λ m. worth q m c) (move_count f q) v (get_or moves' (c - 1) 0)) (sym (same_best (c - 1) in'))
+      (subst (λ m. IsFirstGreatest (λ m. worth q m c) (move_count f q) (get_or best (c - 1) (pos 0)) m) (sym (same_moves (c - 1) in')) (h.own own c lc));
+  others = λ other c lc. let in' : c - 1 < classes_at f lists q = omega (arith, lc.0, lc.1) in same_best (c - 1) in' ∙ h.others other c lc;
+}

@@ -78,8 +78,6 @@ rows_for f lists s r =
       numbers = by_wide f lists n _ (omega arith) r.numbers;
       ends = by_wide f lists n _ (omega arith) r.ends;
       worths = by_wide f lists (n - 1) _ (omega arith) r.worths;
-      best = by_wide f lists n _ (omega arith) r.best;
-      moves = by_wide f lists n _ (omega arith) r.moves;
     }
 
 for_rows : (f : Frame) (lists : ClassLists) (s : Scratch) → AreRowsFor f lists (last_round f) s → HasRows f lists s
@@ -89,8 +87,6 @@ for_rows f lists s r =
       numbers = wide_by f lists n _ (omega arith) r.numbers;
       ends = wide_by f lists n _ (omega arith) r.ends;
       worths = wide_by f lists (n - 1) _ (omega arith) r.worths;
-      best = wide_by f lists n _ (omega arith) r.best;
-      moves = wide_by f lists n _ (omega arith) r.moves;
     }
 
 pub roomy : (f : Frame) (lists : ClassLists) → IsWalked f 1 → (t : Table) (s : Scratch) → HoldsAll f lists t → HasRows f lists s

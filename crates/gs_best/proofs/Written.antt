@@ -1,6 +1,7 @@
 -- Rows written one number after another.
-use Rattle.std.proofs.Common.{◌≡◌, ℕ, ◌+◌, ◌-◌, ◌<◌, ◌≤◌, List, [], ◌∷◌, ◌++◌, length, get_or, take, zero, suc, refl, sym, ap, ◌∙◌, arith, ⊎_elim}
-use Rattle.std.proofs.{Math.ListN.{set}, lemmas.Bool.{cases_eq}, lemmas.Grind.{get_or-set_at}, lemmas.List.{get_or-set_other}}
+use Rattle.std.proofs.Common.{◌≡◌, ℕ, ◌+◌, ◌-◌, ◌<◌, ◌≤◌, List, [], ◌∷◌, ◌++◌, length, get_or, replicate, take, zero, suc, refl, sym, ap, ◌∙◌}
+use Rattle.std.proofs.{Common.{arith, ⊎_elim}, Math.ListN.{set}, lemmas.Bool.{cases_eq}, lemmas.Grind.{get_or-set_at}}
+use Rattle.std.proofs.lemmas.List.{get_or-append_right, get_or-set_other, length-replicate}
 use Rattle.std.specs.Prelude.{ℤ, pos, ◌*ℤ◌}
 
 -- one more number
@@ -35,6 +36,12 @@ written zero [] ys e = refl
 written zero (x ∷ xs) ys e = absurd (omega arith)
 written (suc n) [] ys e = absurd (omega arith)
 written (suc n) (x ∷ xs) ys e = ap (λ l. x ∷ l) (written n xs ys (omega arith))
+
+-- what a list holds behind n zeros
+pub behind_all : (n : ℕ) (xs : List ℤ) (i k : ℕ) → i ≡ k + n → get_or (replicate n (pos 0) ++ xs) i (pos 0) ≡ get_or xs k (pos 0)
+behind_all n xs i k e =
+    let rest : i - n ≡ k = omega arith in
+    get_or-append_right (replicate n (pos 0)) xs n i (pos 0) (length-replicate n (pos 0)) (omega arith) ∙ ap (λ j. get_or xs j (pos 0)) rest
 
 -- sums become shares, one after another
 pub shares_more : (size : ℕ → ℕ) (xs first : List ℤ) (i : ℕ) (v : ℤ) → i < length xs

@@ -1,8 +1,9 @@
 -- Rows with a number for each class of a later round, and what the classes of an earlier round gather of them.
-use Rattle.std.specs.Prelude.{ℕ, ◌+◌, ◌-◌, ◌^◌, ◌<◌, ◌≤◌, ◌≡◌, List, get_or, length, ℤ, pos, unsigned_abs}
-use Rattle.gs_model.specs.{BestAnswers.{Values}, Classes.{ClassLists, IsClass, class_count}, Frame.{Frame, last_round, round_of}, FrameFacts.{IsFrom, IsInside}}
-use Rattle.gs_model.specs.Positions.{Target}
-use Rattle.gs_best.specs.{ClassTotals.{gathered_below}, Rows.{AreModestClasses}, declared.row.Row.{Row}}
+use Rattle.std.specs.Prelude.{ℕ, ◌+◌, ◌-◌, ◌^◌, ◌<◌, ◌≤◌, ◌≡◌, ◌++◌, List, get_or, length, replicate, ℤ, pos, unsigned_abs}
+use Rattle.gs_model.specs.{BestAnswers.{Values}, Classes.{ClassLists, IsClass, class_count}, FrameFacts.{IsFrom, IsInside}}
+use Rattle.gs_model.specs.{Frame.{Frame, last_round, point_count, round_of}, Positions.{Target, at_point}}
+use Rattle.gs_best.specs.{ClassTotals.{gathered_below}, Rows.{AreModestClasses}, Sides.{totals_at}, Tables.{AreStarts, start_of}}
+use Rattle.gs_best.specs.{declared.row.Row.{Row}, declared.side.Side.{Side}}
 
 -- a list from place `start` on, as a row by class
 abbrev pub row_from : List ℤ → ℕ → ℕ → ℤ
@@ -12,6 +13,20 @@ row_from values start c = get_or values (start + (c - 1)) (pos 0)
 abbrev pub AreGathered : Frame → ClassLists → ℕ → ℕ → List ℤ → ℕ → List ℤ → Type 0
 AreGathered f lists from to values start sums = (c : ℕ) → IsClass lists to c
     → get_or sums (c - 1) (pos 0) ≡ gathered_below f lists from to (row_from values start) c
+
+-- class totals of which a list has those of points from the place `from` of a table on; before that place they are 0
+abbrev pub later_totals : Side → ℕ → List ℤ → Values
+later_totals s from totals = totals_at s (replicate from (pos 0) ++ totals)
+
+-- `starts` has for each point the place of its first total, and `totals` has all totals from the place `from` on
+pub record AreLaidFrom (f : Frame) (lists : ClassLists) (starts : List ℕ) (from : ℕ) (totals : List ℤ) : Type 0 where
+  pub long : point_count f ≤ length starts
+  pub places : AreStarts f lists starts
+  pub room : start_of f lists (point_count f) ≤ from + length totals
+
+-- the totals of a position, if it is a point, stand at the place `from` or behind
+abbrev pub IsLaidBehind : Frame → ClassLists → ℕ → Target → Type 0
+IsLaidBehind f lists from t = (q : ℕ) → t ≡ at_point q → from ≤ start_of f lists q
 
 -- class totals at positions from a point on are below 2^90 in size
 abbrev pub AreModestFrom : Frame → ClassLists → Values → ℕ → Type 0

@@ -20,8 +20,6 @@ pub record AreOfLength (is_long is_long_earlier : ℕ → Type 0) (s : Scratch) 
   pub numbers : is_long (length s.numbers.items)
   pub ends : is_long (length s.ends.items)
   pub worths : is_long_earlier (length s.worths.items)
-  pub best : is_long (length s.best.items)
-  pub moves : is_long (length s.moves.items)
 
 -- each scratch row has an entry for each class of any round; that of worths, of any round before the last
 abbrev pub HasRows : Frame → ClassLists → Scratch → Type 0

@@ -23,7 +23,7 @@ fn start_total(side: &Side<'_>, table: &Table, row: &mut [i128], numbers: &mut [
     ensures small { unsigned_abs result ≤ 2 ^ 74 }
 {
     let target = side.form.start_at();
-    let totals = row_to(side, table, target, row, numbers);
+    let totals = row_to(side, &table.starts, 0, &table.totals, target, row, numbers);
     let count = side.form.class_total(totals.round) as usize;
     sum_between(totals.values, totals.start, totals.start + count)
 }

@@ -27,10 +27,6 @@ pub struct Scratch {
     pub ends: Vec<i128>,
     // what a move is worth that leads to a later round
     pub worths: Vec<i128>,
-    // the totals of a point from the moves so far
-    pub best: Vec<i128>,
-    // the first best of the moves so far
-    pub moves: Vec<u8>,
 }
 
 /// Writes for each point the place where its values start.
@@ -111,8 +107,6 @@ fn scratch_for(alloc: Global, form: &Abstract) -> Result<Scratch, AllocError>
         numbers: vec![in alloc; 0u64; wide]?,
         ends: vec![in alloc; 0i128; wide]?,
         worths: vec![in alloc; 0i128; earlier]?,
-        best: vec![in alloc; 0i128; wide]?,
-        moves: vec![in alloc; 0u8; wide]?,
     })
 }
 

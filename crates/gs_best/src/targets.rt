@@ -3,37 +3,40 @@
 ghost use Rattle.std.specs.Prelude.{◌+◌, ◌<◌, ◌≤◌, length};
 ghost use Rattle.gs_game.specs.Seen.{target_of};
 ghost use Rattle.gs_model.specs.{Classes.{class_count}, Frame.{move_count}, FrameFacts.{IsInside}};
-ghost use Rattle.gs_best.specs.{Rows.{AreWorths}, ClassTotals.{total_worth}, LaterRows.{IsRowOf}, Rooms.{IsLaid, IsWide, IsWideEarlier}};
-ghost use Rattle.gs_best.specs.{Sides.{frame_at, lists_at, totals_at}, Spots.{frame_on, lists_on, totals_on}};
+ghost use Rattle.gs_best.specs.{Rows.{AreWorths}, ClassTotals.{total_worth}, LaterRows.{AreLaidFrom, IsLaidBehind, IsRowOf, later_totals}};
+ghost use Rattle.gs_best.specs.{Rooms.{IsWide, IsWideEarlier}, Sides.{frame_at, lists_at}, Spots.{frame_on, lists_on, totals_on}};
 
 use crate::gathering::read_row;
 use crate::row::Row;
 use crate::side::Side;
 use crate::spot::Spot;
-use crate::tables::Table;
 use gs_game::Target;
 
-/// Returns the class totals at a position. Those of a point are read where they stand; those of an end are added up and written into `row`.
+/// Returns the class totals at a position. Those of a point are read where they stand: `totals` has them from the place `from` of a table on. Those of an
+/// end are added up and written into `row`.
 pub(crate) fn row_to<'r>(
     side: &Side<'_>,
-    table: &'r Table,
+    starts: &[u32],
+    from: usize,
+    totals: &'r [i128],
     target: Target,
     row: &'r mut [i128],
     numbers: &mut [u64],
 ) -> Row<'r>
     requires inside { IsInside (frame_at side.now) (target_of target) }
-    requires laid { IsLaid (frame_at side.now) (lists_at side.now) table.now }
+    requires laid { AreLaidFrom (frame_at side.now) (lists_at side.now) starts.now from totals.now }
+    requires behind { IsLaidBehind (frame_at side.now) (lists_at side.now) from (target_of target) }
     requires row { IsWide (frame_at side.now) (lists_at side.now) (length row.old) }
     requires numbers { IsWide (frame_at side.now) (lists_at side.now) (length numbers.old) }
-    ensures held { IsRowOf (frame_at side.now) (lists_at side.now) (totals_at side.now table.now.totals.items) (target_of target) result }
+    ensures held { IsRowOf (frame_at side.now) (lists_at side.now) (later_totals side.now from totals.now) (target_of target) result }
     ensures room { result.start + class_count (lists_at side.now) result.round ≤ length result.values.now }
 {
     let form = side.form;
     match target {
         Target::Point(point) => Row {
             round: form.round_at(point),
-            values: &table.totals,
-            start: table.starts[point as usize] as usize,
+            values: totals,
+            start: starts[point as usize] as usize - from,
         },
         Target::End(end) => {
             let round = form.end_round(end);
@@ -64,6 +67,6 @@ pub(crate) fn read_worths<'r>(
     ensures long { at.now.count ≤ length result.now }
 {
     let target = at.side.form.target_at(at.point, choice);
-    let below = row_to(&at.side, at.table, target, row, numbers);
+    let below = row_to(&at.side, at.starts, at.from, at.later, target, row, numbers);
     read_row(at.side.form, below, at.round, worths)
 }

@@ -1,42 +1,80 @@
 //! The walk: class totals and first best moves at all points, by backward induction.
 
-ghost use Rattle.std.specs.Prelude.{◌+◌, ◌<◌, IfOk};
+ghost use Rattle.std.specs.Prelude.{◌≡◌, ◌+◌, ◌<◌, ◌≤◌, ℕ, IfOk, drop, length, slice_index};
 ghost use Rattle.gs_model.specs.Frame.{point_count};
-ghost use Rattle.gs_best.specs.{ClassTotals.{AreBestTotals}, Places.{AreBestFrom}, Rooms.{HasRows, IsLaid}, Filled.{IsFilled}};
+ghost use Rattle.gs_best.specs.{ClassTotals.{AreBestTotals, total_worth}, Places.{AreBestFrom}, Rooms.{HasRows, IsLaid}, Filled.{IsFilled}};
+ghost use Rattle.gs_best.specs.{LaterRows.{AreLaidFrom}, Rows.{IsMerged}, Spots.{frame_on, lists_on, totals_on}, Tables.{start_of}};
 ghost use Rattle.gs_best.specs.Sides.{frame_at, lists_at, picks_at, plan_at, totals_at};
 
-use crate::copying::{copy_moves, copy_values};
 use crate::merging::merge_moves;
 use crate::side::Side;
 use crate::spot::Spot;
 use crate::tables::{Scratch, Table, room_for};
 use std::alloc::{AllocError, Global};
 
-/// Sets the class totals and first best moves of a point, from the totals of all later points.
-fn fill_point(side: &Side<'_>, point: u32, table: &mut Table, scratch: &mut Scratch)
-    requires point { point < point_count (frame_at side.now) }
-    requires laid { IsLaid (frame_at side.now) (lists_at side.now) table.old }
-    requires rows { HasRows (frame_at side.now) (lists_at side.now) scratch.old }
-    requires later { AreBestFrom (frame_at side.now) (lists_at side.now) side.now.player (totals_at side.now table.old.totals.items)
-        (picks_at side.now table.old.picks.items) (point + 1) }
-    ensures laid { IsLaid (frame_at side.now) (lists_at side.now) table.new }
-    ensures rows { HasRows (frame_at side.now) (lists_at side.now) scratch.new }
-    ensures known { AreBestFrom (frame_at side.now) (lists_at side.now) side.now.player (totals_at side.now table.new.totals.items)
-        (picks_at side.now table.new.picks.items) point }
+/// Writes the class totals of a point, and the first best moves if the player chooses there, into the lists from the place `start` on. `totals` ends with
+/// the point's row.
+fn fill_row(
+    at: &Spot<'_, '_>,
+    start: usize,
+    totals: &mut [i128],
+    picks: &mut [u8],
+    scratch: &mut Scratch,
+)
+    requires start { start + at.now.count ≡ length totals.old }
+    requires picks { length totals.old ≤ length picks.old }
+    requires rows { HasRows (frame_on at.now) (lists_on at.now) scratch.old }
+    ensures rows { HasRows (frame_on at.now) (lists_on at.now) scratch.new }
+    ensures merged { IsMerged (frame_on at.now) (lists_on at.now) at.now.side.player
+        (total_worth (frame_on at.now) (lists_on at.now) (totals_on at.now)) at.now.point (drop start totals.new) (drop start picks.new) }
+    ensures behind { (i : ℕ) → length totals.old ≤ i → slice_index picks.new i ≡ slice_index picks.old i }
 {
-    let at = Spot::of(side, table, point);
-    let start = at.start;
-    let count = at.count;
+    let end = totals.len();
+    let best = &mut totals[start..end];
+    let moves = &mut picks[start..end];
     merge_moves(
-        &at,
+        at,
         &mut scratch.ends,
         &mut scratch.numbers,
         &mut scratch.worths,
-        &mut scratch.best,
-        &mut scratch.moves,
+        best,
+        moves,
     );
-    copy_values(&scratch.best, start, count, &mut table.totals);
-    copy_moves(&scratch.moves, start, count, &mut table.picks);
+}
+
+/// Sets the class totals and first best moves of a point, from the totals of all later points. `starts` has for each point the place of its first total.
+fn fill_point(
+    side: &Side<'_>,
+    starts: &[u32],
+    point: u32,
+    totals: &mut [i128],
+    picks: &mut [u8],
+    scratch: &mut Scratch,
+)
+    requires point { point < point_count (frame_at side.now) }
+    requires laid { AreLaidFrom (frame_at side.now) (lists_at side.now) starts.now 0 totals.old }
+    requires picks { start_of (frame_at side.now) (lists_at side.now) (point_count (frame_at side.now)) ≤ length picks.old }
+    requires rows { HasRows (frame_at side.now) (lists_at side.now) scratch.old }
+    requires later { AreBestFrom (frame_at side.now) (lists_at side.now) side.now.player (totals_at side.now totals.old) (picks_at side.now picks.old)
+        (point + 1) }
+    ensures rows { HasRows (frame_at side.now) (lists_at side.now) scratch.new }
+    ensures known { AreBestFrom (frame_at side.now) (lists_at side.now) side.now.player (totals_at side.now totals.new) (picks_at side.now picks.new) point }
+{
+    let round = side.form.round_at(point);
+    let start = starts[point as usize] as usize;
+    let count = side.form.class_total(round) as usize;
+    let from = start + count;
+    let (front, later) = totals.split_at_mut(from);
+    let at = Spot {
+        side: *side,
+        starts,
+        from,
+        later,
+        point,
+        round,
+        count,
+    };
+    fill_row(&at, start, front, picks, scratch);
 }
 
 /// Sets the class totals and first best moves of all points against the other's plan, the last point first.
@@ -50,7 +88,14 @@ pub fn backward(side: &Side<'_>, table: &mut Table, scratch: &mut Scratch)
         (picks_at side.now table.new.picks.items) }
 {
     for point in (0..side.form.point_total()).rev() {
-        fill_point(side, point, table, scratch);
+        fill_point(
+            side,
+            &table.starts,
+            point,
+            &mut table.totals,
+            &mut table.picks,
+            scratch,
+        );
     }
 }
 

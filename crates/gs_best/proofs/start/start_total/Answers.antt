@@ -1,12 +1,13 @@
-use Rattle.std.proofs.{Common.{◌≡◌, sym, ap, ◌∙◌, subst, arith, of_z}, lemmas.Int.{to_z-of_z}}
+use Rattle.std.proofs.{Common.{◌≡◌, [], sym, ap, ◌∙◌, subst, arith, of_z}, lemmas.Int.{to_z-of_z}}
 use Rattle.std.specs.Prelude.{unsigned_abs}
 use mir.Syntax.{w128}
 use mir.Val.{to_z}
+use Rattle.gs_game.specs.Seen.{target_of}
 use Rattle.gs_model.specs.{Classes.{classes_in}, Frame.{round_of}, FrameFacts.{IsInside}, Sums.{sum_z}}
 use Rattle.gs_seq.specs.Plans.{lifted}
 use Rattle.gs_seq.proofs.Forms.{form_classes, form_in_range, form_lossless}
 use Rattle.gs_best.specs.{ClassTotals.{IsBestTotal}, LaterRows.{IsRowOf}, Sides.{frame_at, lists_at, picks_at, plan_at, totals_at}}
-use Rattle.gs_best.proofs.{TotalAnswers.{best_total}, Players.{walked}, Starts.{in_round, round_small, row_small, row_sum}}
+use Rattle.gs_best.proofs.{TotalAnswers.{best_total}, Players.{walked}, SpotRows.{laid_from}, Starts.{in_round, round_small, row_small, row_sum}}
 use Rattle.gs_best.proofs.start.start_total.Goals.{After-row_to-totals, After-sum_between}
 use Rattle.gs_best.proofs.start.start_total.Goals as goal
 
@@ -14,7 +15,14 @@ held : (c : After-row_to-totals) → let s = c.args.side.now in
     IsRowOf (frame_at s) (lists_at s) (totals_at s c.args.table.now.totals.items) (frame_at s).start c.row_to-totals.result
 held c = let s = c.args.side.now in
     subst (λ t. IsRowOf (frame_at s) (lists_at s) (totals_at s c.args.table.now.totals.items) t c.row_to-totals.result) c.start_at-target.ensures
-    c.row_to-totals.ensures.held
+    (subst (λ l. IsRowOf (frame_at s) (lists_at s) (totals_at s l) (target_of c.start_at-target.result) c.row_to-totals.result) c.deref-2.ensures.value
+    c.row_to-totals.ensures.held)
+
+pub row_to-totals-requires-clause-laid : goal.row_to-totals-requires-clause-laid
+row_to-totals-requires-clause-laid c =
+    let s = c.args.side.now in
+    laid_from (frame_at s) (lists_at s) c.args.table.now c.requires.laid c.deref.result.now c.deref.ensures.value []
+    c.deref-2.result.now c.deref-2.ensures.value
 
 pub row_to-totals-requires-clause-inside : goal.row_to-totals-requires-clause-inside
 row_to-totals-requires-clause-inside c = subst (IsInside (frame_at c.args.side.now)) (sym c.start_at-target.ensures) (walked c.args.side.now).start_in

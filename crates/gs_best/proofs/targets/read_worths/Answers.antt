@@ -1,7 +1,7 @@
 use Rattle.std.proofs.Common.{subst, sym, arith}
 use Rattle.gs_model.specs.{Frame.{leads_to}, FrameFacts.{IsInside}}
-use Rattle.gs_best.specs.{LaterRows.{IsRowOf}, Spots.{frame_on, lists_on, totals_on}}
-use Rattle.gs_best.proofs.{SpotRows.{later_row, some_at, worths_by}, Players.{walked}, targets.read_worths.Goals.{After-row_to-below}}
+use Rattle.gs_best.specs.{LaterRows.{IsLaidBehind, IsRowOf}, Spots.{frame_on, lists_on, totals_on}}
+use Rattle.gs_best.proofs.{SpotRows.{ahead_by, later_row, some_at, worths_by}, Players.{walked}, targets.read_worths.Goals.{After-row_to-below}}
 use Rattle.gs_best.proofs.targets.read_worths.Goals as goal
 
 held : (c : After-row_to-below) → let at = c.args.at.now in
@@ -13,6 +13,11 @@ pub row_to-below-requires-clause-inside : goal.row_to-below-requires-clause-insi
 row_to-below-requires-clause-inside c =
     let at = c.args.at.now in
     subst (IsInside (frame_on at)) (sym c.target_at-target.ensures) ((walked at.side).inside at.point c.args.choice at.inside c.requires.choice)
+
+pub row_to-below-requires-clause-behind : goal.row_to-below-requires-clause-behind
+row_to-below-requires-clause-behind c =
+    let at = c.args.at.now in
+    subst (IsLaidBehind (frame_on at) (lists_on at) at.from) (sym c.target_at-target.ensures) (ahead_by at c.args.choice c.requires.choice)
 
 pub read_row-requires-clause-some : goal.read_row-requires-clause-some
 read_row-requires-clause-some c = some_at c.args.at.now

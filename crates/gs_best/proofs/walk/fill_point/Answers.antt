@@ -1,128 +1,96 @@
-use Rattle.std.proofs.Common.{◌≡◌, ℕ, ◌-◌, ◌≤◌, ◌++◌, List, length, drop, take, sym, ap, ◌∙◌, subst, arith}
-use Rattle.std.specs.{Prelude.{ℤ, pos}, Vec.{with_items}}
-use Rattle.gs_model.specs.Frame.{last_round, point_count}
-use Rattle.gs_best.specs.{ClassTotals.{total_worth}, Rows.{IsCopied, IsMerged}, Places.{AreBestFrom}, Rooms.{HasRows, IsWide}, Tables.{classes_at}}
-use Rattle.gs_best.specs.Sides.{frame_at, lists_at, picks_at, totals_at}
-use Rattle.gs_best.proofs.{Placed.{IsRow}, Slices.{kept_through, long_through, through, wide_through}, Modest.{known_modest}}
-use Rattle.gs_best.proofs.{SpotRows.{carried, row_of, wide_of}, Steps.{step_best}, walk.fill_point.Goals.{After-of-at, After-merge_moves, After-copy_values}}
+use Rattle.std.proofs.{Common.{◌≡◌, ◌+◌, ◌++◌, List, drop, length, get_or, ap, ◌∙◌, subst, arith}, lemmas.List.{length-append}}
+use Rattle.std.specs.Prelude.{ℤ, pos}
+use Rattle.gs_model.specs.{Classes.{class_count}, Frame.{point_count}}
+use Rattle.gs_best.specs.{LaterRows.{AreModestFrom}, Places.{AreBestFrom}}
+use Rattle.gs_best.specs.{Sides.{frame_at, lists_at, picks_at, plan_at, totals_at}, Tables.{classes_at, start_of}}
+use Rattle.gs_seq.proofs.SlotLaws.{sum_range_le}
+use Rattle.gs_best.proofs.{BackSteps.{set_before, set_front}, Behind.{merged_later, modest_later}, Modest.{known_modest}, Placed.{IsRow, row_next}}
+use Rattle.gs_best.proofs.{Players.{walked}, Stepping.{step_best}}
+use Rattle.gs_best.proofs.walk.fill_point.Goals.{After-class_total-count, After-fill_row}
 use Rattle.gs_best.proofs.walk.fill_point.Goals as goal
 
-row : (c : After-of-at) → let s = c.args.side.now in IsRow (classes_at (frame_at s) (lists_at s)) (point_count (frame_at s)) c.args.point c.of-at.result.start
-    c.of-at.result.count
-row c = row_of c.args.side.now c.args.table.now c.args.point c.of-at.result c.of-at.ensures.side c.of-at.ensures.table c.of-at.ensures.point
-
-merged : (c : After-merge_moves) → let s = c.args.side.now in let t = c.args.table.now in
-    IsMerged (frame_at s) (lists_at s) s.player (total_worth (frame_at s) (lists_at s) (totals_at s t.totals.items)) c.args.point c.merge_moves.new.best
-    c.merge_moves.new.moves
-merged c = carried c.args.side.now c.args.table.now c.args.point c.of-at.result c.of-at.ensures.side c.of-at.ensures.table c.of-at.ensures.point
-    (λ s t q. IsMerged (frame_at s) (lists_at s) s.player (total_worth (frame_at s) (lists_at s) (totals_at s t.totals.items)) q c.merge_moves.new.best
-    c.merge_moves.new.moves) c.merge_moves.ensures
-
-pub of-at-requires-clause-modest : goal.of-at-requires-clause-modest
-of-at-requires-clause-modest c = known_modest c.args.side.now c.args.table.now.totals.items (picks_at c.args.side.now c.args.table.now.picks.items) _
-    c.requires.later.followed
-
--- the rows as they were written
-best_is : (c : After-merge_moves) → let old = c.args.scratch.now.best in take old.len (c.merge_moves.new.best ++ drop (length c.merge_moves.new.best) old.items)
-    ≡ c.merge_moves.new.best
-best_is c = through c.args.scratch.now.best _ c.merge_moves.new.best c.deref_mut-4.ensures.value c.merge_moves.auto.best
-
-moves_are : (c : After-merge_moves) → let old = c.args.scratch.now.moves in take old.len
-    (c.merge_moves.new.moves ++ drop (length c.merge_moves.new.moves) old.items) ≡ c.merge_moves.new.moves
-moves_are c = through c.args.scratch.now.moves _ c.merge_moves.new.moves c.deref_mut-5.ensures.value c.merge_moves.auto.moves
-
-wide : (c : After-of-at) → (long : ℕ) → IsWide (frame_at c.args.side.now) (lists_at c.args.side.now) long → c.of-at.result.count ≤ long
-wide c = wide_of c.args.side.now c.args.table.now c.args.point c.of-at.result c.of-at.ensures.side c.of-at.ensures.table c.of-at.ensures.point
-
-copied : (c : After-copy_values) → IsCopied (pos 0) c.of-at.result.start c.of-at.result.count c.merge_moves.new.best c.args.table.now.totals.items
-    c.copy_values.new.values
-copied c = subst (λ l. IsCopied (pos 0) c.of-at.result.start c.of-at.result.count l c.args.table.now.totals.items c.copy_values.new.values)
-    (c.deref.ensures.value ∙ through c.args.scratch.now.best _ c.merge_moves.new.best c.deref_mut-4.ensures.value c.merge_moves.auto.best)
-    (subst (λ l. IsCopied (pos 0) c.of-at.result.start c.of-at.result.count c.deref.result.now l c.copy_values.new.values) c.deref_mut-6.ensures.value
-    c.copy_values.ensures)
-
-pub merge_moves-requires-clause-best : goal.merge_moves-requires-clause-best
-merge_moves-requires-clause-best c = omega (
-  arith,
-  wide (goal.at.merge_moves-requires-clause-best c).After-of-at _ c.requires.rows.best,
-  ap (λ (l : List ℤ). length l) c.deref_mut-4.ensures.value,
-)
-
-pub merge_moves-requires-clause-moves : goal.merge_moves-requires-clause-moves
-merge_moves-requires-clause-moves c = omega (
-  arith,
-  wide (goal.at.merge_moves-requires-clause-moves c).After-of-at _ c.requires.rows.moves,
-  ap (λ (l : List ℕ). length l) c.deref_mut-5.ensures.value,
-)
-
-pub copy_values-requires-clause-row : goal.copy_values-requires-clause-row
-copy_values-requires-clause-row c =
-    let w = wide (goal.at.copy_values-requires-clause-row c).After-of-at _ c.requires.rows.best in
-    subst (λ (l : List ℤ). c.of-at.result.count ≤ length l) (sym c.deref.ensures.value)
-    (long_through c.args.scratch.now.best _ c.merge_moves.new.best c.deref_mut-4.ensures.value c.merge_moves.auto.best c.of-at.result.count w)
-
-pub copy_values-requires-clause-room : goal.copy_values-requires-clause-room
-copy_values-requires-clause-room c = omega (
-  arith,
-  (row (goal.at.copy_values-requires-clause-room c).After-of-at).within,
-  c.requires.laid.holds.totals,
-  ap (λ (l : List ℤ). length l) c.deref_mut-6.ensures.value,
-)
-
-pub copy_moves-requires-clause-row : goal.copy_moves-requires-clause-row
-copy_moves-requires-clause-row c =
-    let w = wide (goal.at.copy_moves-requires-clause-row c).After-of-at _ c.requires.rows.moves in
-    subst (λ (l : List ℕ). c.of-at.result.count ≤ length l) (sym c.deref-2.ensures.value)
-    (long_through c.args.scratch.now.moves _ c.merge_moves.new.moves c.deref_mut-5.ensures.value c.merge_moves.auto.moves c.of-at.result.count w)
-
-pub copy_moves-requires-clause-room : goal.copy_moves-requires-clause-room
-copy_moves-requires-clause-room c = omega (
-  arith,
-  (row (goal.at.copy_moves-requires-clause-room c).After-of-at).within,
-  c.requires.laid.holds.picks,
-  ap (λ (l : List ℕ). length l) c.deref_mut-7.ensures.value,
-)
-
-scratch_rows : (c : After-merge_moves) → HasRows (frame_at c.args.side.now) (lists_at c.args.side.now) (record {
-  numbers = with_items c.args.scratch.now.numbers c.merge_moves.new.numbers;
-  ends = with_items c.args.scratch.now.ends c.merge_moves.new.row;
-  worths = with_items c.args.scratch.now.worths c.merge_moves.new.worths;
-  best = with_items c.args.scratch.now.best c.merge_moves.new.best;
-  moves = with_items c.args.scratch.now.moves c.merge_moves.new.moves;
-})
-scratch_rows c =
-    let old = c.args.scratch.now in
-    let all = last_round (frame_at c.args.side.now) in
-    let lists = lists_at c.args.side.now in
+row : (c : After-class_total-count) → let s = c.args.side.now in
+    IsRow (classes_at (frame_at s) (lists_at s)) (point_count (frame_at s)) c.args.point (get_or c.args.starts.now c.args.point 0) c.class_total-count.result
+row c =
+    let s = c.args.side.now in
+    let q = c.args.point in
+    let width = classes_at (frame_at s) (lists_at s) in
+    let start = c.requires.laid.places q c.requires.point in
+    let count = c.class_total-count.ensures.value ∙ ap (class_count (lists_at s)) c.round_at-round.ensures.value in
     record {
-      numbers = wide_through old.numbers _ c.merge_moves.new.numbers c.deref_mut-2.ensures.value c.merge_moves.auto.numbers all lists c.requires.rows.numbers;
-      ends = wide_through old.ends _ c.merge_moves.new.row c.deref_mut.ensures.value c.merge_moves.auto.row all lists c.requires.rows.ends;
-      worths = wide_through old.worths _ c.merge_moves.new.worths c.deref_mut-3.ensures.value c.merge_moves.auto.worths (all - 1) lists c.requires.rows.worths;
-      best = wide_through old.best _ c.merge_moves.new.best c.deref_mut-4.ensures.value c.merge_moves.auto.best all lists c.requires.rows.best;
-      moves = wide_through old.moves _ c.merge_moves.new.moves c.deref_mut-5.ensures.value c.merge_moves.auto.moves all lists c.requires.rows.moves;
+      start_is = start;
+      count_is = count;
+      within = omega (
+        arith,
+        row_next width q _ _ start count,
+        sum_range_le width (q + 1) (point_count (frame_at s)) (omega (arith, c.requires.point)),
+      );
     }
 
-pub returns-clause-rows : goal.returns-clause-rows
-returns-clause-rows c = scratch_rows (goal.at.returns-clause-rows c).After-merge_moves
+next : (c : After-class_total-count) → let s = c.args.side.now in
+    get_or c.args.starts.now c.args.point 0 + c.class_total-count.result ≡ start_of (frame_at s) (lists_at s) (c.args.point + 1)
+next c = let s = c.args.side.now in
+    let r = row c in row_next (classes_at (frame_at s) (lists_at s)) c.args.point _ _ r.start_is r.count_is
+
+pub split_at_mut-front-requires : goal.split_at_mut-front-requires
+split_at_mut-front-requires c = omega (arith, (row (goal.at.split_at_mut-front-requires c).After-class_total-count).within, c.requires.laid.room)
+
+pub invariant_of-at : goal.invariant_of-at
+invariant_of-at c =
+    let at = goal.at.invariant_of-at c in
+    let s = c.args.side.now in
+    let f = frame_at s in
+    let lists = lists_at s in
+    let front = c.split_at_mut-front.result.0.now in
+    let later = c.split_at_mut-front.result.1.now in
+    let whole = c.split_at_mut-front.ensures.value in
+    let long = c.split_at_mut-front.ensures.front_len in
+    let from = next at.After-class_total-count in
+    record {
+      inside = c.requires.point;
+      round_is = c.round_at-round.ensures.value;
+      from_is = from;
+      count_is = (row at.After-class_total-count).count_is;
+      laid = record {
+        long = c.requires.laid.long;
+        places = c.requires.laid.places;
+        room = omega (arith, c.requires.laid.room, ap (λ (l : List ℤ). length l) whole, length-append front later, long);
+      };
+      modest = modest_later s c.args.point _ front later long from (subst (λ l. AreModestFrom f lists (totals_at s l) (c.args.point + 1)) whole
+          (known_modest s c.args.totals.now (picks_at s c.args.picks.now) (c.args.point + 1) c.requires.later.followed));
+    }
+
+pub fill_row-requires-clause-start : goal.fill_row-requires-clause-start
+fill_row-requires-clause-start c = omega (arith, c.split_at_mut-front.ensures.front_len)
+
+pub fill_row-requires-clause-picks : goal.fill_row-requires-clause-picks
+fill_row-requires-clause-picks c =
+    omega (arith, c.split_at_mut-front.ensures.front_len, (row (goal.at.fill_row-requires-clause-picks c).After-class_total-count).within, c.requires.picks)
+
+known : (c : After-fill_row) → let s = c.args.side.now in
+    AreBestFrom (frame_at s) (lists_at s) s.player (totals_at s (c.fill_row.new.totals ++ c.split_at_mut-front.result.1.now))
+    (picks_at s c.fill_row.new.picks) c.args.point
+known c =
+    let s = c.args.side.now in
+    let f = frame_at s in
+    let lists = lists_at s in
+    let q = c.args.point in
+    let at = (goal.at.After-fill_row c).After-class_total-count in
+    let r = row at in
+    let start = get_or c.args.starts.now q 0 in
+    let from = start + c.class_total-count.result in
+    let whole = c.split_at_mut-front.ensures.value in
+    let front = c.split_at_mut-front.result.0.now in
+    let later = c.split_at_mut-front.result.1.now in
+    let long = c.split_at_mut-front.ensures.front_len in
+    let totals = c.fill_row.new.totals in
+    let picks = c.fill_row.new.picks in
+    step_best f lists s.player (walked s) (plan_at s) q c.requires.point (drop start totals) (front ++ later) (totals ++ later)
+    (set_front (pos 0) f lists q start from r.start_is (next at) front totals later long (c.fill_row.auto.totals ∙ long))
+    (drop start picks) c.args.picks.now picks
+    (set_before 0 f lists q start from r.start_is (next at) c.args.picks.now picks (λ i l. c.fill_row.ensures.behind i (omega (arith, l, long))))
+    (merged_later s q from front later long (next at) c.requires.point (drop start totals) (drop start picks) c.fill_row.ensures.merged)
+    (subst (λ l. AreBestFrom f lists s.player (totals_at s l) (picks_at s c.args.picks.now) (q + 1)) whole c.requires.later)
 
 pub returns-clause-known : goal.returns-clause-known
-returns-clause-known c =
-    let s = c.args.side.now in
-    let at = goal.at.returns-clause-known c in
-    let r = row at.After-of-at in
-    let start = c.of-at.result.start in
-    let count = c.of-at.result.count in
-    let old = c.args.table.now in
-    let values = c.copy_values.new.values in
-    let new_picks = c.copy_moves.new.moves in
-    let moved : IsCopied 0 start count c.merge_moves.new.moves old.picks.items new_picks = subst (λ l. IsCopied 0 start count l old.picks.items new_picks)
-    (c.deref-2.ensures.value ∙ moves_are at.After-merge_moves)
-    (subst (λ l. IsCopied 0 start count c.deref-2.result.now l new_picks) c.deref_mut-7.ensures.value c.copy_moves.ensures) in
-    let step =
-    step_best s c.args.point start count c.requires.point r.start_is r.count_is old.totals.items values c.merge_moves.new.best c.merge_moves.new.moves
-    old.picks.items (copied at.After-copy_values) new_picks moved
-    (merged at.After-merge_moves) c.requires.later in
-    kept_through old.totals _ values c.deref_mut-6.ensures.value c.copy_values.auto.values
-    (λ l. AreBestFrom (frame_at s) (lists_at s) s.player (totals_at s l) (picks_at s (with_items old.picks new_picks).items) c.args.point)
-    (kept_through old.picks _ new_picks c.deref_mut-7.ensures.value c.copy_moves.auto.moves
-    (λ p. AreBestFrom (frame_at s) (lists_at s) s.player (totals_at s values) (picks_at s p) c.args.point) step)
+returns-clause-known c = known (goal.at.returns-clause-known c).After-fill_row

@@ -1,6 +1,6 @@
 use Rattle.std.proofs.{Common.{◌≡◌, ◌+◌, ◌++◌, ◌∷◌, [], List, ℕ, map, ap, sym, ◌∙◌, arith}, lemmas.List.{map-append}}
 use Rattle.std.specs.List.{range_with_len}
-use Rattle.gs_model.specs.Classes.{class_count}
+use Rattle.gs_model.specs.{Classes.{class_count}, Frame.{last_round}}
 use Rattle.gs_model.proofs.Sparse.{range_append}
 use Rattle.gs_seq.specs.Abstracts.{abstract_frame, lists_of}
 use Rattle.gs_best.specs.{Rounds.{size_of}, Sizes.{points_of_round}, declared.work.RoundSize.{RoundSize}}
@@ -23,3 +23,12 @@ loop-before-preserved c =
     ap (map size_of) c.in_ok-push.ensures.items ∙ map-append size_of c.loop-before.sizes.items (new ∷ []) ∙ ap behind c.loop-before.invariant ∙ ap join here
     ∙ sym (map-append size (range_with_len 1 i) (range_with_len (1 + i) 1))
     ∙ ap (map size) (sym (range_append 1 i 1))
+
+pub returns : goal.returns
+returns c =
+    let f = abstract_frame c.args.form.now in
+    let lists = lists_of c.args.form.now in
+    let size : ℕ → ℕ × ℕ = λ j. (points_of_round f j, class_count lists j) in
+    let all : c.loop-before.before ≡ last_round f =
+    omega (arith, c.loop-before-test.false, c.loop-before.auto.before-end, c.round_total-rounds.ensures.value) in
+    c.loop-before.invariant ∙ ap (λ n. map size (range_with_len 1 n)) all
