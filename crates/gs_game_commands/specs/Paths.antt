@@ -4,7 +4,7 @@ use Rattle.gs_file.specs.Reading.{FileGame}
 use Rattle.gs_frac.specs.Texts.{number_line}
 use Rattle.gs_model.specs.Classes.{ClassLists}
 use Rattle.gs_reply.specs.Replies.{Reply, Prints, Refuses}
-use Rattle.gs_simplex.specs.{Program.{Listing}, declared.program.Program.{Program}, Trace.{IsTrace}, declared.answer.PathTrace.{PathTrace}}
+use Rattle.gs_simplex.specs.{Program.{Listing}, declared.program.Program.{Program}, Trace.{IsShown}, declared.answer.Path.{Path}}
 use Rattle.gs_simplex.specs.declared.answer.Turn.{Turn}
 use Rattle.gs_solve.specs.Solutions.{IsGamePath, most_pivots}
 use Rattle.gs_strategy.specs.{Values.{file_frame}, Views.{parts_of}}
@@ -20,7 +20,7 @@ turn_lines before [] = []
 turn_lines before (turn ∷ turns) = turn_line (before + 1) turn ++ turn_lines (before + 1) turns
 
 -- the lines of a path: the aim's value after the opening, each pivot, and the aim's value at the end
-abbrev pub path_text : PathTrace → List ℕ
+abbrev pub path_text : Path → List ℕ
 path_text t = number_line (codes "opening") (parts_of t.start) ++ turn_lines 0 t.turns.items ++ number_line (codes "aim") (parts_of t.aim)
 
 -- the text is the lines of the path of the game's linear program
@@ -28,9 +28,9 @@ pub record IsPathShown (g : FileGame) (lists : ClassLists) (text : List ℕ) : T
   pub program : Program
   pub opening : Listing
   pub path : IsGamePath (file_frame g) lists program opening
-  pub trace : PathTrace
-  pub shown : IsTrace program opening most_pivots trace
-  pub printed : text ≡ path_text trace
+  pub found : Path
+  pub shown : IsShown program opening most_pivots found
+  pub printed : text ≡ path_text found
 
 -- what `path` says of a game over classes
 abbrev pub ShowsPath : FileGame → ClassLists → Reply → Type 0

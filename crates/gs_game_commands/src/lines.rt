@@ -4,7 +4,7 @@ ghost use Rattle.std.specs.Prelude.{◌≡◌, ◌+◌, ◌++◌, IfOk, OnOk, st
 ghost use Rattle.gs_game_commands.specs.Paths.{path_text as text_of_path, turn_line, turn_lines};
 
 use gs_frac::push_line;
-use gs_simplex::{PathTrace, Turn};
+use gs_simplex::{Path, Turn};
 use std::alloc::{AllocError, Global};
 use std::fmt::Write;
 
@@ -27,7 +27,7 @@ fn push_turns(text: &mut String, turns: &[Turn]) -> Result<(), AllocError>
 }
 
 /// Returns the lines of a path: the aim's value (the objective) after the opening, each pivot, and the aim's value at the end.
-pub(crate) fn path_text(alloc: Global, path: &PathTrace) -> Result<String, AllocError>
+pub(crate) fn path_text(alloc: Global, path: &Path) -> Result<String, AllocError>
     ensures { IfOk result (λ text. string_bytes text ≡ text_of_path path.now) }
 {
     let mut text = String::new(alloc);

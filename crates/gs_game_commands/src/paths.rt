@@ -9,8 +9,8 @@ ghost use Rattle.gs_solve.specs.{Solutions.{IsGamePath, IsProgramStop, most_pivo
 use crate::lines::path_text;
 use gs_reply::{Limit, Overflow, Refusal, Stop};
 use gs_seq::Abstract;
-use gs_simplex::{Program, Stop as PathStop, trace};
-use gs_solve::{MOST_PIVOTS, SolveStop, program};
+use gs_simplex::{Stop as PathStop, sparse};
+use gs_solve::{MOST_PIVOTS, SolveStop, sparse_program};
 use std::alloc::Global;
 
 // Returns why a game's linear program is not made.
@@ -28,7 +28,7 @@ fn unmade(form: &Abstract, stop: SolveStop) -> Stop
 }
 
 // Returns why a game's path stops before its end. The table of its linear program is within the limit, and the path is never unbounded.
-fn unended(form: &Abstract, p: &Program, opening: &[(u32, u32)], stop: PathStop) -> Stop
+fn unended(form: &Abstract, p: &sparse::Program, opening: &[(u32, u32)], stop: PathStop) -> Stop
     requires path { IsGamePath (abstract_frame form.now) (lists_of form.now) p.now opening.now }
     requires stop { IsStop p.now opening.now most_pivots stop }
     requires met { IsMet stop }
@@ -56,11 +56,11 @@ fn unended(form: &Abstract, p: &Program, opening: &[(u32, u32)], stop: PathStop)
 pub(crate) fn shown(alloc: Global, form: &Abstract) -> Result<Vec<u8>, Stop>
     ensures { Answers (ShowsPath (file_game_in form.now) (lists_of form.now)) result }
 {
-    let (p, opening) = match program(alloc, form) {
+    let (p, opening) = match sparse_program(alloc, form) {
         Ok(made) => made,
         Err(stop) => return Err(unmade(form, stop)),
     };
-    match trace(alloc, &p, &opening, MOST_PIVOTS) {
+    match p.path(alloc, &opening, MOST_PIVOTS) {
         Ok(path) => Ok(path_text(alloc, &path)?.into_bytes()),
         Err(stop) => Err(unended(form, &p, &opening, stop)),
     }

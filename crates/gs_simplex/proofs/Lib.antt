@@ -2,6 +2,7 @@ pub mod Ring
 pub mod Sums
 pub mod Rows
 pub mod Pivot
+pub mod Spread
 pub mod Solutions
 pub mod Turns
 pub mod Circle

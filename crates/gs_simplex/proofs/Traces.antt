@@ -2,13 +2,13 @@
 use Rattle.std.proofs.Common.{◌≡◌, ℕ, ◌+◌, ◌<◌, ◌≤◌, List, Vec, Global, inl, inr, [], ◌∷◌, ◌++◌, length, slice_index, slice_index_or, slice_set, suc, ℤ, ◌*ℤ◌}
 use Rattle.std.proofs.Common.{refl, sym, ap}
 use Rattle.std.proofs.Common.{subst, ◌∙◌, arith}
-use Rattle.std.proofs.{lemmas.Bool.{cases_lt}, lemmas.List.{length_push, get_or_append_left, get_or_push, get_or_default}}
+use Rattle.std.proofs.{lemmas.Bool.{cases_lt}, lemmas.List.{length_push, get_or_append_left, get_or_push, get_or_default, take_all}}
 use Rattle.std.specs.{Prelude.{Contains}, List.{HoldsAt}}
 use Rattle.gs_frac.specs.declared.value.Fraction.{Fraction}
 use Rattle.gs_simplex.specs.{declared.program.Program.{Program}, Program.{Listing, ColListed, IsPairList, IsRegularList, IsOpening}}
-use Rattle.gs_simplex.specs.{Path.{States, IsPath, NoneEnters, ends, Stops, PathStops}, declared.answer.Turn.{Turn}, declared.answer.PathTrace.{PathTrace}}
+use Rattle.gs_simplex.specs.{Path.{States, IsPath, NoneEnters, ends, Stops, PathStops}, declared.answer.{Turn.{Turn}, Path.{Path}, PathTrace.{PathTrace}}}
 use Rattle.gs_simplex.specs.{Table.{table_aim, IsTable}, State.{IsSoFar, IsTurnAt}, Answer.{IsSmallTable}}
-use Rattle.gs_simplex.specs.Trace.{IsBasis, IsBasisAt, IsAimValue, IsTurnOf, IsTrace, IsReachedBy, AreTurns, AreBases}
+use Rattle.gs_simplex.specs.Trace.{IsBasis, IsBasisAt, IsAimValue, IsTurnOf, IsShown, IsTrace, IsReachedBy, AreTurns, AreBases, without_bases}
 use Rattle.gs_simplex.proofs.{Opening.{path_trail, bases_differ}, PairLists.{pair_list_is_list, pivot_keeps_regular_lem, taken_is_regular_lem}}
 use Rattle.gs_simplex.proofs.Agree.{Agree, lists_same, paths_agree}
 use Rattle.gs_simplex.proofs.{Multiples.{down_fraction}, Paths.{turn_same_as, ends_stops}}
@@ -150,11 +150,11 @@ module _ (p : Program) (o : Listing) (n : ℕ) (s : States) (ok : IsOpening p o)
       (same_columns (s.lists (length o + k)) (s.lists (length o + h)) a b u w e)
 
 -- ---- all together
-pub trace_of : (p : Program) (o : Listing) (limit n : ℕ) (t : PathTrace) (l0 l : Listing) (xs0 xs : List ℤ) → IsSmallTable p → IsOpening p o
+pub shown_of : (p : Program) (o : Listing) (limit n : ℕ) (t : Path) (l0 l : Listing) (xs0 xs : List ℤ) → IsSmallTable p → IsOpening p o
     → IsSoFar p o (length o) l0 xs0 → IsAimValue p (table_aim p xs0) t.start
     → IsSoFar p o (length o + n) l xs → IsTable p xs → n ≤ limit → NoneEnters p l (table_aim p xs) → IsAimValue p (table_aim p xs) t.aim
-    → length t.turns.items ≡ n → AreTurns p o t.turns.items → AreBases p o (n + 1) t.bases.items → IsTrace p o limit t
-trace_of p o limit n t l0 l xs0 xs small ok u0 start u table within none aim long turns noted =
+    → length t.turns.items ≡ n → AreTurns p o t.turns.items → IsShown p o limit t
+shown_of p o limit n t l0 l xs0 xs small ok u0 start u table within none aim long turns =
     let stop : PathStops p o limit (ends n l) = ends_stops n u table within none in
     let s = stop.stops.1 in
     let W : ℕ → Type 0 = λ x. Stops p o limit x s (ends n l) in
@@ -172,17 +172,36 @@ trace_of p o limit n t l0 l xs0 xs small ok u0 start u table within none aim lon
         record {
           turns_long = long;
           turns = λ k h d. turn_is p o n s ok path k h (slice_index_or t.turns.items k d) (turns k (omega arith) d);
-          bases_long = noted.long;
-          bases = λ k h d. basis_is p o n s ok path k h (slice_index_or t.bases.items k d).items (noted.bases k (omega arith) d);
           start = subst V (sym q) (value_is p o n s ok path 0 (omega arith) l0 xs0 t.start (subst S q u0) start);
           aim = value_is p o n s ok path n (omega arith) l xs t.aim u aim;
         },
       );
+    }
+
+-- the opening is reached before any pivot
+pub shown_begins : (p : Program) (o : Listing) (limit : ℕ) (t : Path) → IsShown p o limit t → IsReachedBy p o 0 o
+shown_begins p o limit t h =
+    let s = h.path.2 in let path = h.path.3.0.path in
+    let opened : s.lists (length o + 0) ≡ o = path.opens (length o + 0) (omega arith) (omega arith) ∙ take_all (length o + 0) o (omega arith) in
+    (s, path_front p o (length o + h.path.0) (length o + 0) s path (omega arith), opened)
+
+-- the pivots that are shown are the first ones
+pub shown_turns : (p : Program) (o : Listing) (limit : ℕ) (t : Path) → IsShown p o limit t → AreTurns p o t.turns.items
+shown_turns p o limit t h k inside d =
+    let (n, l, s, stops, u) = h.path in let here = u.turns k (omega (arith, u.turns_long)) d in
+    (s, path_front p o (length o + n) (length o + k + 1) s stops.0.path (omega (arith, u.turns_long)), here.0, here.1)
+
+pub with_bases : (p : Program) (o : Listing) (limit : ℕ) (t : PathTrace) → IsOpening p o → IsShown p o limit (without_bases t)
+    → AreBases p o (length t.turns.items + 1) t.bases.items → IsTrace p o limit t
+with_bases p o limit t ok shown noted =
+    let (n, l, s, stops, u) = shown.path in let path = stops.0.path in let long = u.turns_long in
+    let found = λ (k : ℕ) (d : Vec ℕ Global). (slice_index_or t.bases.items k d).items in
+    let basis = λ (k : ℕ) (h : k ≤ n) (d : Vec ℕ Global). basis_is p o n s ok path k h (found k d) (noted.bases k (omega arith) d) in
+    record {
+      small = shown.small;
+      path = (n, l, s, stops, record { shown = u; bases_long = omega (arith, noted.long); bases = basis });
       bases_differ = λ k h kh hl x y e.
-          let hn : h ≤ n = omega (arith, noted.long) in
-          bases_apart p o n s ok path k h kh hn (slice_index_or t.bases.items k x).items (slice_index_or t.bases.items h y).items
-          (basis_is p o n s ok path k (omega arith) (slice_index_or t.bases.items k x).items (noted.bases k (omega arith) x))
-          (basis_is p o n s ok path h hn (slice_index_or t.bases.items h y).items (noted.bases h (omega arith) y)) e;
+          let hn : h ≤ n = omega (arith, noted.long) in bases_apart p o n s ok path k h kh hn (found k x) (found h y) (basis k (omega arith) x) (basis h hn y) e;
     }
 
 -- ---- the list after each pivot, made anew

@@ -1,5 +1,6 @@
 pub mod Sums
 pub mod Rows
+pub mod Parts
 pub mod Program
 pub mod Elimination
 pub mod Path

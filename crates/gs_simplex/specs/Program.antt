@@ -1,11 +1,10 @@
 -- A linear program in whole numbers, lists of basic pairs, and the rows that a list determines.
-use Rattle.std.specs.Prelude.{◌≡◌, ◌≢◌, ℕ, ◌+◌, ◌<◌, ◌≤◌, false, List, [], length, map, take, slice_index_or, ℤ, pos, ◌*ℤ◌, ◌<ℤ◌, ◌≤ℤ◌, IsTrue, Contains}
-use Rattle.std.specs.Vec.{vec_items}
+use Rattle.std.specs.Prelude.{◌≡◌, ◌≢◌, ℕ, ◌+◌, ◌<◌, ◌≤◌, false, List, [], length, take, slice_index_or, ℤ, pos, ◌*ℤ◌, ◌<ℤ◌, ◌≤ℤ◌, IsTrue, Contains}
 use Rattle.gs_simplex.specs.{declared.program.Program.{Program}, Sums.{sum_to}, Rows.{IsUnlistedRow, IsListedRow, IsAimRow, IsPrimitive, IsRegular, IsNarrow}}
 
 -- the rows as lists, each with its right side at the end
 abbrev pub rows_of : Program → List (List ℤ)
-rows_of p = map vec_items p.numbers.items
+rows_of p = p.parts.numbers
 
 -- the number in row i and column j, both from 0; column `cols` is the right side
 abbrev pub number : Program → ℕ → ℕ → ℤ
@@ -13,18 +12,18 @@ number p i j = slice_index_or (slice_index_or (rows_of p) i []) j (pos 0)
 
 -- the aim's number in column j
 abbrev pub aim_of : Program → ℕ → ℤ
-aim_of p j = slice_index_or p.aim.items j (pos 0)
+aim_of p j = slice_index_or p.parts.aim j (pos 0)
 
 -- column j may be below 0
 abbrev pub IsFree : Program → ℕ → Type 0
-IsFree p j = IsTrue (slice_index_or p.free.items j false)
+IsFree p j = IsTrue (slice_index_or p.parts.free j false)
 
 -- all lengths agree with the numbers of rows and columns, and each number is narrow
 pub record IsShaped (p : Program) : Type 0 where
-  pub rows : length p.numbers.items ≡ p.rows
+  pub rows : length p.parts.numbers ≡ p.rows
   pub row : (i : ℕ) → i < p.rows → length (slice_index_or (rows_of p) i []) ≡ p.cols + 1
-  pub free : length p.free.items ≡ p.cols
-  pub aim : length p.aim.items ≡ p.cols
+  pub free : length p.parts.free ≡ p.cols
+  pub aim : length p.parts.aim ≡ p.cols
   pub narrow : (i j : ℕ) → i < p.rows → j ≤ p.cols → IsNarrow (number p i j)
   pub narrow_aim : (j : ℕ) → j < p.cols → IsNarrow (aim_of p j)
 

@@ -3,7 +3,7 @@ use Rattle.std.specs.{Prelude.{◌≡◌, ℕ, ◌+◌, ◌<◌, ◌≤◌, ◌^
 use Rattle.std.specs.declared.alloc.Global.{Global}
 use Rattle.gs_frac.specs.declared.value.Fraction.{Fraction}
 use Rattle.gs_simplex.specs.{declared.program.Program.{Program}, Program.{Listing, ColListed, IsShaped, IsOpening}, Path.{States, IsPath, ends, Stops}}
-use Rattle.gs_simplex.specs.{declared.answer.Turn.{Turn}, declared.answer.PathTrace.{PathTrace}, declared.answer.Stop.{Stop}}
+use Rattle.gs_simplex.specs.{declared.answer.Turn.{Turn}, declared.answer.Path.{Path}, declared.answer.PathTrace.{PathTrace}, declared.answer.Stop.{Stop}}
 use Rattle.gs_simplex.specs.{declared.path.Position.{Position}, declared.table.Table.{Table}, State.{IsState, IsTurnAt}, Answer.{IsSmallTable, IsStop}}
 
 -- the listed columns, counted from 1, in rising order
@@ -20,14 +20,32 @@ IsAimValue p aim f = f.num *ℤ aim (p.cols + 1) ≡ aim p.cols *ℤ f.den
 abbrev pub IsTurnOf : States → ℕ → Turn → Type 0
 IsTurnOf s t turn = (turn.enter ≡ s.entering t + 1) × (turn.leave ≡ s.leaving t + 1)
 
--- the trace of the path s, which has n pivots
-pub record IsTraceOf (p : Program) (o : Listing) (n : ℕ) (s : States) (t : PathTrace) : Type 0 where
+-- what is shown of the path s, which has n pivots
+pub record IsShownOf (p : Program) (o : Listing) (n : ℕ) (s : States) (t : Path) : Type 0 where
   pub turns_long : length t.turns.items ≡ n
   pub turns : (k : ℕ) → k < n → HoldsAt (IsTurnOf s (length o + k)) t.turns.items k
-  pub bases_long : length t.bases.items ≡ n + 1
-  pub bases : (k : ℕ) → k ≤ n → HoldsAt (λ b. IsBasis (s.lists (length o + k)) b.items) t.bases.items k
   pub start : IsAimValue p (s.aim (length o)) t.start
   pub aim : IsAimValue p (s.aim (length o + n)) t.aim
+
+-- the path ends, and t shows it
+pub record IsShown (p : Program) (o : Listing) (limit : ℕ) (t : Path) : Type 0 where
+  pub small : IsSmallTable p
+  pub path : (n : ℕ) × (l : Listing) × (s : States) × (Stops p o limit (length o + n) s (ends n l)) × IsShownOf p o n s t
+
+-- what `path` answers
+abbrev pub IsPathAnswer : Program → Listing → ℕ → Result Path Stop → Type 0
+IsPathAnswer p o limit (Ok t) = IsShown p o limit t
+IsPathAnswer p o limit (Err s) = IsStop p o limit s
+
+-- a trace without its bases
+abbrev pub without_bases : PathTrace → Path
+without_bases t = record { start = t.start; turns = t.turns; aim = t.aim }
+
+-- the trace of the path s, which has n pivots
+pub record IsTraceOf (p : Program) (o : Listing) (n : ℕ) (s : States) (t : PathTrace) : Type 0 where
+  pub shown : IsShownOf p o n s (without_bases t)
+  pub bases_long : length t.bases.items ≡ n + 1
+  pub bases : (k : ℕ) → k ≤ n → HoldsAt (λ b. IsBasis (s.lists (length o + k)) b.items) t.bases.items k
 
 -- the path ends, t is its trace, and no two of its bases are equal
 pub record IsTrace (p : Program) (o : Listing) (limit : ℕ) (t : PathTrace) : Type 0 where

@@ -25,6 +25,17 @@ pub struct Turn {
     pub leave: u32,
 }
 
+/// The path from the end of the opening on, without its bases.
+#[derive(Debug, Drop)]
+pub struct Path {
+    /// The aim's value after the opening.
+    pub start: Fraction,
+    /// The pivots.
+    pub turns: Vec<Turn>,
+    /// The aim's value at the end.
+    pub aim: Fraction,
+}
+
 /// The path from the end of the opening on.
 #[derive(Debug, Drop)]
 pub struct PathTrace {

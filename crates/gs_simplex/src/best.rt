@@ -7,7 +7,7 @@ ghost use Rattle.gs_simplex.specs.{Values.{IsRowIndex, IsColumnValue, CanValue},
 
 use crate::answer::Best;
 use crate::choice::{number_at, pair_at};
-use crate::program::Program;
+use crate::sparse::Program;
 use gs_frac::Fraction;
 use std::alloc::{AllocError, Global};
 

@@ -6,7 +6,7 @@ ghost use Rattle.std.specs.Option.{ForSome};
 ghost use Rattle.gs_simplex.specs.{Rows.{IsNarrow}, Program.{IsShaped, IsPairList, IsFree}, Numbers.{at, cell, AreNarrowNumbers}, Table.{table_rows, IsTable}};
 ghost use Rattle.gs_simplex.specs.Choice.{IsEntering, Before, NotAfter, IsNarrowRatio, IsRatioAt, IsBetter, IsLeaving};
 
-use crate::program::Program;
+use crate::sparse::Program;
 
 /// A row that may leave: its place in the list, its listed column, counted from 0, its right side, and its number in the entering column.
 #[derive(Clone, Copy)]
@@ -70,7 +70,8 @@ pub(crate) fn is_free(p: &Program, j: usize) -> bool
     requires column { j < p.now.cols }
     ensures { IsTrue result ↔ IsFree p.now j }
 {
-    p.free[j]
+    let parts = &p.parts;
+    parts.free[j]
 }
 
 // Returns the row and the column at a place of the list, both counted from 0.

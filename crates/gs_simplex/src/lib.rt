@@ -16,6 +16,7 @@ mod live;
 mod path;
 mod program;
 mod row;
+pub mod sparse;
 mod start;
 mod table;
 mod tracing;
@@ -23,12 +24,9 @@ mod tracing;
 ghost use Rattle.std.specs.Prelude.{◌<◌, ◌^◌};
 ghost use Rattle.gs_simplex.specs.{Program.{IsShaped, IsOpening}, Answer.{IsAnswer}, Trace.{IsTraceAnswer}};
 
-pub use answer::{Best, PathTrace, Stop, Turn};
-use best::best;
-use path::{Position, begin, follow};
+pub use answer::{Best, Path, PathTrace, Stop, Turn};
 pub use program::Program;
 use std::alloc::Global;
-use tracing::{aim_value, bases_of, follow_noting};
 
 /// The most numbers that a table may have, counted as `(rows + 1) * (cols + 1)`.
 pub const MOST_NUMBERS: u64 = 1_048_576;
@@ -45,12 +43,7 @@ pub fn run(alloc: Global, p: &Program, opening: &[(u32, u32)], limit: u32) -> Re
     requires opens { IsOpening p.now opening.now }
     ensures { IsAnswer p.now opening.now limit result }
 {
-    let Position {
-        mut basis,
-        mut table,
-    } = begin(alloc, p, opening)?;
-    let pivots = follow(p, opening, limit, &mut basis, &mut table)?;
-    Ok(best(alloc, p, &table.numbers, basis, pivots)?)
+    sparse::Program::of(alloc, p)?.run(alloc, opening, limit)
 }
 
 /// Returns the path's pivots and bases, with the aim's value after the opening and at the end, or what stopped the path first. It stops as [`run`] does.
@@ -67,21 +60,7 @@ pub fn trace(
     requires opens { IsOpening p.now opening.now }
     ensures { IsTraceAnswer p.now opening.now limit result }
 {
-    let Position {
-        mut basis,
-        mut table,
-    } = begin(alloc, p, opening)?;
-    let start = aim_value(p, &table.numbers);
-    let mut turns = Vec::new(alloc);
-    follow_noting(p, opening, limit, &mut basis, &mut table, &mut turns)?;
-    let aim = aim_value(p, &table.numbers);
-    let bases = bases_of(alloc, p, opening, &turns)?;
-    Ok(PathTrace {
-        start,
-        turns,
-        bases,
-        aim,
-    })
+    sparse::Program::of(alloc, p)?.trace(alloc, opening, limit)
 }
 
 #[cfg(test)]

@@ -6,7 +6,7 @@ ghost use Rattle.gs_simplex.specs.{Live.{HasPlaces, IsLiveRow, AreColumnPlaces, 
 
 use crate::best::mark_rows;
 use crate::choice::pair_at;
-use crate::program::Program;
+use crate::sparse::Program;
 use std::alloc::{AllocError, Global};
 
 /// Scratch lists for the columns of a pivot.

@@ -9,7 +9,7 @@ ghost use Rattle.gs_simplex.specs.Trace.{IsBegun, CanFollow};
 use crate::MOST_NUMBERS;
 use crate::answer::{Stop, Turn};
 use crate::choice::{entering, leaving, pair_at};
-use crate::program::Program;
+use crate::sparse::Program;
 use crate::table::{Table, WideCell};
 use std::alloc::Global;
 

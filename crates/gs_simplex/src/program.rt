@@ -1,5 +1,7 @@
 //! A linear program.
 
+use std::marker::Model;
+
 /// A linear program in whole numbers. The aim, or objective, is maximised, the rows hold as equations, and a column that is not free is at least 0.
 #[derive(Debug, Drop)]
 pub struct Program {
@@ -13,4 +15,18 @@ pub struct Program {
     pub numbers: Vec<Vec<i64>>,
     /// For each column, its number in the aim.
     pub aim: Vec<i64>,
+}
+
+impl Model for Program {
+    ghost use Rattle.std.specs.Prelude.{map};
+    ghost use Rattle.std.specs.Vec.{vec_items};
+    ghost use Rattle.gs_simplex.specs.declared.sparse.Program.{Program as SparseProgram};
+
+    ghost Value = { SparseProgram };
+
+    ghost view = { λ p. record {
+      rows = p.rows;
+      cols = p.cols;
+      parts = record { free = p.free.items; numbers = map vec_items p.numbers.items; aim = p.aim.items };
+    } };
 }

@@ -4,8 +4,8 @@ ghost use Rattle.std.specs.Prelude.{◌≡◌, ℕ, ◌+◌, ◌-◌, ◌*◌, �
 ghost use Rattle.gs_simplex.specs.{Program.{IsShaped}, Numbers.{at, cell, AreNarrowNumbers, IsDivided}, State.{IsRaw, IsStart}};
 
 use crate::live::{Live, fill};
-use crate::program::Program;
 use crate::row::{WIDE, divide_row};
+use crate::sparse::Program;
 use crate::table::Table;
 use std::alloc::{AllocError, Global};
 
@@ -26,10 +26,11 @@ fn raw_numbers(alloc: Global, p: &Program) -> Result<Vec<i64>, AllocError>
 {
     let width = p.cols as usize + 2;
     let mut numbers = Vec::with_capacity(alloc, (p.rows as usize + 1) * width)?;
-    for row in &p.numbers {
-        push_row(&mut numbers, row, 0)?;
+    let parts = &p.parts;
+    for row in &parts.numbers {
+        push_row(&mut numbers, &row.dense(alloc)?, 0)?;
     }
-    push_row(&mut numbers, &p.aim, 0)?;
+    push_row(&mut numbers, &parts.aim.dense(alloc)?, 0)?;
     numbers.push(1)?;
     Ok(numbers)
 }

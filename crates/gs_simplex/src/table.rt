@@ -5,8 +5,8 @@ ghost use Rattle.gs_simplex.specs.{Program.{IsPairList}, Live.{IsSupport, IsLive
 ghost use Rattle.gs_simplex.specs.Numbers.{at, cell, AreNarrowNumbers, IsAtMost, AreTops, IsMixed, IsReducedTo, IsTurned, IsLeadOf, IsCleared, IsClearedTo};
 
 use crate::live::{Live, fill};
-use crate::program::Program;
 use crate::row::{Lead, WideNumber, divide_row, greatest, reduce_row};
+use crate::sparse::Program;
 
 /// A number that is not narrow, with its row and column, from 0.
 #[derive(Clone, Copy)]

@@ -61,13 +61,13 @@ fn is_new(opening: &[(u32, u32)], step: usize) -> bool
     true
 }
 
-fn in_range(p: &Program, pair: (u32, u32)) -> bool
+fn in_range(p: &sparse::Program, pair: (u32, u32)) -> bool
     ensures { IsTrue result → (0 < pair.0) × (pair.0 ≤ p.now.rows) × (0 < pair.1) × (pair.1 ≤ p.now.cols) }
 {
     0 < pair.0 && pair.0 <= p.rows && 0 < pair.1 && pair.1 <= p.cols
 }
 
-fn can_take(p: &Program, numbers: &[i64], opening: &[(u32, u32)], step: usize) -> bool
+fn can_take(p: &sparse::Program, numbers: &[i64], opening: &[(u32, u32)], step: usize) -> bool
     requires inside { step < length opening.now }
     requires table { IsTable p.now numbers.now }
     requires rows { IsTableOf p.now (take step opening.now) numbers.now }
@@ -86,7 +86,7 @@ fn can_take(p: &Program, numbers: &[i64], opening: &[(u32, u32)], step: usize) -
     true
 }
 
-fn take_all(p: &Program, opening: &[(u32, u32)], table: &mut Table) -> bool
+fn take_all(p: &sparse::Program, opening: &[(u32, u32)], table: &mut Table) -> bool
     requires small_rows { p.now.rows < 2 ^ 31 }
     requires small_cols { p.now.cols < 2 ^ 31 }
     requires start { IsStart p.now table.old }
@@ -126,7 +126,7 @@ fn names_column(opening: &[(u32, u32)], column: u32) -> bool
     false
 }
 
-fn names_all_rows(p: &Program, opening: &[(u32, u32)]) -> bool
+fn names_all_rows(p: &sparse::Program, opening: &[(u32, u32)]) -> bool
     requires small_rows { p.now.rows < 2 ^ 31 }
     ensures { IsTrue result →
         (i : ℕ) → i < p.now.rows → (k : ℕ) × (k < length opening.now) × ((slice_index_or opening.now k (0, 0)).0 ≡ i + 1) }
@@ -139,7 +139,7 @@ fn names_all_rows(p: &Program, opening: &[(u32, u32)]) -> bool
     true
 }
 
-fn names_free_columns(p: &Program, opening: &[(u32, u32)]) -> bool
+fn names_free_columns(p: &sparse::Program, opening: &[(u32, u32)]) -> bool
     requires small_cols { p.now.cols < 2 ^ 31 }
     requires shaped { IsShaped p.now }
     ensures { IsTrue result →
@@ -154,7 +154,7 @@ fn names_free_columns(p: &Program, opening: &[(u32, u32)]) -> bool
     true
 }
 
-fn has_feasible_sides(p: &Program, numbers: &[i64], opening: &[(u32, u32)]) -> bool
+fn has_feasible_sides(p: &sparse::Program, numbers: &[i64], opening: &[(u32, u32)]) -> bool
     requires shaped { IsShaped p.now }
     requires table { IsTable p.now numbers.now }
     requires pairs { IsPairList p.now opening.now }
@@ -169,16 +169,14 @@ fn has_feasible_sides(p: &Program, numbers: &[i64], opening: &[(u32, u32)]) -> b
     true
 }
 
-// Returns whether `run` may be called.
-fn meets(alloc: Global, p: &Program, opening: &[(u32, u32)]) -> Result<bool, AllocError>
+// Returns whether the list is an opening of the program.
+fn opens(alloc: Global, p: &sparse::Program, opening: &[(u32, u32)]) -> Result<bool, AllocError>
     requires small_rows { p.now.rows < 2 ^ 31 }
     requires small_cols { p.now.cols < 2 ^ 31 }
+    requires shaped { IsShaped p.now }
     requires small { IsSmallTable p.now }
-    ensures { IfOk result (λ b. IsTrue b → IsShaped p.now × IsOpening p.now opening.now) }
+    ensures { IfOk result (λ b. IsTrue b → IsOpening p.now opening.now) }
 {
-    if !is_shaped(p) {
-        return Ok(false);
-    }
     let mut table = Table::start(alloc, p)?;
     if !take_all(p, opening, &mut table) {
         return Ok(false);
@@ -196,6 +194,19 @@ fn meets(alloc: Global, p: &Program, opening: &[(u32, u32)]) -> Result<bool, All
         return Ok(false);
     }
     Ok(true)
+}
+
+// Returns whether `run` may be called.
+fn meets(alloc: Global, p: &Program, opening: &[(u32, u32)]) -> Result<bool, AllocError>
+    requires small_rows { p.now.rows < 2 ^ 31 }
+    requires small_cols { p.now.cols < 2 ^ 31 }
+    requires small { IsSmallTable p.now }
+    ensures { IfOk result (λ b. IsTrue b → IsShaped p.now × IsOpening p.now opening.now) }
+{
+    if !is_shaped(p) {
+        return Ok(false);
+    }
+    opens(alloc, &sparse::Program::of(alloc, p)?, opening)
 }
 
 // ---- the answers of programs whose path is known

@@ -8,7 +8,7 @@ use crate::answer::{Stop, Turn};
 use crate::best::listed_rows;
 use crate::choice::number_at;
 use crate::path::step;
-use crate::program::Program;
+use crate::sparse::Program;
 use crate::table::Table;
 use gs_frac::Fraction;
 use std::alloc::{AllocError, Global};

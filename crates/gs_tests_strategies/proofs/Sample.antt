@@ -1,7 +1,6 @@
 -- The program of two rows whose first step has a wide number is well shaped, and its two pairs are an opening.
-use Rattle.std.proofs.Common.{◌≡◌, ℕ, zero, suc, ◌+◌, ◌<◌, ◌⊎◌, inl, inr, List, [], ◌∷◌, Bool, false, IsTrue, length, vec_items, slice_index_or, take, ℤ, pos}
+use Rattle.std.proofs.Common.{◌≡◌, ℕ, zero, suc, ◌+◌, ◌<◌, ◌⊎◌, inl, inr, List, [], ◌∷◌, Bool, false, IsTrue, length, slice_index_or, take, ℤ, pos}
 use Rattle.std.proofs.Common.{negsuc, ◌+ℤ◌, ◌*ℤ◌, ◌≤ℤ◌, refl, sym, ap, subst, ◌∙◌, arith}
-use Rattle.std.proofs.lemmas.List.{length-map}
 use Rattle.gs_simplex.specs.{declared.program.Program.{Program}, Sums.{sum_to}, Rows.{IsNarrow, IsUnlistedRow}}
 use Rattle.gs_simplex.specs.Program.{number, IsFree, IsShaped, Listing, IsListed, RowListed, ColListed, CanTake, IsOpening}
 use Rattle.gs_simplex.proofs.{Ring.{linear}, Solutions.{only_at, only_at_same, only_at_other, program_row}}
@@ -50,7 +49,7 @@ row_length (suc (suc i)) h = absurd (omega arith)
 
 pub sample_shaped : (p : Program) → IsWideSample p → IsShaped p
 sample_shaped p s = record {
-  rows = sym (length-map p.numbers.items vec_items) ∙ ap length s.numbers ∙ sym s.rows;
+  rows = ap length s.numbers ∙ sym s.rows;
   row = λ i h. ap (λ (x : List (List ℤ)). length (slice_index_or x i [])) s.numbers ∙ row_length i (omega (arith, s.rows))
       ∙ (let e : 3 ≡ p.cols + 1 = omega (arith, s.cols) in e);
   free = ap length s.free ∙ sym s.cols;

@@ -7,15 +7,15 @@ pub record IsWideSample (p : Program) : Type 0 where
   pub rows : p.rows ≡ 2
   pub cols : p.cols ≡ 2
   pub numbers : rows_of p ≡ (pos 2305843009213693951 ∷ pos 3 ∷ pos 1 ∷ []) ∷ (pos 2305843009213693950 ∷ pos 5 ∷ pos 1 ∷ []) ∷ []
-  pub free : p.free.items ≡ false ∷ false ∷ []
-  pub aim : p.aim.items ≡ pos 0 ∷ pos 0 ∷ []
+  pub free : p.parts.free ≡ false ∷ false ∷ []
+  pub aim : p.parts.aim ≡ pos 0 ∷ pos 0 ∷ []
 
 -- a program with no row and this many columns, none of them free or in the aim
 pub record IsRowless (count : ℕ) (p : Program) : Type 0 where
   pub rows : p.rows ≡ 0
   pub cols : p.cols ≡ count
-  pub numbers : p.numbers.items ≡ []
-  pub free_long : length p.free.items ≡ count
-  pub free : (j : ℕ) → slice_index_or p.free.items j false ≡ false
-  pub aim_long : length p.aim.items ≡ count
-  pub aim : (j : ℕ) → slice_index_or p.aim.items j (pos 0) ≡ pos 0
+  pub numbers : p.parts.numbers ≡ []
+  pub free_long : length p.parts.free ≡ count
+  pub free : (j : ℕ) → slice_index_or p.parts.free j false ≡ false
+  pub aim_long : length p.parts.aim ≡ count
+  pub aim : (j : ℕ) → slice_index_or p.parts.aim j (pos 0) ≡ pos 0

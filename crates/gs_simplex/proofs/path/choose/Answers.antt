@@ -1,4 +1,5 @@
-use Rattle.std.proofs.Common.{◌+◌, ◌-◌, ◌*◌, refl}
+use Rattle.std.proofs.Common.{◌+◌, ◌-◌, ◌*◌, refl, arith}
+use Rattle.std.proofs.lemmas.Grind.{elements}
 use Rattle.gs_simplex.proofs.Paths.{none_enters_from, enters_from}
 use Rattle.gs_simplex.proofs.path.choose.Goals as goal
 
@@ -20,3 +21,6 @@ returns-in-None c =
       enters_from (p.rows * (p.cols + 2) + p.cols - p.rows * (p.cols + 2)) refl c.requires.table c.args.basis.now c.in-Some.column c.requires.rows w.0 w.1 w.2,
       c.in-None.ensures,
     )
+
+pub entering-requires : goal.entering-requires
+entering-requires c = grind (arith, elements)

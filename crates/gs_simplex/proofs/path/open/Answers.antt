@@ -1,4 +1,5 @@
 use Rattle.std.proofs.Common.{◌+◌, sym, subst, arith}
+use Rattle.std.proofs.lemmas.Grind.{elements}
 use Rattle.gs_simplex.specs.{declared.answer.Stop.{Stop}, Table.{HasTops, IsTableAfter, IsWideAfter}, Answer.{IsStop}}
 use Rattle.gs_simplex.proofs.Paths.{rows_of_so_far, so_far_start, none_of, if_none, open_nonzero, open_wide, open_pairs, open_next, opening_pairs, empty_pairs}
 use Rattle.gs_simplex.proofs.path.open.Goals as goal
@@ -58,3 +59,6 @@ loop-step-preserved c =
       pairs = open_pairs r k c.requires.opens c.loop-step-test.true c.pair_at-row.ensures.pair v.table v.so_far (t + 1) (omega (arith, c.loop-step-test.true));
       so_far = open_next r k c.requires.opens c.loop-step-test.true c.pair_at-row.ensures.pair v.table v.so_far new a;
     }
+
+pub returns : goal.returns
+returns c = grind (arith, elements)

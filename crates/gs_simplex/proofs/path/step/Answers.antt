@@ -71,3 +71,6 @@ returns-in_default c =
       pivot = turn_at c.args.made q (c.pair_at-leaving.result.0) (c.pair_at-leaving.result.1) c.requires.opens v.pairs v.so_far f.0 f.1
           c.pair_at-leaving.ensures.pair n.2;
     }
+
+pub returns-in-Ends : goal.returns-in-Ends
+returns-in-Ends c = grind arith

@@ -1,8 +1,9 @@
-use Rattle.std.proofs.Common.{◌≡◌, inl, inr, ℕ, ◌+◌, ◌-◌, ◌*◌, ◌<◌, ◌≤◌, List, [], ◌∷◌, ◌++◌, ℤ, pos, length, map, Vec, vec_items, Global, slice_index_or, sym}
+use Rattle.std.proofs.Common.{◌≡◌, inl, inr, ℕ, ◌+◌, ◌-◌, ◌*◌, ◌<◌, ◌≤◌, List, [], ◌∷◌, ◌++◌, ℤ, pos, length, slice_index_or, sym}
 use Rattle.std.proofs.Common.{ap, subst, ◌∙◌, arith}
-use Rattle.std.proofs.{lemmas.Bool.{cases_eq}, lemmas.List.{get_or_append_left, get_or-append_right, length-append}}
-use Rattle.gs_simplex.specs.{declared.program.Program.{Program}, Program.{number, aim_of, rows_of, IsShaped}, Numbers.{at, cell}, State.{IsRaw}}
-use Rattle.gs_simplex.proofs.Places.{row_inside, vec_at}
+use Rattle.std.proofs.{lemmas.Bool.{cases_eq}, lemmas.List.{get_or_append_left, get_or-append_right, get_or_default, length-append}}
+use Rattle.gs_simplex.specs.{declared.program.Program.{Program}, Program.{number, aim_of, rows_of, IsShaped}}
+use Rattle.gs_simplex.specs.{Numbers.{at, cell}, Parts.{PartLists}, State.{IsRaw}}
+use Rattle.gs_simplex.proofs.Places.{row_inside}
 use Rattle.gs_simplex.proofs.start.raw_numbers.Goals as goal
 
 -- rows with one more behind them
@@ -58,7 +59,7 @@ module _ (p : Program) (xs row ys : List ℤ) (n : ℕ) (nm : n < p.rows) (shape
 
 -- the aim's row at the end
 module _ (p : Program) (xs row ys zs : List ℤ) (shaped : IsShaped p) (is : ys ≡ xs ++ row ++ (pos 0 ∷ [])) (end : zs ≡ ys ++ (pos 1 ∷ []))
-    (long : length xs ≡ p.rows * (p.cols + 2)) (here : row ≡ p.aim.items)
+    (long : length xs ≡ p.rows * (p.cols + 2)) (here : row ≡ p.parts.aim)
     (rows : (i j : ℕ) → i < p.rows → j ≤ p.cols → cell xs (p.cols + 2) i j ≡ number p i j)
     (zero : (i : ℕ) → i < p.rows → cell xs (p.cols + 2) i (p.cols + 1) ≡ pos 0) where
   aim_long : length row ≡ p.cols
@@ -109,13 +110,14 @@ module _ (p : Program) (xs row ys zs : List ℤ) (shaped : IsShaped p) (is : ys 
 
 pub loop-row-preserved : goal.loop-row-preserved
 loop-row-preserved c =
-    let p = c.args.p.now in let xs = c.loop-row.numbers.items in let row = c.deref.result.now in let ys = c.push_row.new.numbers.items in let n =
-    c.loop-row.row-index in
-    let v = c.loop-row.invariant in
-    let nm : n < p.rows = omega (arith, c.requires.shaped.rows, ap length c.deref-row-items.ensures.value, c.loop-row-test.true) in
+    let p = c.args.p.now in let xs = c.loop-row.numbers.items in let row = c.deref.result.now in let ys = c.push_row.new.numbers.items in
+    let n = c.loop-row.row-index in let v = c.loop-row.invariant in
+    let same = c.deref-row-items.ensures.value ∙ ap (λ (x : PartLists). x.numbers) c.parts.view_is in
+    let nm : n < p.rows = omega (arith, c.requires.shaped.rows, ap length same, c.loop-row-test.true) in
     let here : row ≡ slice_index_or (rows_of p) n [] =
-    c.deref.ensures.value ∙ vec_at c.deref-row-items.result.now n c.row-item.result (omega (arith, c.loop-row-test.true)) c.row-item.is
-    ∙ ap (λ (t : List (Vec ℤ Global)). slice_index_or (map vec_items t) n []) c.deref-row-items.ensures.value in
+    c.deref.ensures.value ∙ c.in_ok-dense.ensures ∙ c.row-item.is
+    ∙ get_or_default c.deref-row-items.result.now n c.row-item.result [] (omega (arith, c.loop-row-test.true))
+    ∙ ap (λ (t : List (List ℤ)). slice_index_or t n []) same in
     record {
       long = next_long p xs row ys n nm c.requires.shaped c.in_ok-push_row.ensures v.long here v.rows v.zero;
       rows = next_rows p xs row ys n nm c.requires.shaped c.in_ok-push_row.ensures v.long here v.rows v.zero;
@@ -125,13 +127,10 @@ loop-row-preserved c =
 pub returns : goal.returns
 returns c =
     let p = c.args.p.now in let v = c.loop-row.invariant in
-    let all : c.loop-row.row-index ≡ p.rows = omega (
-      arith,
-      c.requires.shaped.rows,
-      ap length c.deref-row-items.ensures.value,
-      c.loop-row-test.false,
-      c.loop-row.auto.row-index-end,
-    ) in
+    let same = c.deref-row-items.ensures.value ∙ ap (λ (x : PartLists). x.numbers) c.parts.view_is in
+    let all : c.loop-row.row-index ≡ p.rows =
+    omega (arith, c.requires.shaped.rows, ap length same, c.loop-row-test.false, c.loop-row.auto.row-index-end) in
     raw_from p c.loop-row.numbers.items c.deref-2.result.now c.push_row-2.new.numbers.items c.push.new.self.items c.requires.shaped c.in_ok-push_row-2.ensures
-    c.in_ok-push.ensures.items (v.long ∙ ap (λ t. t * (p.cols + 2)) all) c.deref-2.ensures.value
+    c.in_ok-push.ensures.items (v.long ∙ ap (λ t. t * (p.cols + 2)) all)
+    (c.deref-2.ensures.value ∙ c.in_ok-dense-2.ensures ∙ ap (λ (x : PartLists). x.aim) c.parts.view_is)
     (λ i j h l. v.rows i j (omega arith) l) (λ i h. v.zero i (omega arith))

@@ -14,3 +14,6 @@ returns c =
     negated c.number_at-last.result c.from.result c.number_at-last.ensures.narrow c.from.ensures ∙ ap neg_ℤ c.number_at-last.ensures.value
     ∙ sym (flipped_at n X) in
     ap (λ t. f.num *ℤ t) (sym m) ∙ c.new.ensures ∙ ap (λ t. t *ℤ f.den) g
+
+pub new-requires-clause-positive : goal.new-requires-clause-positive
+new-requires-clause-positive c = grind arith

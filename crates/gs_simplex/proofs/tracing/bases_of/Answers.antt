@@ -58,3 +58,9 @@ loop-place-preserved c =
       bases = subst (λ (x : List (Vec ℕ Global)). AreBases p o (k + 1 + 1) x) (sym c.in_ok-push-2.ensures.items)
           (bases_more p o (k + 1) c.loop-place.bases.items columns v.bases (basis_at p o (k + 1) new columns.items more b));
     }
+
+pub returns : goal.returns
+returns c = grind arith
+
+pub replace-requires : goal.replace-requires
+replace-requires c = grind arith

@@ -15,3 +15,9 @@ loop-made-preserved c =
       turns = subst (λ (x : List Turn). AreTurns p o x) (sym items)
           (turns_more p o xs turn v.turns (subst (λ k. IsTurnAt p o (length o + k) turn) (sym v.long) w.pivot));
     }
+
+pub returns-in-None : goal.returns-in-None
+returns-in-None c = grind arith
+
+pub loop-made-init : goal.loop-made-init
+loop-made-init c = grind arith

@@ -1,5 +1,5 @@
 use Rattle.std.proofs.Common.{◌≡◌, ◌≢◌, IfNone, MatchOption, Option, Some, None, ◌⊎◌, inl, inr, ℕ, ◌+◌, ◌-◌, ◌*◌, ◌<◌, ◌≤◌, ℤ, pos, ◌<ℤ◌, List, ◌++◌, length}
-use Rattle.std.proofs.lemmas.Grind.{common_steps}
+use Rattle.std.proofs.lemmas.Grind.{common_steps, elements}
 use Rattle.std.proofs.Common.{slice_index, take, drop, sym, ap, subst, ◌∙◌, arith}
 use Rattle.std.proofs.{lemmas.List.{take_at}, lemmas.Bool.{cases_lt}}
 use Rattle.gs_simplex.specs.{declared.program.Program.{Program}, Rows.{IsNarrow}, Program.{Listing, IsPairList}, declared.table.WideCell.{WideCell}}
@@ -233,3 +233,6 @@ clear_column-requires-clause-room c = grind (arith, common_steps)
 
 pub way_back_following-self : goal.way_back_following-self
 way_back_following-self c = grind (arith, common_steps)
+
+pub clear_column-requires-clause-lead : goal.clear_column-requires-clause-lead
+clear_column-requires-clause-lead c = grind (arith, elements)

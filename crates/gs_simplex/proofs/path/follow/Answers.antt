@@ -1,0 +1,8 @@
+use Rattle.std.proofs.Common.{arith}
+use Rattle.gs_simplex.proofs.path.follow.Goals as goal
+
+pub returns-in-None : goal.returns-in-None
+returns-in-None c = grind arith
+
+pub loop-made-preserved : goal.loop-made-preserved
+loop-made-preserved c = grind arith
