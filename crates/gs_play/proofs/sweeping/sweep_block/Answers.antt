@@ -1,4 +1,4 @@
-use Rattle.std.proofs.Common.{ℕ, ◌-◌, ◌<◌, List, length, sym, subst, arith, Vec}
+use Rattle.std.proofs.Common.{ℕ, ◌-◌, ◌<◌, ◌≤◌, List, length, ap, sym, subst, arith, Vec}
 use Rattle.std.specs.declared.alloc.Global.{Global}
 use Rattle.gs_best.specs.Tables.{moves_of}
 use Rattle.gs_play.specs.DueTurns.{IsNoneDue}
@@ -33,6 +33,20 @@ pub sweep_row-requires-clause-below : goal.sweep_row-requires-clause-below
 sweep_row-requires-clause-below c =
     let at = (goal.at.sweep_row-requires-clause-below c).After-index-row in
     omega (arith, (has at).below, (row_of at).known.cell, c.loop-left-test.true)
+
+pub sweep_row-requires-clause-run : goal.sweep_row-requires-clause-run
+sweep_row-requires-clause-run c =
+    let at = (goal.at.sweep_row-requires-clause-run c).After-index-row in
+    omega (arith, (has at).from, (row_of at).known.cell, c.loop-left-test.true, c.max-first.ensures)
+
+pub past_due-left-requires-in-loop-left-clause-within : goal.past_due-left-requires-in-loop-left-clause-within
+past_due-left-requires-in-loop-left-clause-within c =
+    let at = (goal.at.past_due-left-requires-in-loop-left-clause-within c).After-index-row in
+    let run : c.max-first.result ≤ c.loop-left.left = omega (arith, (has at).from, (row_of at).known.cell, c.loop-left-test.true, c.max-first.ensures) in
+    let turns = ap (λ (xs : List ℕ). length xs) c.deref-in-loop-left.ensures.value in
+    let was = c.loop-left.invariant in
+    let is = c.sweep_row.ensures.room in
+    omega (arith, run, turns, was.few, was.room.totals, is.turns)
 
 pub loop-left-smaller : goal.loop-left-smaller
 loop-left-smaller c =

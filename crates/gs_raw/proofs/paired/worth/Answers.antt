@@ -1,15 +1,20 @@
-use Rattle.std.proofs.{Common.{pos, ◌*◌, sym, ap, ◌∙◌}, lemmas.Int.{to_z-of_z}}
+use Rattle.std.proofs.{Common.{pos, ◌*◌, ◌<◌, sym, ap, ◌∙◌, subst}, lemmas.Int.{to_z-of_z}}
 use Rattle.std.specs.Prelude.{◌*ℤ◌}
 use mir.Syntax.{w128}
 use Rattle.gs_best.specs.Judged.{parts}
 use Rattle.gs_game.specs.Games.{game_of}
 use Rattle.gs_lossless.specs.declared.checking.Lossless.{Lossless}
-use Rattle.gs_model.specs.Payoff.{hand_weight}
+use Rattle.gs_model.specs.{Frame.{signal_count}, Payoff.{hand_weight}}
 use Rattle.gs_model.proofs.Ranges.{deals_weigh}
 use Rattle.gs_seq.specs.{Abstracts.{game_in, abstract_frame, lists_of}, Games.{frame_in}, Plans.{lifted}}
 use Rattle.gs_tree.specs.declared.signals.Signals.{Signals}
 use Rattle.gs_raw.proofs.HandDeals.{no_weight}
 use Rattle.gs_raw.proofs.paired.worth.Goals as goal
+
+pub hand_weight-weight-requires-clause-signal : goal.hand_weight-weight-requires-clause-signal
+hand_weight-weight-requires-clause-signal c =
+    let held = c.signals-signals.ensures.held ∙ ap (λ (l : Lossless). l.signals.now) c.lossless.ensures in
+    subst (λ (s : Signals). c.args.signal < signal_count (frame_in s.game.now) 1) (sym held) c.requires
 
 pub paid_over-requires-clause-nothing : goal.paid_over-requires-clause-nothing
 paid_over-requires-clause-nothing c =

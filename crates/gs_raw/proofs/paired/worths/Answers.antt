@@ -1,7 +1,16 @@
 use Rattle.std.proofs.Common.{sym, subst, arith}
+use Rattle.gs_game.specs.Games.{game_of}
+use Rattle.gs_model.proofs.Walked.{last_round_of}
 use Rattle.gs_seq.specs.Abstracts.{abstract_frame, lists_of}
+use Rattle.gs_seq.proofs.Points.{playable}
 use Rattle.gs_raw.proofs.SignalPays.{HandsTo, hands_more, hands_none}
 use Rattle.gs_raw.proofs.paired.worths.Goals as goal
+
+pub signal_total-count-requires-clause-top : goal.signal_total-count-requires-clause-top
+signal_total-count-requires-clause-top c =
+    let g = c.args.side.now.form.now.lossless.now.signals.now.game.now in
+    let some = (playable g).some in
+    omega (arith, last_round_of (game_of g.game), some)
 
 pub loop-signal-init : goal.loop-signal-init
 loop-signal-init c =
