@@ -1,13 +1,14 @@
 -- What a run answered, and that it says some reply where nothing outside fails.
 use Rattle.std.proofs.Common.{◌≡◌, inl, inr, ℕ, ◌+◌, ◌≤◌, ◌++◌, true, false, Bool, List, length, Some, None, Option, Ok, Vec, refl, sym, ap, ◌∙◌, subst, arith}
-use Rattle.std.proofs.lemmas.List.{append-nil, length-append}
+use Rattle.std.proofs.{Common.{[]}, KnownBytes.{Consumes-nil}, lemmas.List.{append-nil, length-append}}
 use Rattle.std.specs.{Io.KnownBytes.{Consumes, IsAtEnd}, declared.alloc.Global.{Global}}
 use Rattle.gs_reply.specs.Refusals.{Refusal, Bad_game, Unlike_pair, Overflows, Many_pivots, Too_large, Bad_strategy, Wrong_number, Bad_query, Other_game}
 use Rattle.gs_reply.specs.Refusals.{Bad_certificate, line_of}
 use Rattle.gs_reply.specs.Replies.{Reply, Prints, Refuses}
 use Rattle.gs_words.specs.{Requests.{request_of}, Tasks.{Task, Shrink, Check, Make, Evaluate, Query, Upgrade, Certify, Verify, Solve, Play, Path, Judge, Duel}}
 use Rattle.gs_run.specs.{Asking.{Asks, reads}, Deciding.{Holds}, Endings.{EndsSo}, Statuses.{status_of}}
-use Rattle.gs_run.specs.Running.{Asked, Ends, Inputs, IsAnswered, IsRefused, NothingFailed, Quiet, ReadsInput, ReadsWhole, RunsTo, TellsLine, most_bytes}
+use Rattle.gs_run.specs.Running.{Asked, Ends, Inputs, IsAnswered, IsRefused, NothingFailed, Quiet, ReadsInput, ReadsWhole, RunsTo, TellsLine, TookInput}
+use Rattle.gs_run.specs.Running.{Writes, most_bytes, sinks}
 use Rattle.gs_run.specs.declared.status.Status.{Status}
 use Rattle.gs_run.specs.declared.status.Status.TheVariants as status
 
@@ -97,32 +98,54 @@ replied words old new status.TooLong runs task bytes asked h good =
     absurd (not_long task old new bytes runs.2.1.0 (ap reads (one_task words task runs.0 asked runs.1) ∙ runs.2.0) h runs.2.1.1 runs.2.1.2)
 replied words old new s runs task bytes asked h good = refused words task old new bytes s asked h runs
 
--- ---- refusals
+-- ---- answers that are written
 
--- a run that refuses its input ends with the status of the refusal
-pub refuses : (words : List (List ℕ)) (old new : Ends) (task : Task) (why : Refusal) → request_of words ≡ Some task → IsAnswered task old new (Refuses why)
-    → Quiet old new → TellsLine old new (line_of why) → RunsTo words old new (status_of why)
-refuses words old new task (Bad_game rule) asked a quiet told =
-    (task, asked, record { why = Bad_game rule; answered = a; status = refl; quiet = quiet; told = told })
-refuses words old new task (Unlike_pair round one two) asked a quiet told =
-    (task, asked, record { why = Unlike_pair round one two; answered = a; status = refl; quiet = quiet; told = told })
-refuses words old new task (Overflows at) asked a quiet told =
-    (task, asked, record { why = Overflows at; answered = a; status = refl; quiet = quiet; told = told })
-refuses words old new task Many_pivots asked a quiet told = (task, asked, record { why = Many_pivots; answered = a; status = refl; quiet = quiet; told = told })
-refuses words old new task (Too_large limit) asked a quiet told =
-    (task, asked, record { why = Too_large limit; answered = a; status = refl; quiet = quiet; told = told })
-refuses words old new task (Bad_strategy which rule) asked a quiet told =
-    (task, asked, record { why = Bad_strategy which rule; answered = a; status = refl; quiet = quiet; told = told })
-refuses words old new task (Wrong_number name stated found) asked a quiet told =
-    (task, asked, record { why = Wrong_number name stated found; answered = a; status = refl; quiet = quiet; told = told })
-refuses words old new task (Bad_query rule) asked a quiet told =
-    (task, asked, record { why = Bad_query rule; answered = a; status = refl; quiet = quiet; told = told })
-refuses words old new task Other_game asked a quiet told = (task, asked, record { why = Other_game; answered = a; status = refl; quiet = quiet; told = told })
-refuses words old new task (Bad_certificate text) asked a quiet told =
-    (task, asked, record { why = Bad_certificate text; answered = a; status = refl; quiet = quiet; told = told })
+-- a refusal is told with its status
+pub tells_refusal : (says : Reply → Type 0) (old new : Ends) (why : Refusal) → says (Refuses why) → Quiet old new → TellsLine old new (line_of why)
+    → Writes says old new (status_of why)
+tells_refusal says old new (Bad_game rule) h quiet told = (Bad_game rule, h, refl, quiet, told)
+tells_refusal says old new (Unlike_pair round one two) h quiet told = (Unlike_pair round one two, h, refl, quiet, told)
+tells_refusal says old new (Overflows at) h quiet told = (Overflows at, h, refl, quiet, told)
+tells_refusal says old new Many_pivots h quiet told = (Many_pivots, h, refl, quiet, told)
+tells_refusal says old new (Too_large limit) h quiet told = (Too_large limit, h, refl, quiet, told)
+tells_refusal says old new (Bad_strategy which rule) h quiet told = (Bad_strategy which rule, h, refl, quiet, told)
+tells_refusal says old new (Wrong_number name stated found) h quiet told = (Wrong_number name stated found, h, refl, quiet, told)
+tells_refusal says old new (Bad_query rule) h quiet told = (Bad_query rule, h, refl, quiet, told)
+tells_refusal says old new Other_game h quiet told = (Other_game, h, refl, quiet, told)
+tells_refusal says old new (Bad_certificate text) h quiet told = (Bad_certificate text, h, refl, quiet, told)
 
 -- the input that was read
 pub inputs : (reads_source : Bool) (old new : Ends) (v : Vec ℕ Global) → ReadsInput reads_source old.left new.left old.read_faults new.read_faults (Ok v)
     → Inputs reads_source old new v.items
 inputs true old new v h = record { taken = h.0; end = h.1; few = h.2; faults = h.3 }
 inputs false old new v h = (h.0, (h.1, h.2))
+
+-- no more of the source was taken than the limit allows, and no read failed
+took : (words : List (List ℕ)) (task : Task) (old new : Ends) (bytes : List ℕ) → request_of words ≡ Some task → (b : Bool) → reads task ≡ b
+    → Inputs b old new bytes → TookInput words old new × (new.read_faults ≡ old.read_faults)
+took words task old new bytes asked true r input =
+    (record { front = (bytes, input.taken, omega (arith, input.few)); unread = inr (task, asked, r) }, input.faults)
+took words task old new bytes asked false r input =
+    let same = input.1.0 in (
+      record {
+        front = ([], subst (λ (l : Option (List ℕ)). Consumes old.left l []) (sym same) (Consumes-nil old.left), omega arith);
+        unread = inl same;
+      },
+      input.1.1,
+    )
+
+-- what was written for the input that was read is what the run wrote
+pub run_of : (words : List (List ℕ)) (task : Task) (old new : Ends) (bytes : List ℕ) (s : Status) → request_of words ≡ Some task
+    → Inputs (reads task) old new bytes → Writes (Asks task bytes) (sinks old.given old.write_faults old.told old.tell_faults)
+    (sinks new.given new.write_faults new.told new.tell_faults) s → RunsTo words old new s
+run_of words task old new bytes status.Ok asked input h =
+    (task, asked, ((h.0.0, record { bytes = bytes; input = input; says = h.0.1 }, h.0.2), h.1, h.2))
+run_of words task old new bytes status.WriteFault asked input h =
+    (task, asked, ((h.0.0, record { bytes = bytes; input = input; says = h.0.1 }, h.0.2), h.1, h.2))
+run_of words task old new bytes status.Memory asked input h =
+    let front = took words task old new bytes asked (reads task) refl input in (front.0, front.1, h.0, h.1)
+run_of words task old new bytes status.Usage asked input h = absurd h
+run_of words task old new bytes status.ReadFault asked input h = absurd h
+run_of words task old new bytes status.TooLong asked input h = absurd h
+run_of words task old new bytes s asked input h =
+    (task, asked, record { why = h.0; answered = record { bytes = bytes; input = input; says = h.1 }; status = h.2; quiet = h.3; told = h.4 })

@@ -7,7 +7,7 @@ use Rattle.gs_model.proofs.{Ranges.{in_range}, Walked.{walked_one, walked_two}}
 use Rattle.gs_reply.specs.{Refusals.{Refusal}, Replies.{Reply, Prints, Refuses}}
 use Rattle.gs_simplex.proofs.{Agree.{Agree, enters_same, leaves_same, lists_same, paths_agree}, OneStop.{stops_agree}, Opening.{path_trail}}
 use Rattle.gs_simplex.specs.{Path.{IsPath, IsPivot, Leaves, States, Stops, ends}, Program.{IsOpening, IsRowsOf, Listing}, declared.program.Program.{Program}}
-use Rattle.gs_simplex.specs.{Trace.{IsAimValue, IsTrace, IsTraceOf}, declared.answer.PathTrace.{PathTrace}, declared.answer.Turn.{Turn}}
+use Rattle.gs_simplex.specs.{Trace.{IsAimValue, IsShown, IsShownOf}, declared.answer.Path.{Path}, declared.answer.Turn.{Turn}}
 use Rattle.gs_game_commands.specs.{Paths.{ShowsPath, path_text, turn_line, turn_lines}, Settling.{Settles}}
 use Rattle.gs_solve.specs.Solutions.{most_pivots}
 use Rattle.gs_strategy.specs.{Values.{file_frame}, Views.{parts_of}}
@@ -78,8 +78,8 @@ value_one : (p : Program) (a b : ℕ → ℤ) (x y : Fraction) → a p.cols ≡ 
 value_one p a b x y e h some one two =
     ratio_one x y (a (p.cols + 1)) (a p.cols) some one (ap (λ v. y.num *ℤ v) h ∙ two ∙ ap (λ v. v *ℤ y.den) (sym e))
 
-text_one : (p : Program) (o : Listing) (n m : ℕ) (l k : Listing) (x y : States) (t u : PathTrace) → IsOpening p o
-    → Stops p o most_pivots (length o + n) x (ends n l) → Stops p o most_pivots (length o + m) y (ends m k) → IsTraceOf p o n x t → IsTraceOf p o m y u
+text_one : (p : Program) (o : Listing) (n m : ℕ) (l k : Listing) (x y : States) (t u : Path) → IsOpening p o
+    → Stops p o most_pivots (length o + n) x (ends n l) → Stops p o most_pivots (length o + m) y (ends m k) → IsShownOf p o n x t → IsShownOf p o m y u
     → path_text t ≡ path_text u
 text_one p o n m l k x y t u ok h g a b =
     let count : n ≡ m = same_ends n m l k (stops_agree p o most_pivots (ends n l) (ends m k) ok (record { stops = (length o + n, x, h) })
@@ -113,39 +113,37 @@ text_one p o n m l k x y t u ok h g a b =
     multiple : (p : Program) (l : Listing) (R : ℕ → ℕ → ℤ) (a : ℕ → ℤ) → IsRowsOf p l R a → pos 0 <ℤ a (p.cols + 1)
     multiple p l R a r = let next : suc p.cols ≡ p.cols + 1 = omega arith in subst (λ (k : ℕ). pos 0 <ℤ a k) next r.aim_row.2.multiple
 
-trace_over : (p q : Program) (s : Same p q) (o : Listing) (n : ℕ) (x : States) (t : PathTrace) → IsTraceOf p o n x t → IsTraceOf q o n x t
-trace_over p q s o n x t h = record {
+of_over : (p q : Program) (s : Same p q) (o : Listing) (n : ℕ) (x : States) (t : Path) → IsShownOf p o n x t → IsShownOf q o n x t
+of_over p q s o n x t h = record {
   turns_long = h.turns_long;
   turns = h.turns;
-  bases_long = h.bases_long;
-  bases = h.bases;
   start = subst (λ (c : ℕ). t.start.num *ℤ x.aim (length o) (c + 1) ≡ x.aim (length o) c *ℤ t.start.den) s.cols h.start;
   aim = subst (λ (c : ℕ). t.aim.num *ℤ x.aim (length o + n) (c + 1) ≡ x.aim (length o + n) c *ℤ t.aim.den) s.cols h.aim;
 }
 
--- the path that a trace shows, of one program and opening and of the other
-pub record Shown (p : Program) (o : Listing) (t : PathTrace) : Type 0 where
+-- the path that is shown, of one program and opening and of the other
+pub record Shown (p : Program) (o : Listing) (t : Path) : Type 0 where
   pub count : ℕ
   pub list : Listing
   pub at : States
   pub stops : Stops p o most_pivots (length o + count) at (ends count list)
-  pub trace : IsTraceOf p o count at t
+  pub shows : IsShownOf p o count at t
 
-shown_over : (p q : Program) (o l : Listing) (t : PathTrace) → Same p q → o ≡ l → IsTrace p o most_pivots t → Shown q l t
+shown_over : (p q : Program) (o l : Listing) (t : Path) → Same p q → o ≡ l → IsShown p o most_pivots t → Shown q l t
 shown_over p q o l t s e h =
-    let (n, k, x, stops, trace) = h.path in
+    let (n, k, x, stops, shows) = h.path in
     subst (λ (i : Listing). Shown q i t) e (record {
       count = n;
       list = k;
       at = x;
       stops = stop_over p q s o most_pivots (length o + n) x (ends n k) stops;
-      trace = trace_over p q s o n x t trace;
+      shows = of_over p q s o n x t shows;
     })
 
-shown_one : (p : Program) (o : Listing) (t u : PathTrace) → IsOpening p o → Shown p o t → IsTrace p o most_pivots u → path_text t ≡ path_text u
+shown_one : (p : Program) (o : Listing) (t u : Path) → IsOpening p o → Shown p o t → IsShown p o most_pivots u → path_text t ≡ path_text u
 shown_one p o t u ok h g =
-    let (m, k, y, stops, trace) = g.path in
-    text_one p o h.count m h.list k h.at y t u ok h.stops stops h.trace trace
+    let (m, k, y, stops, shows) = g.path in
+    text_one p o h.count m h.list k h.at y t u ok h.stops stops h.shows shows
 
 -- ---- `path`
 
@@ -155,18 +153,18 @@ shown_path g lists (Prints a) (Prints b) t c h i =
     let s = path_one (file_frame g) lists (in_range (file_rules g) p) (walked_one (file_rules g) p) (walked_two (file_rules g) p) c h.program
     h.opening i.program
     i.opening h.path i.path in
-    let there = shown_over h.program i.program h.opening i.opening h.trace s.programs s.openings h.shown in
-    let text : a ≡ b = h.printed ∙ shown_one i.program i.opening h.trace i.trace i.path.opens there i.shown ∙ sym i.printed in
+    let there = shown_over h.program i.program h.opening i.opening h.found s.programs s.openings h.shown in
+    let text : a ≡ b = h.printed ∙ shown_one i.program i.opening h.found i.found i.path.opens there i.shown ∙ sym i.printed in
     ap (λ (x : List ℕ). Prints x) text
 shown_path g lists (Prints a) (Refuses w) t c h i =
     let p = told_playable Two g t in
-    let (n, l, x, stops, trace) = h.shown.path in
+    let (n, l, x, stops, shows) = h.shown.path in
     absurd (ended_or_stopped g lists (in_range (file_rules g) p) (walked_one (file_rules g) p) (walked_two (file_rules g) p) c w h.program
     h.opening n l i h.path
     h.shown.small (record { stops = (length h.opening + n, x, stops) }))
 shown_path g lists (Refuses v) (Prints b) t c h i =
     let p = told_playable Two g t in
-    let (n, l, x, stops, trace) = i.shown.path in
+    let (n, l, x, stops, shows) = i.shown.path in
     absurd (ended_or_stopped g lists (in_range (file_rules g) p) (walked_one (file_rules g) p) (walked_two (file_rules g) p) c v i.program
     i.opening n l h i.path
     i.shown.small (record { stops = (length i.opening + n, x, stops) }))

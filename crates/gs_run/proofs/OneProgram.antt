@@ -1,8 +1,8 @@
 -- Programs with the same numbers have the same paths.
 use Rattle.std.proofs.Common.{◌≡◌, ◌⊎◌, ℕ, zero, suc, ◌+◌, ◌-◌, ◌*◌, ◌<◌, ◌≤◌, false, List, [], ◌∷◌, length, slice_index_or, ℤ, pos, neg_ℤ, ◌*ℤ◌, ◌≤ℤ◌, ◌<ℤ◌}
 use Rattle.std.proofs.Common.{refl, sym, ap, ◌∙◌, subst, inl, inr, arith}
-use Rattle.std.proofs.{lemmas.List.{length-map}, lemmas.Bool.{cases_lt, true≢false}, Math.Path.{fun_ext}}
-use Rattle.std.specs.{Vec.{vec_items}, List.{HoldsAt}}
+use Rattle.std.proofs.{lemmas.Bool.{cases_lt, true≢false}, Math.Path.{fun_ext}}
+use Rattle.std.specs.List.{HoldsAt}
 use Rattle.gs_simplex.specs.Path.{AllNarrow, Enters, IsFirstWide, IsPath, IsPivot, IsWhole, Leaves, NoneEnters, NoneLeaves, PathStop, PathStops, States, Stops}
 use Rattle.gs_simplex.specs.Path.{ends, pivots, unbounded, wide}
 use Rattle.gs_simplex.specs.Program.{ColListed, IsFree, IsOpening, IsRowsOf, IsShaped, Listing, RowListed, aim_of, number, rows_of}
@@ -30,13 +30,9 @@ past_default [] i d l = refl
 past_default (x ∷ xs) zero d l = absurd (omega arith)
 past_default (x ∷ xs) (suc i) d l = past_default xs i d (omega arith)
 
-rows_long : (p : Program) → length (rows_of p) ≡ length p.numbers.items
-rows_long p = length-map p.numbers.items vec_items
-
 -- a number outside is 0
 outside_row : (p : Program) → IsShaped p → (i j : ℕ) → p.rows ≤ i → number p i j ≡ pos 0
 outside_row p s i j l =
-    let long = rows_long p in
     let rows = s.rows in
     ap (λ (r : List ℤ). slice_index_or r j (pos 0)) (past_default (rows_of p) i [] (omega arith))
 
@@ -111,7 +107,7 @@ module _ (p q : Program) (n : Sizes) (E F A : ℕ → ℕ → ℤ) (sp : IsShape
       let aq = sq.aim in
       elim (cases_lt j p.cols) [
         | inl inside ↦ h.aim j inside ∙ sym (k.aim j (omega arith))
-        | inr past ↦ past_default p.aim.items j (pos 0) (omega arith) ∙ sym (past_default q.aim.items j (pos 0) (omega arith))
+        | inr past ↦ past_default p.parts.aim j (pos 0) (omega arith) ∙ sym (past_default q.parts.aim j (pos 0) (omega arith))
       ]
 
   free_at : (j : ℕ) → IsFree p j → IsFree q j
@@ -121,7 +117,7 @@ module _ (p q : Program) (n : Sizes) (E F A : ℕ → ℕ → ℤ) (sp : IsShape
       let fp = sp.free in
       elim (cases_lt j p.cols) [
         | inl inside ↦ (k.free j (omega arith)).1 ((h.free j inside).0 f)
-        | inr past ↦ absurd (true≢false (sym (sym (past_default p.free.items j false (omega arith)) ∙ f)))
+        | inr past ↦ absurd (true≢false (sym (sym (past_default p.parts.free j false (omega arith)) ∙ f)))
       ]
 
 pub programs_same : (p q : Program) (n : Sizes) (E F A : ℕ → ℕ → ℤ) → IsShaped p → IsShaped q → IsSequenceProgram p n E F A → IsSequenceProgram q n E F A

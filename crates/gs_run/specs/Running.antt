@@ -98,6 +98,24 @@ long_line = codes "input longer than 16777216 bytes\n"
 abbrev pub memory_line : List ℕ
 memory_line = codes "out of memory\n"
 
+-- stdout and stderr alone
+abbrev pub sinks : Option (List ℕ) → ℕ → Option (List ℕ) → ℕ → Ends
+sinks = ends None 0
+
+-- What writing an answer does to stdout and stderr, for each status that an answer may have. `says` holds of the text that is printed, or of the refusal whose
+-- line is told.
+abbrev pub Writes : (Reply → Type 0) → Ends → Ends → Status → Type 0
+Writes says old new status.Ok =
+    ((text : List ℕ) × says (Prints text) × Appends old.given new.given text) × (new.write_faults ≡ old.write_faults) × Silent old new
+Writes says old new status.WriteFault =
+    ((text : List ℕ) × says (Prints text) × ((count : ℕ) × (count < length text) × Appends old.given new.given (take count text)))
+    × Rose old.write_faults new.write_faults × TellsLine old new (codes "write fault\n")
+Writes says old new status.Memory = Quiet old new × TellsLine old new memory_line
+Writes says old new status.Usage = ⊥
+Writes says old new status.ReadFault = ⊥
+Writes says old new status.TooLong = ⊥
+Writes says old new s = (why : Refusal) × says (Refuses why) × (status_of why ≡ s) × Quiet old new × TellsLine old new (line_of why)
+
 -- what each status says of the ends; each status that is not listed is that of a refusal
 abbrev pub RunsTo : List (List ℕ) → Ends → Ends → Status → Type 0
 RunsTo words old new status.Ok =

@@ -13,6 +13,7 @@ use gs_strategy_commands::{
 };
 use gs_words::{Kind, Request, made_game};
 use std::alloc::Global;
+use std::convert::AsSlice;
 
 /// Returns whether a request reads an input.
 pub(crate) fn reads_input(request: Request) -> bool
@@ -44,17 +45,27 @@ fn made(
     }
 }
 
-/// Returns the answer to a request for the bytes of its input: the text to print, or why it stops.
-pub(crate) fn answer(alloc: Global, request: Request, bytes: &[u8]) -> Result<Vec<u8>, Stop>
+/// Returns the answer to a request for the bytes of its input: the text to print, or why it stops. Bytes of which a
+/// command has no more use are let go.
+pub(crate) fn answer<B: AsSlice<u8> + Drop>(
+    alloc: Global,
+    request: Request,
+    bytes: B,
+) -> Result<Vec<u8>, Stop>
     requires { IsInRange (task_of request) }
-    ensures { Answers (Asks (task_of request.entry) bytes.now) result }
+    ensures { Answers (Asks (task_of request.entry) (B.items bytes)) result }
 {
     match request {
-        Request::Shrink { summary } => shrink_answer(alloc, bytes, summary),
-        Request::Check { grouping, summary } => check_answer(alloc, bytes, grouping, summary),
-        Request::Solve { grouping } => solve_answer(alloc, bytes, grouping),
-        Request::Play { grouping, turns } => play_answer(alloc, bytes, grouping, turns),
-        Request::Path { grouping } => path_answer(alloc, bytes, grouping),
+        Request::Shrink { summary } => shrink_answer(alloc, bytes.as_slice(), summary),
+        Request::Check { grouping, summary } => check_answer(
+            alloc,
+            bytes.as_slice(),
+            grouping,
+            summary,
+        ),
+        Request::Solve { grouping } => solve_answer(alloc, bytes.as_slice(), grouping),
+        Request::Play { grouping, turns } => play_answer(alloc, bytes.as_slice(), grouping, turns),
+        Request::Path { grouping } => path_answer(alloc, bytes.as_slice(), grouping),
         Request::Make {
             kind,
             ranks,
@@ -70,7 +81,7 @@ pub(crate) fn answer(alloc: Global, request: Request, bytes: &[u8]) -> Result<Ve
         } => query_answer(alloc, player, line, signal, bytes),
         Request::Upgrade => upgrade_answer(alloc, bytes),
         Request::Certify => certify_answer(alloc, bytes),
-        Request::Verify => verify_answer(alloc, bytes),
+        Request::Verify => verify_answer(alloc, bytes.as_slice()),
         Request::Judge => judge_answer(alloc, bytes),
         Request::Duel => duel_answer(alloc, bytes),
     }

@@ -1,8 +1,9 @@
 //! The whole program, over any source and any two sinks.
 
 ghost use Rattle.std.specs.Prelude.{◌≡◌, map, string_bytes};
-ghost use Rattle.gs_words.specs.Tasks.{task_of};
-ghost use Rattle.gs_run.specs.{Asking.{reads}, Running.{ReadsInput, RunsTo, ends, memory_line, usage_line}, Theorem.{Does}, Told.{TellsTo}};
+ghost use Rattle.gs_words.specs.Tasks.{IsInRange, task_of};
+ghost use Rattle.gs_run.specs.{Asking.{Asks, reads}, Theorem.{Does}, Told.{TellsTo}};
+ghost use Rattle.gs_run.specs.Running.{ReadsInput, RunsTo, Writes, ends, memory_line, sinks, usage_line};
 ghost use Rattle.gs_run.specs.declared.status.Status.TheVariants as status;
 
 use crate::asking::{answer, reads_input};
@@ -65,6 +66,34 @@ fn input<S: Source>(alloc: Global, source: &mut S, request: Request) -> Result<V
     }
 }
 
+// Answers a request for the bytes of its input: writes the text to `out`, or why it stops to `err`, and returns the status.
+fn reply<O: Sink, E: Sink>(
+    alloc: Global,
+    request: Request,
+    bytes: Vec<u8>,
+    out: &mut O,
+    err: &mut E,
+) -> Status
+    requires { IsInRange (task_of request) }
+    ensures { Writes (Asks (task_of request.entry) bytes.items) (sinks (O.given out.old) (O.faults out.old) (E.given err.old) (E.faults err.old))
+        (sinks (O.given out.new) (O.faults out.new) (E.given err.new) (E.faults err.new)) result }
+{
+    match answer(alloc, request, bytes) {
+        Ok(text) => match write_all(out, &text) {
+            Ok(()) => Status::Ok,
+            Err(_) => refuse(err, Status::WriteFault, "write fault\n"),
+        },
+        Err(Stop::Refused(refusal)) => match refusal_line(alloc, &refusal) {
+            Ok(line) => {
+                tell(err, &line);
+                Status::of(&refusal)
+            }
+            Err(_) => out_of_memory(err),
+        },
+        Err(Stop::Memory) => out_of_memory(err),
+    }
+}
+
 // Runs the command that the words ask for.
 fn run_words<S: Source, O: Sink, E: Sink>(
     alloc: Global,
@@ -89,20 +118,7 @@ fn run_words<S: Source, O: Sink, E: Sink>(
         Err(ReadStop::TooLong) => return refuse(err, Status::TooLong, LONG_LINE),
         Err(ReadStop::Memory) => return out_of_memory(err),
     };
-    match answer(alloc, request, &bytes) {
-        Ok(text) => match write_all(out, &text) {
-            Ok(()) => Status::Ok,
-            Err(_) => refuse(err, Status::WriteFault, "write fault\n"),
-        },
-        Err(Stop::Refused(refusal)) => match refusal_line(alloc, &refusal) {
-            Ok(line) => {
-                tell(err, &line);
-                Status::of(&refusal)
-            }
-            Err(_) => out_of_memory(err),
-        },
-        Err(Stop::Memory) => out_of_memory(err),
-    }
+    reply(alloc, request, bytes, out, err)
 }
 
 /// Runs the command that the words ask for, and returns the status of the run. `words` are the command line without the program's name: a command and

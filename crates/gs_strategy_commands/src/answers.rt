@@ -14,6 +14,7 @@ use gs_seq::Abstract;
 use gs_strategy::Stored;
 use gs_tree::Signals;
 use std::alloc::Global;
+use std::convert::AsSlice;
 
 // Returns what is wanted of a confirmed strategy, or the refusal of a query that names no decision point.
 fn told(
@@ -43,10 +44,15 @@ fn confirmed(alloc: Global, wanted: &Wanted<'_>, stored: &Stored) -> Result<Vec<
     told(alloc, wanted, stored, &form)
 }
 
-/// Returns what is wanted of the strategy that the bytes hold, if it is confirmed; or the refusal.
-pub(crate) fn answer(alloc: Global, wanted: &Wanted<'_>, bytes: &[u8]) -> Result<Vec<u8>, Stop>
-    ensures { Answers (OfStrategy (OfConfirmed (says_wanted wanted.now)) bytes.now) result }
+/// Returns what is wanted of the strategy that the bytes hold, if it is confirmed; or the refusal. The bytes are let go once they are read.
+pub(crate) fn answer<B: AsSlice<u8> + Drop>(
+    alloc: Global,
+    wanted: &Wanted<'_>,
+    bytes: B,
+) -> Result<Vec<u8>, Stop>
+    ensures { Answers (OfStrategy (OfConfirmed (says_wanted wanted.now)) (B.items bytes)) result }
 {
-    let stored = stored_strategy(alloc, Which::Only, bytes)?;
+    let stored = stored_strategy(alloc, Which::Only, bytes.as_slice())?;
+    drop(bytes);
     confirmed(alloc, wanted, &stored)
 }

@@ -1,4 +1,4 @@
-//! The commands that read a strategy file.
+//! The commands that read a strategy file. All but `verify` let its bytes go once they are read.
 
 ghost use Rattle.std.specs.Prelude.{◌<◌, ◌≤◌};
 ghost use Rattle.gs_strategy_commands.specs.{Certificates.{Certifies}, Commands.{Evaluates, Queries, Upgrades}, Verifying.{Verifies}};
@@ -11,40 +11,41 @@ use crate::wanted::Wanted;
 use gs_json::first_line;
 use gs_reply::{Stop, Which, stored_strategy};
 use std::alloc::Global;
+use std::convert::AsSlice;
 
 /// Returns the value and the gaps that the strategy file states, if the strategy is confirmed; or the refusal.
-pub fn evaluate_answer(alloc: Global, bytes: &[u8]) -> Result<Vec<u8>, Stop>
-    ensures { Answers (Evaluates bytes.now) result }
+pub fn evaluate_answer<B: AsSlice<u8> + Drop>(alloc: Global, bytes: B) -> Result<Vec<u8>, Stop>
+    ensures { Answers (Evaluates (B.items bytes)) result }
 {
     answer(alloc, &Wanted::Numbers, bytes)
 }
 
 /// Returns the text in version 2 of the strategy, if it is confirmed; or the refusal.
-pub fn upgrade_answer(alloc: Global, bytes: &[u8]) -> Result<Vec<u8>, Stop>
-    ensures { Answers (Upgrades bytes.now) result }
+pub fn upgrade_answer<B: AsSlice<u8> + Drop>(alloc: Global, bytes: B) -> Result<Vec<u8>, Stop>
+    ensures { Answers (Upgrades (B.items bytes)) result }
 {
     answer(alloc, &Wanted::Upgrade, bytes)
 }
 
 /// Returns the strategy's text in version 2 and its certificate, if the strategy is confirmed; or the refusal.
-pub fn certify_answer(alloc: Global, bytes: &[u8]) -> Result<Vec<u8>, Stop>
-    ensures { Answers (Certifies bytes.now) result }
+pub fn certify_answer<B: AsSlice<u8> + Drop>(alloc: Global, bytes: B) -> Result<Vec<u8>, Stop>
+    ensures { Answers (Certifies (B.items bytes)) result }
 {
     answer(alloc, &Wanted::Certificate, bytes)
 }
 
 /// Returns the mixture of a player at the point and the raw signal that the two texts name, and the player's gap; or the refusal of the file or of the
 /// texts.
-pub fn query_answer(
+pub fn query_answer<B: AsSlice<u8> + Drop>(
     alloc: Global,
     player: u8,
     line: &str,
     signal: &str,
-    bytes: &[u8],
+    bytes: B,
 ) -> Result<Vec<u8>, Stop>
     requires some { 0 < player }
     requires two { player ≤ 2 }
-    ensures { Answers (Queries player line.now signal.now bytes.now) result }
+    ensures { Answers (Queries player line.now signal.now (B.items bytes)) result }
 {
     let query = Query {
         player,
