@@ -9,8 +9,8 @@ pub record IsTied (p : Program) : Type 0 where
   pub cols : p.cols ≡ 5
   pub numbers : rows_of p ≡ (pos 1 ∷ pos 0 ∷ pos 0 ∷ pos 1 ∷ pos 1 ∷ pos 2 ∷ []) ∷ (pos 0 ∷ pos 1 ∷ pos 0 ∷ pos 1 ∷ pos 2 ∷ pos 2 ∷ [])
       ∷ (pos 0 ∷ pos 0 ∷ pos 1 ∷ pos 2 ∷ pos 1 ∷ pos 4 ∷ []) ∷ []
-  pub aim : p.aim.items ≡ pos 0 ∷ pos 0 ∷ pos 0 ∷ pos 3 ∷ pos 2 ∷ []
-  pub free : p.free.items ≡ false ∷ false ∷ false ∷ false ∷ false ∷ []
+  pub aim : p.parts.aim ≡ pos 0 ∷ pos 0 ∷ pos 0 ∷ pos 3 ∷ pos 2 ∷ []
+  pub free : p.parts.free ≡ false ∷ false ∷ false ∷ false ∷ false ∷ []
 
 -- the opening: each row with its own column, from the last row to the first
 abbrev pub each_own : Listing

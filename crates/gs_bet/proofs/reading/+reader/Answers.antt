@@ -2,6 +2,7 @@ use Rattle.std.proofs.{Common.{◌≡◌, ◌-◌, ℕ, length, refl, Ok, true, 
 use Rattle.gs_model.specs.Betting.{none}
 use Rattle.gs_bet.specs.{TreeView.{plain_moves}, Reading.{act_with, inner_at, act_at, moves_at, more_at}}
 use Rattle.gs_bet.proofs.{TreeLaws.{plain-made}, ReadingLaws.{act_is, fails_here, more_room, plain_push, Pushed, pushed_fails, pushed_ends, pushed_goes}}
+use Rattle.gs_bet.specs.Reading.{move_at}
 use Rattle.gs_bet.proofs.reading.+reader.Goals as goal
 use Rattle.gs_bet.proofs.reading.+reader.Goals.{moves_of-After-len}
 
@@ -53,3 +54,7 @@ moves_of-loop-moves-preserved t c =
           c.in_ok-more.others.now _ (pushed t w) grown h;
       room = more_room _ _ _ h;
     }
+
+pub move_of-returns : goal.move_of-returns
+unfolding move_at
+move_of-returns t c = grind arith

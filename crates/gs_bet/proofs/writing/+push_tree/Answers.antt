@@ -1,4 +1,5 @@
 use Rattle.std.proofs.Common.{◌≡◌, ℕ, List, ◌++◌, ◌∷◌, [], ◌<◌, ◌+◌, ap, ◌∙◌, arith, append_assoc}
+use Rattle.std.proofs.lemmas.Grind.{common_steps}
 use Rattle.std.specs.{String.{string_bytes}, Prelude.{encode_utf8}}
 use Rattle.gs_model.specs.Betting.{act}
 use Rattle.gs_bet.specs.{Grammar.{Prints}, TreeView.{plain, plain_moves}, declared.shape.Act.{out-Act}}
@@ -20,3 +21,6 @@ loop-next-init t c =
       sound = sound_moves (out-Act c.in-Act.act).player (plain_moves c.deref-next-items.result.now) sound;
       before = omega arith;
     }
+
+pub loop-next-preserved : goal.loop-next-preserved
+loop-next-preserved t c = grind (arith, common_steps)

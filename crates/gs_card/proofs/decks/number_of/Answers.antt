@@ -1,4 +1,5 @@
-use Rattle.std.proofs.Common.{◌≡◌, ◌/◌, ◌%◌, length, Some, None, sym, ◌∙◌, ap}
+use Rattle.std.proofs.Common.{◌≡◌, ◌/◌, ◌%◌, length, Some, None, sym, ◌∙◌, ap, arith}
+use Rattle.std.proofs.lemmas.Grind.{common_steps}
 use Rattle.gs_card.proofs.KindLaws.{some_suits, place_of_rank, place_of_suit, letters_of_places, number_of_places}
 use Rattle.gs_card.proofs.decks.number_of.Goals as goal
 
@@ -20,3 +21,6 @@ returns-clause-all c = λ n h.
     let e : Some c.in_ok-row.row ≡ Some (n / length c.args.suits.now) = c.in_ok-row.ensures ∙ place_of_rank _ _ _ _ n c.requires.ranks_differ h in
     let f : Some c.in_ok-column.column ≡ Some (n % length c.args.suits.now) = c.in_ok-column.ensures ∙ place_of_suit _ _ _ _ n c.requires.suits_differ h in
     ap Some (number_of_places (length c.args.suits.now) _ _ n (some_suits _ _ n h.of_deck) (cc) (cc))
+
+pub overflow_cast-result : goal.overflow_cast-result
+overflow_cast-result c = grind (arith, common_steps)

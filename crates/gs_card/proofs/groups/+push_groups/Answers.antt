@@ -47,3 +47,9 @@ returns-clause-found t c =
     c.loop-card.invariant.found ∙ ap (λ k. c.args.out.now.items
     ++ map (λ g. c.args.front.now.items ++ g) (flat_map (groups_with (groups_above (c.args.size - 1)) c.args.left.now.items) (range_with_len c.args.least k))) n
     ∙ ap (λ k. c.args.out.now.items ++ map (λ g. c.args.front.now.items ++ g) k) (sym step)
+
+pub push_groups-requires : goal.push_groups-requires
+push_groups-requires t c = grind (arith, common_steps)
+
+pub overflow_sub-index_mut : goal.overflow_sub-index_mut
+overflow_sub-index_mut t c = grind (arith, common_steps)

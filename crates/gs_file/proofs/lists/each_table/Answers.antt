@@ -7,3 +7,6 @@ loop-item-preserved c = grind (arith, common_steps)
 
 pub returns : goal.returns
 returns c = grind (arith, common_steps)
+
+pub returns-in_err-table : goal.returns-in_err-table
+returns-in_err-table c = grind (arith, common_steps)

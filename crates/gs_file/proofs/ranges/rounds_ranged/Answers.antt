@@ -10,3 +10,6 @@ returns-clause-gives c = grind (arith, common_steps)
 
 pub returns-clause-few : goal.returns-clause-few
 returns-clause-few c = grind (arith, common_steps)
+
+pub returns-in_err-round-clause-gives : goal.returns-in_err-round-clause-gives
+returns-in_err-round-clause-gives c = grind (arith, common_steps)

@@ -1,3 +1,5 @@
+use Rattle.std.proofs.Common.{arith}
+use Rattle.std.proofs.lemmas.Grind.{common_steps}
 use Rattle.gs_words.proofs.Added.{with_next}
 use Rattle.gs_words.proofs.command.command_for.Goals as goal
 
@@ -6,3 +8,6 @@ loop-choice-preserved c = record {
   all = c.loop-choice.invariant.all;
   so_far = with_next _ _ _ _ _ _ _ c.loop-choice-test.true c.loop-choice.invariant.so_far c.arg_of.ensures.rule c.arg_of.ensures.local c.in_ok-command.ensures;
 }
+
+pub returns : goal.returns
+returns c = grind (arith, common_steps)

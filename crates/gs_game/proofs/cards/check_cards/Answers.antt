@@ -1,0 +1,12 @@
+use Rattle.std.proofs.Common.{arith}
+use Rattle.std.proofs.lemmas.Grind.{common_steps}
+use Rattle.gs_game.specs.Refusals.{card_refusal, rounds_refusal, private_refusal, ranking_refusal, copies_refusal}
+use Rattle.gs_game.proofs.cards.check_cards.Goals as goal
+
+pub returns-then-have-need : goal.returns-then-have-need
+unfolding card_refusal rounds_refusal private_refusal ranking_refusal copies_refusal
+returns-then-have-need c = grind (arith, common_steps)
+
+pub returns : goal.returns
+unfolding card_refusal rounds_refusal private_refusal ranking_refusal copies_refusal
+returns c = grind (arith, common_steps)
