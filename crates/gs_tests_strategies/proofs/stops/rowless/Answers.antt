@@ -1,5 +1,6 @@
-use Rattle.std.proofs.Common.{◌≡◌, ℕ, List, false, pos, length, slice_index_or, replicate, inl, inr, rules, refl, ap, ◌∙◌, arith}
+use Rattle.std.proofs.Common.{◌≡◌, ℕ, List, false, pos, length, map, slice_index_or, replicate, inl, inr, rules, refl, ap, ◌∙◌, arith}
 use Rattle.std.proofs.{lemmas.List.{get_or-replicate, get_or_past, length-replicate}, lemmas.Bool.{cases_lt}}
+use Rattle.std.specs.Vec.{vec_items}
 use Rattle.gs_tests_strategies.proofs.stops.rowless.Goals as goal
 
 same_all : {X : Type 0} (xs : List X) (n : ℕ) (x : X) (j : ℕ) → xs ≡ replicate n x → slice_index_or xs j x ≡ x
@@ -13,7 +14,7 @@ returns c =
     record {
       rows = refl;
       cols = refl;
-      numbers = c.new.ensures.items;
+      numbers = ap (map vec_items) c.new.ensures.items;
       free_long = ap length free ∙ length-replicate n false;
       free = λ j. same_all c.in_ok-free.free.items n false j free;
       aim_long = ap length aim ∙ length-replicate n (pos 0);
