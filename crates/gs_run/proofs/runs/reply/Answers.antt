@@ -13,6 +13,6 @@ returns-in-Ok-refusal_line g c =
     let old : Ends = sinks given faults (g.E.Sink.given c.args.err.now) (g.E.Sink.faults c.args.err.now) in
     let new : Ends = sinks given faults (g.E.Sink.given c.tell.new.err) (g.E.Sink.faults c.tell.new.err) in
     let said = rw c.in-Err-Refused.field-0-is at c.in-Err-Refused.ensures in
-    let line = c.deref.ensures.value ∙ c.in-Ok-refusal_line.ensures said.0 said.2 in
+    let line = c.deref-in-Ok-refusal_line.ensures.value ∙ c.in-Ok-refusal_line.ensures said.0 said.2 in
     let told : TellsLine old new (line_of said.0) = subst (TellsLine old new) line c.tell.ensures in
     subst (Writes says old new) (sym (c.of.ensures said.0 said.2)) (tells_refusal says old new said.0 said.1 (refl, refl) told)
