@@ -49,11 +49,16 @@ within_row : (n a count m : ℕ) → a < count → m < n → a * n + m < count *
 within_row n a count m l lm = let g : (a + 1) * n ≤ count * n = mul-le-mul_right n (omega (arith, l)) in omega (arith, g, lm)
 
 module _ (f : Frame) (lists : ClassLists) where
+  -- a point and a class by their cell
+  pub cell_one : (q c p e : ℕ) → IsClass lists (round_of f (at_point q)) c → IsClass lists (round_of f (at_point p)) e
+      → cell_place f lists q c ≡ cell_place f lists p e → IsOnePlace q c p e
+  cell_one q c p e lc le same =
+      let o = one_place (classes_at f lists) q (c - 1) p (e - 1) (omega (arith, lc.0, lc.1)) (omega (arith, le.0, le.1)) same in
+      record { row = o.row; place = omega (arith, lc.0, le.0, o.place) }
+
   pub cells_apart : (q c p e : ℕ) → IsClass lists (round_of f (at_point q)) c → IsClass lists (round_of f (at_point p)) e → (q ≡ p → c ≡ e → ⊥)
       → cell_place f lists q c ≢ cell_place f lists p e
-  cells_apart q c p e lc le other same =
-      let o = one_place (classes_at f lists) q (c - 1) p (e - 1) (omega (arith, lc.0, lc.1)) (omega (arith, le.0, le.1)) same in
-      other o.row (omega (arith, lc.0, le.0, o.place))
+  cells_apart q c p e lc le other same = (let o = cell_one q c p e lc le same in other o.row o.place)
 
   worths_apart : (q c m p e l : ℕ) → IsClass lists (round_of f (at_point q)) c → IsClass lists (round_of f (at_point p)) e → m < move_count f q
       → l < move_count f p

@@ -9,10 +9,8 @@ use Rattle.gs_seq.specs.Payoffs.{end_sum}
 use Rattle.gs_seq.specs.Slots.{slot_count, slot_of}
 use Rattle.gs_best.specs.Tables.{moves_of, start_of}
 use Rattle.gs_best.specs.ClassTotals.{earlier_class}
-use Rattle.gs_play.specs.Plots.{IsRowIn}
 use Rattle.gs_play.specs.Tallies.{IsTally}
 use Rattle.gs_play.specs.declared.answers.Answer.{Answer}
-use Rattle.gs_play.specs.declared.answers.Gate.{Gate}
 use Rattle.gs_play.specs.declared.tally.Tally.{Tally}
 
 -- the answer takes its player's last step before a point, at the class above a class of the point; it comes there, too, if there is no such step
@@ -103,18 +101,6 @@ pub record IsTurnedAt (f : Frame) (lists : ClassLists) (q : ℕ) (old new : Answ
 pub record IsStill (f : Frame) (q : ℕ) (moved turned : List Bool) : Type 0 where
   pub own : get_or moved q false ≡ false
   pub gate : (u : Step) → last_step f (player_at f q) (at_point q) ≡ Some u → get_or turned u.point false ≡ false
-
--- what the program keeps of a player's last step: the row where it was made, and the move
-abbrev pub IsGate : Frame → ClassLists → Option Step → Option Gate → Type 0
-IsGate f lists None None = ⊤
-IsGate f lists None (Some g) = ⊥
-IsGate f lists (Some u) None = ⊥
-IsGate f lists (Some u) (Some g) = IsRowIn f lists g.row × (g.row.point ≡ u.point) × (g.choice ≡ u.choice)
-
--- a step, if there is one, was made at a point of the game, in a round or before it
-abbrev pub IsGateBefore : Frame → ClassLists → Option Gate → ℕ → Type 0
-IsGateBefore f lists None round = ⊤
-IsGateBefore f lists (Some g) round = IsRowIn f lists g.row × (g.row.round ≤ round)
 
 -- the weight of the move that is taken at a class of a point has the turns since then, and each other weight is what it was
 abbrev pub IsPaidOff : Frame → ClassLists → ℕ → ℕ → ℕ → ℕ → ℕ → ℕ → Answer → Answer → Type 0

@@ -1,11 +1,12 @@
 -- Where the numbers of a game stand, and what counts for what.
-use Rattle.std.specs.Prelude.{ℕ, ◌+◌, ◌-◌, ◌*◌, ◌<◌, ◌≤◌, ◌≡◌, ◌≢◌, List, length, get_or, set, slice_index, sum_by, Option, Some, None}
+use Rattle.std.specs.Prelude.{ℕ, ◌+◌, ◌-◌, ◌*◌, ◌<◌, ◌≤◌, ◌≡◌, ◌≢◌, List, length, get_or, option_map, set, slice_index, sum_by, Option, Some, None}
 use Rattle.std.specs.List.{range_with_len}
 use Rattle.gs_game.specs.Seen.{step_of}
 use Rattle.gs_game.specs.declared.positions.Step.{Step as StoredStep}
-use Rattle.gs_model.specs.Classes.{ClassLists}
+use Rattle.gs_model.specs.Classes.{ClassLists, IsClass}
 use Rattle.gs_model.specs.Frame.{Frame, end_count, last_step, leads_to, move_count, player_at, point_count, round_of}
 use Rattle.gs_model.specs.Positions.{Step, Target, at_end, at_point}
+use Rattle.gs_best.specs.ClassTotals.{earlier_class}
 use Rattle.gs_best.specs.Tables.{classes_at, start_of}
 use Rattle.gs_play.specs.declared.plot.Plot.{Plot}
 use Rattle.gs_play.specs.declared.plot.Row.{Row}
@@ -95,6 +96,28 @@ pub record AreSpans (f : Frame) (count : ℕ) (spans : List Span) : Type 0 where
   pub within : (q : ℕ) → q < point_count f → (span_in spans q).stop ≤ end_count f
   pub all : (z player : ℕ) → z < count → 0 < player → player ≤ 2 → HasEnd f player z spans
 
+-- what is kept of the last step before a point of the player who chooses there
+abbrev pub IsGate : Frame → ℕ → Option StoredStep → Type 0
+IsGate f q gate = option_map step_of gate ≡ last_step f (player_at f q) (at_point q)
+
+-- the cell above a class of a point, at another point
+abbrev pub cell_above : Frame → ClassLists → ℕ → ℕ → ℕ → ℕ
+cell_above f lists q c p = cell_place f lists p (earlier_class f lists (round_of f (at_point q)) (round_of f (at_point p)) c)
+
+-- the cell above a class of a point in which a step was made; any cell if there is no step
+abbrev pub IsAbove : Frame → ClassLists → Option Step → ℕ → ℕ → ℕ → Type 0
+IsAbove f lists step q c cell = (u : Step) → step ≡ Some u → cell ≡ cell_above f lists q c u.point
+
+-- for each cell that a list has, it has the cell above it in which a step was made, by the steps that stand for points
+abbrev pub AreAbove : Frame → ClassLists → (ℕ → Option Step) → List ℕ → Type 0
+AreAbove f lists steps cells = (q c : ℕ) → q < point_count f → IsClass lists (round_of f (at_point q)) c → cell_place f lists q c < length cells
+    → IsAbove f lists (steps q) q c (slice_index cells (cell_place f lists q c))
+
+-- a list has all cells
+pub record HasAbove (f : Frame) (lists : ClassLists) (steps : ℕ → Option Step) (cells : List ℕ) : Type 0 where
+  pub long : length cells ≡ start_of f lists (point_count f)
+  pub above : AreAbove f lists steps cells
+
 -- the plot of a game
 pub record IsPlot (f : Frame) (lists : ClassLists) (p : Plot) : Type 0 where
   pub many : length p.rows.items ≡ point_count f
@@ -107,6 +130,7 @@ pub record IsPlot (f : Frame) (lists : ClassLists) (p : Plot) : Type 0 where
   pub to_points : (q : ℕ) → q < point_count f → MatchMove f (at_point q) (get_or p.to_points.items q None)
   pub to_ends : (z : ℕ) → z < end_count f → MatchMove f (at_end z) (get_or p.to_ends.items z None)
   pub spans : AreSpans f (end_count f) p.spans.items
+  pub gates : HasAbove f lists (λ q. last_step f (player_at f q) (at_point q)) p.gates.items
 
 -- ---- of private functions
 
@@ -126,3 +150,7 @@ pub record AreMovesNoted (f : Frame) (point choice : ℕ) (to_points to_ends : L
   pub sound : (t : Target) (s : StoredStep) → way_to to_points to_ends t ≡ Some s → IsMoveTo f t (step_of s)
   pub before : (q m : ℕ) → q < point → m < move_count f q → way_to to_points to_ends (leads_to f q m) ≢ None
   pub here : (m : ℕ) → m < choice → way_to to_points to_ends (leads_to f point m) ≢ None
+
+-- a step, if there is one, was made at a point of the game, in the round of another one or before it
+abbrev pub IsStepBefore : Frame → Option Step → ℕ → Type 0
+IsStepBefore f step q = (u : Step) → step ≡ Some u → (u.point < point_count f) × (round_of f (at_point u.point) ≤ round_of f (at_point q))

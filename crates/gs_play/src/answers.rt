@@ -1,21 +1,21 @@
 //! The moves that a player's answer takes, and the player's weights so far.
 
-ghost use Rattle.std.specs.Prelude.{◌≡◌, ◌≢◌, ◌↔◌, ◌+◌, ◌<◌, ℕ, IfOk, IsTrue, Option, false, get_or, length, true};
+ghost use Rattle.std.specs.Prelude.{◌≡◌, ◌≢◌, ◌↔◌, ◌+◌, ◌<◌, ℕ, IfOk, IsTrue, false, get_or, length, true};
 ghost use Rattle.gs_model.specs.{Classes.{IsClass}, Frame.{last_step, move_count, other_player, player_at, point_count, round_of}};
-ghost use Rattle.gs_model.specs.Positions.{Step as ModelStep, at_point};
-ghost use Rattle.gs_seq.specs.{Abstracts.{abstract_frame, lists_of}, Plans.{class_plan}, Slots.{slot_count}};
+ghost use Rattle.gs_model.specs.Positions.{at_point};
+ghost use Rattle.gs_seq.specs.{Plans.{class_plan}, Slots.{slot_count}};
 ghost use Rattle.gs_best.specs.Tables.{AreInMoves, moves_of, start_of};
 ghost use Rattle.gs_play.specs.PlanSums.{ArePlansAlike};
-ghost use Rattle.gs_play.specs.{Plots.{IsRowIn}, Sides.{side_frame, side_lists}, Tallies.{HasMoved, HasTallyRoom}};
-ghost use Rattle.gs_play.specs.Answers.{AreKeptBut, AreRight, HasAnswer, IsElsewhere, IsGate, IsGateBefore, IsPaidOff, IsReached, IsRight, IsRightMove};
+ghost use Rattle.gs_play.specs.{Plots.{IsGate, IsRowIn}, Sides.{side_frame, side_lists}, Tallies.{HasMoved, HasTallyRoom}};
+ghost use Rattle.gs_play.specs.Answers.{AreKeptBut, AreRight, HasAnswer, IsElsewhere, IsPaidOff, IsReached, IsRight, IsRightMove};
 ghost use Rattle.gs_play.specs.Answers.{IsStill, IsPassedOn, IsOtherMove, IsTurnedAt, plan_after};
 
-use crate::plot::Row;
+use crate::plot::{Row, gate_of};
 use crate::pushing::{Change, push};
 use crate::side::Side;
 use crate::tally::Tally;
 use gs_game::Step;
-use gs_seq::{Abstract, Plan};
+use gs_seq::Plan;
 use std::alloc::{AllocError, Global};
 
 /// The mark of a class to which the answer does not come.
@@ -34,38 +34,21 @@ pub(crate) struct Answer {
     pub(crate) turned: Vec<bool>,
 }
 
-/// A player's last step before a point: the row where it was made, and the move.
-#[derive(Clone, Copy)]
-struct Gate {
-    row: Row,
-    choice: u8,
-}
-
-/// Returns the last step before a point of the player who chooses there.
-fn gate_of(side: &Side<'_>, point: u32) -> Option<Gate>
-    requires { point < point_count (side_frame side.now) }
-    ensures { let f = side_frame side.now in IsGate f (side_lists side.now) (last_step f (player_at f point) (at_point point)) result }
-{
-    let step = side.form.game().points()[point as usize].own?;
-    Some(Gate {
-        row: side.plot.rows[step.point as usize],
-        choice: step.choice,
-    })
-}
-
-/// Returns whether the answer comes to a class of a round behind a player's last step: whether it takes the step, at the class above.
-fn is_reached(form: &Abstract, taken: &[u8], gate: Option<Gate>, round: u8, class: u32) -> bool
-    requires gate { IsGateBefore (abstract_frame form.now) (lists_of form.now) gate round }
-    requires class { IsClass (lists_of form.now) round class }
-    requires long { length taken.now ≡ start_of (abstract_frame form.now) (lists_of form.now) (point_count (abstract_frame form.now)) }
-    ensures { let f = abstract_frame form.now in let lists = lists_of form.now in
-        (step : Option ModelStep) → IsGate f lists step gate → IsTrue result ↔ IsReached f lists (moves_of f lists taken.now) step round class }
+/// Returns whether the answer comes to a class of a row: whether it takes the player's last step before the row's point, at the class above.
+fn is_reached(side: &Side<'_>, taken: &[u8], gate: Option<Step>, row: Row, class: u32) -> bool
+    requires row { IsRowIn (side_frame side.now) (side_lists side.now) row }
+    requires gate { IsGate (side_frame side.now) row.point gate }
+    requires class { IsClass (side_lists side.now) (round_of (side_frame side.now) (at_point row.point)) class }
+    requires long { length taken.now ≡ start_of (side_frame side.now) (side_lists side.now) (point_count (side_frame side.now)) }
+    ensures { let f = side_frame side.now in let lists = side_lists side.now in
+        let step = last_step f (player_at f row.point) (at_point row.point) in
+        IsTrue result ↔ IsReached f lists (moves_of f lists taken.now) step (round_of f (at_point row.point)) class }
 {
     match gate {
         None => true,
-        Some(gate) => {
-            let up = form.class_above(round, gate.row.round, class) as usize - 1;
-            taken[gate.row.cell + up] == gate.choice
+        Some(step) => {
+            let up = side.plot.gates[row.cell + class as usize - 1];
+            taken[up as usize] == step.choice
         }
     }
 }
@@ -156,22 +139,23 @@ fn tell(side: &Side<'_>, tally: &mut Tally, point: u32, class: u32, old: u8, new
 
 /// Returns the move that is right at a class of a row: the chosen one where the answer comes there, else `NONE`.
 fn right_move(
-    form: &Abstract,
+    side: &Side<'_>,
     taken: &[u8],
     picks: &[u8],
-    gate: Option<Gate>,
+    gate: Option<Step>,
     row: Row,
     class: u32,
 ) -> u8
-    requires row { IsRowIn (abstract_frame form.now) (lists_of form.now) row }
-    requires gate { IsGateBefore (abstract_frame form.now) (lists_of form.now) gate row.round }
-    requires class { IsClass (lists_of form.now) row.round class }
-    requires taken { length taken.now ≡ start_of (abstract_frame form.now) (lists_of form.now) (point_count (abstract_frame form.now)) }
-    requires picks { length picks.now ≡ start_of (abstract_frame form.now) (lists_of form.now) (point_count (abstract_frame form.now)) }
-    ensures { let f = abstract_frame form.now in let lists = lists_of form.now in (step : Option ModelStep) → IsGate f lists step gate
-        → IsRightMove f lists (moves_of f lists taken.now) (moves_of f lists picks.now) step row.point class result }
+    requires row { IsRowIn (side_frame side.now) (side_lists side.now) row }
+    requires gate { IsGate (side_frame side.now) row.point gate }
+    requires class { IsClass (side_lists side.now) (round_of (side_frame side.now) (at_point row.point)) class }
+    requires taken { length taken.now ≡ start_of (side_frame side.now) (side_lists side.now) (point_count (side_frame side.now)) }
+    requires picks { length picks.now ≡ start_of (side_frame side.now) (side_lists side.now) (point_count (side_frame side.now)) }
+    ensures { let f = side_frame side.now in let lists = side_lists side.now in
+        let step = last_step f (player_at f row.point) (at_point row.point) in
+        IsRightMove f lists (moves_of f lists taken.now) (moves_of f lists picks.now) step row.point class result }
 {
-    if is_reached(form, taken, gate, row.round, class) {
+    if is_reached(side, taken, gate, row, class) {
         picks[row.cell + class as usize - 1]
     } else {
         NONE
@@ -206,12 +190,12 @@ fn renew_point(
     ensures told { let f = side_frame side.now in let lists = side_lists side.now in IsPassedOn f lists (other_player side.now.player) now
         (moves_of f lists answer.old.taken.items) (moves_of f lists answer.new.taken.items) tally.old tally.new }
 {
-    let gate = gate_of(side, point);
+    let gate = gate_of(side.form, point);
     let row = side.plot.rows[point as usize];
     for class in 1..side.form.class_total(row.round) + 1 {
         let cell = row.cell + class as usize - 1;
         let old = answer.taken[cell];
-        let new = right_move(side.form, &answer.taken, picks, gate, row, class);
+        let new = right_move(side, &answer.taken, picks, gate, row, class);
         if old != new {
             turn(side, answer, point, class, new, now);
             tell(side, tally, point, class, old, new, now);
@@ -230,9 +214,9 @@ fn is_loose(side: &Side<'_>, answer: &Answer, moved: &[bool], point: u32) -> boo
     if moved[point as usize] {
         return true;
     }
-    match gate_of(side, point) {
+    match gate_of(side.form, point) {
         None => false,
-        Some(gate) => answer.turned[gate.row.point as usize],
+        Some(step) => answer.turned[step.point as usize],
     }
 }
 
@@ -325,10 +309,10 @@ fn take_first(side: &Side<'_>, taken: &mut [u8], point: u32)
         → IsRight (side_frame side.now) (side_lists side.now) (moves_of (side_frame side.now) (side_lists side.now) taken.new) (λ q c. 0) point c }
     ensures elsewhere { AreKeptBut (side_frame side.now) (side_lists side.now) point taken.old taken.new }
 {
-    let gate = gate_of(side, point);
+    let gate = gate_of(side.form, point);
     let row = side.plot.rows[point as usize];
     for class in 1..side.form.class_total(row.round) + 1 {
-        if is_reached(side.form, taken, gate, row.round, class) {
+        if is_reached(side, taken, gate, row, class) {
             taken[row.cell + class as usize - 1] = 0;
         }
     }

@@ -1,10 +1,13 @@
 //! Where the numbers of a game stand, and what counts for what.
 
-ghost use Rattle.std.specs.Prelude.{◌≡◌, ◌+◌, ◌<◌, ◌≤◌, IfOk, OnOk, length, replicate, ◌++◌};
-ghost use Rattle.gs_model.specs.Frame.{end_count, leads_to, move_count, point_count};
+ghost use Rattle.std.specs.Prelude.{◌≡◌, ◌+◌, ◌<◌, ◌≤◌, ℕ, IfOk, OnOk, Option, length, option_map, replicate, ◌++◌};
+ghost use Rattle.gs_game.specs.Seen.{step_of};
+ghost use Rattle.gs_model.specs.{Classes.{IsClass}, Frame.{end_count, last_step, leads_to, move_count, player_at, point_count, round_of}};
+ghost use Rattle.gs_model.specs.Positions.{Step as ModelStep, at_point};
 ghost use Rattle.gs_seq.specs.Abstracts.{abstract_frame, lists_of};
 ghost use Rattle.gs_best.specs.Tables.{start_of};
-ghost use Rattle.gs_play.specs.Plots.{AreCells, AreRowsBefore, AreSpans, AreMovesNoted, AreWider, HasEnd, IsMoveNoted, IsPlot, IsRowIn, worth_start};
+ghost use Rattle.gs_play.specs.Plots.{AreAbove, AreCells, AreRowsBefore, AreSpans, AreMovesNoted, AreWider, HasAbove, HasEnd, IsAbove};
+ghost use Rattle.gs_play.specs.Plots.{IsGate, IsMoveNoted, IsPlot, IsRowIn, IsStepBefore, worth_start};
 
 use gs_game::{Step, Target};
 use gs_seq::{Abstract, end_step};
@@ -55,6 +58,8 @@ pub(crate) struct Plot {
     pub(crate) to_ends: Vec<Option<Step>>,
     /// for each point a span with all ends before which its player chose there last
     pub(crate) spans: Vec<Span>,
+    /// for each cell the cell above it in which its player took a step last; 0 if there is none
+    pub(crate) gates: Vec<u32>,
 }
 
 /// Returns the row of a point whose first cell and first worth stand at these places.
@@ -114,6 +119,71 @@ fn cells_of(alloc: Global, form: &Abstract) -> Result<Vec<u32>, AllocError>
         add_cells(&mut points, point, form.class_total(form.round_at(point)))?;
     }
     Ok(points)
+}
+
+/// Returns the last step before a point of the player who chooses there.
+pub(crate) fn gate_of(form: &Abstract, point: u32) -> Option<Step>
+    requires { point < point_count (abstract_frame form.now) }
+    ensures { IsGate (abstract_frame form.now) point result }
+{
+    form.game().points()[point as usize].own
+}
+
+/// Returns the cell above a class of a point in which a step was made. Returns 0 if there is no step.
+fn cell_above(form: &Abstract, rows: &[Row], point: u32, step: Option<Step>, class: u32) -> u32
+    requires long_rows { length rows.now ≡ point_count (abstract_frame form.now) }
+    requires rows { AreRowsBefore (abstract_frame form.now) (lists_of form.now) (point_count (abstract_frame form.now)) rows.now }
+    requires point { point < point_count (abstract_frame form.now) }
+    requires step { IsStepBefore (abstract_frame form.now) (option_map step_of step) point }
+    requires class { IsClass (lists_of form.now) (round_of (abstract_frame form.now) (at_point point)) class }
+    ensures { IsAbove (abstract_frame form.now) (lists_of form.now) (option_map step_of step) point class result }
+{
+    match step {
+        None => 0,
+        Some(step) => {
+            let row = rows[step.point as usize];
+            let above = form.class_above(form.round_at(point), row.round, class);
+            row.cell as u32 + (above - 1)
+        }
+    }
+}
+
+/// Adds for each class of a point the cell above it in which a step was made, or 0 if there is no step.
+fn add_above(
+    form: &Abstract,
+    rows: &[Row],
+    point: u32,
+    step: Option<Step>,
+    cells: &mut Vec<u32>,
+) -> Result<(), AllocError>
+    requires long_rows { length rows.now ≡ point_count (abstract_frame form.now) }
+    requires rows { AreRowsBefore (abstract_frame form.now) (lists_of form.now) (point_count (abstract_frame form.now)) rows.now }
+    requires point { point < point_count (abstract_frame form.now) }
+    requires step { IsStepBefore (abstract_frame form.now) (option_map step_of step) point }
+    requires long { length cells.old.items ≡ start_of (abstract_frame form.now) (lists_of form.now) point }
+    ensures long { OnOk result (length cells.new.items ≡ start_of (abstract_frame form.now) (lists_of form.now) (point + 1)) }
+    ensures above { (steps : ℕ → Option ModelStep) → steps point ≡ option_map step_of step
+        → OnOk result (AreAbove (abstract_frame form.now) (lists_of form.now) steps cells.old.items
+        → AreAbove (abstract_frame form.now) (lists_of form.now) steps cells.new.items) }
+{
+    for class in 1..form.class_total(form.round_at(point)) + 1 {
+        cells.push(cell_above(form, rows, point, step, class))?;
+    }
+    Ok(())
+}
+
+/// Returns for each cell the cell above it in which its player took a step last, or 0 if there is none.
+fn gates_of(alloc: Global, form: &Abstract, rows: &[Row]) -> Result<Vec<u32>, AllocError>
+    requires long_rows { length rows.now ≡ point_count (abstract_frame form.now) }
+    requires rows { AreRowsBefore (abstract_frame form.now) (lists_of form.now) (point_count (abstract_frame form.now)) rows.now }
+    ensures { let f = abstract_frame form.now in
+        IfOk result (λ v. HasAbove f (lists_of form.now) (λ q. last_step f (player_at f q) (at_point q)) v.items) }
+{
+    let mut gates = Vec::new(alloc);
+    for point in 0..form.point_total() {
+        add_above(form, rows, point, gate_of(form, point), &mut gates)?;
+    }
+    Ok(gates)
 }
 
 /// Notes a move at the point or end to which it leads.
@@ -213,6 +283,7 @@ impl Plot {
         lay_all(form, &mut to_points, &mut to_ends);
         widen_all(form, &mut spans);
         let cells = cells_of(alloc, form)?;
+        let gates = gates_of(alloc, form, &rows)?;
         Ok(Plot {
             rows,
             worths,
@@ -220,6 +291,7 @@ impl Plot {
             to_points,
             to_ends,
             spans,
+            gates,
         })
     }
 }

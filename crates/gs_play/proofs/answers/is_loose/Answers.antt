@@ -1,41 +1,38 @@
-use Rattle.std.proofs.Common.{false, get_or, None, Option, Some, sym, ap, ◌∙◌, subst, arith}
+use Rattle.std.proofs.Common.{◌≡◌, ◌<◌, false, get_or, None, Some, refl, sym, ap, ◌∙◌, arith}
 use Rattle.std.proofs.lemmas.List.{get_or_default}
-use Rattle.gs_model.specs.Classes.{ClassLists}
-use Rattle.gs_model.specs.Frame.{Frame, last_step, player_at}
-use Rattle.gs_model.specs.Positions.{Step, at_point}
-use Rattle.gs_play.specs.Answers.{IsGate}
-use Rattle.gs_play.specs.Plots.{IsRowIn}
-use Rattle.gs_play.specs.Sides.{side_frame, side_lists}
-use Rattle.gs_play.specs.declared.answers.Gate.{Gate}
+use Rattle.gs_game.specs.Seen.{step_of}
+use Rattle.gs_model.specs.Frame.{point_count}
+use Rattle.gs_model.specs.Positions.{Step}
+use Rattle.gs_play.specs.Sides.{side_frame}
+use Rattle.gs_play.proofs.Gates.{gate_before}
+use Rattle.gs_play.proofs.answers.is_loose.Goals.{In-Some}
 use Rattle.gs_play.proofs.answers.is_loose.Goals as goal
 
-known : (f : Frame) (lists : ClassLists) (o : Option Step) (g : Gate) → IsGate f lists o (Some g) → IsRowIn f lists g.row
-known f lists None g h = absurd h
-known f lists (Some u) g h = h.0
+inside : (c : In-Some) → c.in-Some.step.point < point_count (side_frame c.args.side.now)
+inside c =
+    let h = gate_before c.args.side.now.form.now c.args.point c.requires.point (Some c.in-Some.step) c.in-Some.ensures (step_of c.in-Some.step) refl in
+    h.0
+
+none_is : (u : Step) → None ≡ Some u → ⊥
+none_is u e = absurd (cc)
+
+some_is : (u v : Step) → Some u ≡ Some v → u ≡ v
+some_is u v e = cc
 
 pub index-requires : goal.index-requires
-index-requires c =
-    let f = side_frame c.args.side.now in
-    let row = known f (side_lists c.args.side.now) (last_step f (player_at f c.args.point) (at_point c.args.point)) c.in-Some.gate c.in-Some.ensures in
-    omega (arith, row.inside, c.requires.turned, c.args.answer.now.turned.ok.0)
+index-requires c = omega (arith, inside (goal.at.index-requires c).In-Some, c.requires.turned, c.args.answer.now.turned.ok.0)
 
 pub returns-in-None : goal.returns-in-None
-returns-in-None c = λ e. record {
-  own = c.if-moved-point.false;
-  gate = λ u is. absurd (subst (λ o. IsGate (side_frame c.args.side.now) (side_lists c.args.side.now) o None) is c.in-None.ensures);
-}
+returns-in-None c = λ e. record { own = c.if-moved-point.false; gate = λ u is. absurd (none_is u (c.in-None.ensures ∙ is)) }
 
 pub returns-in-Some : goal.returns-in-Some
 returns-in-Some c = λ e.
-    let f = side_frame c.args.side.now in
-    let lists = side_lists c.args.side.now in
     let turned = c.args.answer.now.turned.items in
-    let row = known f lists (last_step f (player_at f c.args.point) (at_point c.args.point)) c.in-Some.gate c.in-Some.ensures in
+    let l = inside (goal.at.returns-in-Some c).In-Some in
     record {
       own = c.if-moved-point.false;
       gate = λ u is.
-          (let g = subst (λ o. IsGate f lists o (Some c.in-Some.gate)) is c.in-Some.ensures in
-          ap (λ i. get_or turned i false) (sym g.1)
-          ∙ get_or_default turned c.in-Some.gate.row.point false c.index.result.now (omega (arith, row.inside, c.requires.turned))
-          ∙ sym c.index.ensures ∙ e);
+          ap (λ (s : Step). get_or turned s.point false) (sym (some_is (step_of c.in-Some.step) u (c.in-Some.ensures ∙ is)))
+          ∙ get_or_default turned c.in-Some.step.point false c.index.result.now (omega (arith, l, c.requires.turned))
+          ∙ sym c.index.ensures ∙ e;
     }

@@ -1,17 +1,15 @@
-use Rattle.std.proofs.Common.{◌≡◌, ◌+◌, ◌-◌, ◌<◌, refl, sym, ap, ◌∙◌, subst, arith, ⊎_elim}
+use Rattle.std.proofs.Common.{◌≡◌, ℕ, Option, ◌+◌, ◌-◌, ◌<◌, sym, ap, ◌∙◌, subst, arith, ⊎_elim}
 use Rattle.gs_model.specs.Classes.{IsClass, class_count}
 use Rattle.gs_model.specs.Frame.{last_step, move_count, player_at, point_count, round_of}
-use Rattle.gs_model.specs.Positions.{at_point}
-use Rattle.gs_seq.specs.Abstracts.{game_in}
-use Rattle.gs_seq.proofs.{Forms.{form_classes, form_in_range, form_walked}, Points.{walked_at}}
+use Rattle.gs_model.specs.Positions.{Step, at_point}
+use Rattle.gs_seq.proofs.{Forms.{form_classes, form_in_range, form_walked}}
 use Rattle.gs_best.specs.Tables.{moves_of, start_of}
 use Rattle.gs_best.proofs.PointStarts.{place_before, starts_few}
 use Rattle.gs_play.specs.Answers.{IsRightMove}
-use Rattle.gs_play.specs.Plots.{cell_place}
+use Rattle.gs_play.specs.Plots.{IsGate, cell_place}
 use Rattle.gs_play.specs.Sides.{side_frame, side_lists}
 use Rattle.gs_play.specs.declared.answers.Answer.{Answer}
 use Rattle.gs_play.specs.declared.tally.Tally.{Tally}
-use Rattle.gs_play.proofs.Gates.{gate_before}
 use Rattle.gs_play.proofs.Paid.{old_in, old_read}
 use Rattle.gs_play.proofs.PlotRows.{IsRowAt, row_at, row_cell, row_round}
 use Rattle.gs_play.proofs.Retaken.{IsRenewing, renewing_more, renewing_none, renewing_same}
@@ -60,11 +58,12 @@ right : (c : After-right_move-new) → c.index-row.result.now.point ≡ c.args.p
 right c here =
     let f = side_frame c.args.side.now in
     let lists = side_lists c.args.side.now in
-    let step = last_step f (player_at f c.args.point) (at_point c.args.point) in
+    let step : ℕ → Option Step = λ q. last_step f (player_at f q) (at_point q) in
     let picks = moves_of f lists c.args.picks.now in
-    subst (λ q. IsRightMove f lists (moves_of f lists c.loop-class.answer.taken.items) picks step q c.loop-class.class c.right_move-new.result) here
-    (subst (λ xs. IsRightMove f lists (moves_of f lists xs) picks step c.index-row.result.now.point c.loop-class.class c.right_move-new.result)
-    c.deref.ensures.value (c.right_move-new.ensures step c.gate_of-gate.ensures))
+    subst (λ q. IsRightMove f lists (moves_of f lists c.loop-class.answer.taken.items) picks (step q) q c.loop-class.class c.right_move-new.result) here
+    (let q = c.index-row.result.now.point in
+    subst (λ xs. IsRightMove f lists (moves_of f lists xs) picks (step q) q c.loop-class.class c.right_move-new.result) c.deref.ensures.value
+    c.right_move-new.ensures)
 
 -- which is one of the point's, or none
 right_in : (c : After-right_move-new) → c.index-row.result.now.point ≡ c.args.point
@@ -103,11 +102,15 @@ right_move-new-requires-clause-row c = (row (goal.at.right_move-new-requires-cla
 
 pub right_move-new-requires-clause-gate : goal.right_move-new-requires-clause-gate
 right_move-new-requires-clause-gate c =
+    let r = row (goal.at.right_move-new-requires-clause-gate c).After-index-row in
+    subst (λ i. IsGate (side_frame c.args.side.now) i c.gate_of-gate.result) (sym r.point) c.gate_of-gate.ensures
+
+pub right_move-new-requires-clause-class : goal.right_move-new-requires-clause-class
+right_move-new-requires-clause-class c =
     let s = c.args.side.now in
-    let f = side_frame s in
-    let q = c.args.point in
-    gate_before f (side_lists s) (player_at f q) (walked_at (game_in s.form.now) (player_at f q) q c.requires.point refl) q c.requires.point refl
-    c.gate_of-gate.result c.gate_of-gate.ensures c.index-row.result.now.round (round (goal.at.right_move-new-requires-clause-gate c).After-index-row)
+    let at = goal.at.right_move-new-requires-clause-class c in
+    subst (λ i. IsClass (side_lists s) (round_of (side_frame s) (at_point i)) c.loop-class.class) (sym (row at.After-index-row).point)
+    (at_class at.In-loop-class (round at.After-index-row))
 
 pub turn-requires-clause-class : goal.turn-requires-clause-class
 turn-requires-clause-class c = at_class (goal.at.turn-requires-clause-class c).In-loop-class (round (goal.at.turn-requires-clause-class c).After-index-row)

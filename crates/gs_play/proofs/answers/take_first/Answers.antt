@@ -1,4 +1,5 @@
 use Rattle.std.proofs.Common.{◌≡◌, ◌+◌, ◌-◌, false, true, set, refl, sym, ap, ◌∙◌, subst, arith}
+use Rattle.std.specs.Prelude.{◌↔◌, IsTrue}
 use Rattle.gs_model.specs.Classes.{IsClass, class_count}
 use Rattle.gs_model.specs.Frame.{last_step, player_at, point_count, round_of}
 use Rattle.gs_model.specs.Positions.{at_point}
@@ -7,9 +8,9 @@ use Rattle.gs_seq.proofs.{Forms.{form_classes, form_in_range, form_walked}, Poin
 use Rattle.gs_best.specs.Tables.{moves_of, start_of}
 use Rattle.gs_best.proofs.PointStarts.{place_before, starts_few}
 use Rattle.gs_play.specs.Answers.{IsReached}
-use Rattle.gs_play.specs.Plots.{cell_place}
+use Rattle.gs_play.specs.Plots.{IsGate, cell_place}
 use Rattle.gs_play.specs.Sides.{side_frame, side_lists}
-use Rattle.gs_play.proofs.{FirstMoves.{AreFirstTo, firsts_off, firsts_on}, Gates.{gate_before}, PlotRows.{IsRowAt, row_at, row_cell, row_round}}
+use Rattle.gs_play.proofs.{FirstMoves.{AreFirstTo, firsts_off, firsts_on}, PlotRows.{IsRowAt, row_at, row_cell, row_round}}
 use Rattle.gs_play.proofs.answers.take_first.Goals.{After-index-row, In-loop-class, else-is_reached, then-is_reached}
 use Rattle.gs_play.proofs.answers.take_first.Goals as goal
 
@@ -33,13 +34,13 @@ class_total-class-end-requires-clause-top c = omega (
   (form_walked c.args.side.now.form.now 1 (omega arith) (omega arith)).point_in c.args.point c.requires.point,
 )
 
+pub is_reached-requires-clause-row : goal.is_reached-requires-clause-row
+is_reached-requires-clause-row c = (row (goal.at.is_reached-requires-clause-row c).After-index-row).known
+
 pub is_reached-requires-clause-gate : goal.is_reached-requires-clause-gate
 is_reached-requires-clause-gate c =
-    let s = c.args.side.now in
-    let f = side_frame s in
-    let q = c.args.point in
-    gate_before f (side_lists s) (player_at f q) (walked_at (game_in s.form.now) (player_at f q) q c.requires.point refl) q c.requires.point refl
-    c.gate_of-gate.result c.gate_of-gate.ensures _ (round (goal.at.is_reached-requires-clause-gate c).After-index-row)
+    let r = row (goal.at.is_reached-requires-clause-gate c).After-index-row in
+    subst (λ i. IsGate (side_frame c.args.side.now) i c.gate_of-gate.result) (sym r.point) c.gate_of-gate.ensures
 
 -- the class of the turn is one of the point
 class : (c : In-loop-class) → c.index-row.result.now.round ≡ round_of (side_frame c.args.side.now) (at_point c.args.point)
@@ -48,6 +49,13 @@ class c r = (
   omega (arith, c.loop-class.auto.class),
   omega (arith, c.loop-class-test.true, c.class_total-class-end.ensures.value, ap (class_count (side_lists c.args.side.now)) r),
 )
+
+pub is_reached-requires-clause-class : goal.is_reached-requires-clause-class
+is_reached-requires-clause-class c =
+    let s = c.args.side.now in
+    let at = goal.at.is_reached-requires-clause-class c in
+    subst (λ i. IsClass (side_lists s) (round_of (side_frame s) (at_point i)) c.loop-class.class) (sym (row at.After-index-row).point)
+    (class at.In-loop-class (round at.After-index-row))
 
 -- its cell
 cell : (c : In-loop-class) → IsRowAt (side_frame c.args.side.now) (side_lists c.args.side.now) c.args.point c.index-row.result.now
@@ -84,18 +92,16 @@ loop-class-preserved c =
     let here = cell at.In-loop-class (row at.After-index-row) in
     let place = place_before f lists q n (point_count f) lc c.requires.point in
     let w = walked_at (game_in a) (player_at f q) q c.requires.point refl in
-    let o = last_step f (player_at f q) (at_point q) in
-    let test = c.is_reached.ensures o c.gate_of-gate.ensures in
+    let test = subst (λ i. IsTrue c.is_reached.result ↔ IsReached f lists (moves_of f lists c.loop-class.taken) (last_step f (player_at f i) (at_point i))
+    (round_of f (at_point i)) n) (row at.After-index-row).point c.is_reached.ensures in
     elim c.if-is_reached.branch [
       | then-is_reached b ↦ firsts_on f lists q c.args.taken.now (form_in_range a) (form_classes a) (player_at f q) w c.requires.point refl n lc
-          c.loop-class.taken c.loop-class.invariant
-          (subst (λ i. IsReached f lists (moves_of f lists c.loop-class.taken) o i n) (round at.After-index-row) (test.0 b.if-is_reached.true))
-          c.if-is_reached.taken (b.taken-is ∙ ap (λ i. set c.loop-class.taken i 0) here) (omega (arith, place, c.loop-class.auto.taken, c.requires.long))
+          c.loop-class.taken c.loop-class.invariant (test.0 b.if-is_reached.true) c.if-is_reached.taken
+          (b.taken-is ∙ ap (λ i. set c.loop-class.taken i 0) here) (omega (arith, place, c.loop-class.auto.taken, c.requires.long))
       | else-is_reached b ↦ subst (AreFirstTo f lists q (n + 1) c.args.taken.now) (sym b.taken-is)
           (firsts_off f lists q c.args.taken.now (form_in_range a) (form_classes a) (player_at f q) w c.requires.point refl n lc c.loop-class.taken
           c.loop-class.invariant
-          (λ h. absurd (let t : false ≡ true = sym b.if-is_reached.false
-          ∙ test.1 (subst (λ i. IsReached f lists (moves_of f lists c.loop-class.taken) o i n) (sym (round at.After-index-row)) h) in cc)))
+          (λ h. absurd (let t : false ≡ true = sym b.if-is_reached.false ∙ test.1 h in cc)))
     ]
 
 pub returns-clause-first : goal.returns-clause-first

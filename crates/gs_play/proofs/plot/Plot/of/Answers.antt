@@ -57,4 +57,5 @@ returns c =
       to_points = λ q l. subst (λ (xs : List (Option StoredStep)). MatchMove f (at_point q) (get_or xs q None)) (sym points) (ways (at_point q));
       to_ends = λ z l. subst (λ (xs : List (Option StoredStep)). MatchMove f (at_end z) (get_or xs z None)) (sym ends) (ways (at_end z));
       spans = subst (λ (xs : List Span). AreSpans f (end_count f) xs) (sym spans) c.widen_all.ensures;
+      gates = c.in_ok-gates.ensures;
     }
