@@ -4,7 +4,7 @@ use Rattle.std.proofs.Common.{refl, sym, ap, subst, ◌∙◌, arith}
 use Rattle.std.proofs.{lemmas.Bool.{cases_eq}, lemmas.List.{length-take-le, get_or-take, take_more}, Math.Seq.{take-length}}
 use Rattle.gs_simplex.specs.{declared.program.Program.{Program}, Sums.{sum_to}}
 use Rattle.gs_simplex.specs.Program.{number, IsFree, Listing, IsListed, RowListed, ColListed, IsPairList, IsRowsOf, CanTake, IsTakenInTurn, IsOpening}
-use Rattle.gs_simplex.specs.{Table.{table_rows, IsTableOf, IsTableAfter}, Conditions.{IsNewPair, CanTakeAt, IsTaken, HasFeasibleSides}}
+use Rattle.gs_simplex.specs.{Table.{IsTableOf, IsTableAfter}, Conditions.{IsNewPair, CanTakeAt, IsTaken, HasFeasibleSides}}
 use Rattle.gs_simplex.proofs.{Ring.{ring, linear}, Steps.{take_rows}, Solutions.{basic_exists}, RowLaws.{end_feasible}}
 use Rattle.gs_simplex.proofs.{Bases.{IsFull, from_cols, table_of, state_of}, Opening.{IsOpened}}
 use Rattle.gs_simplex.proofs.{PairLists.{less_one, place_of, listed_at, whole_opened, opened_pair_list}, Multiples.{down_nonneg}, Kept.{row_zero_kept}}
@@ -26,14 +26,14 @@ front_taken p o t h u k kl =
     let P : Listing → Type 0 = λ x. CanTake p x w.0 w.1 in
     (w.0, w.1, get_or-take t o k (0, 0) kt ∙ w.2, subst P (sym (take_take o k t (omega arith))) w.3)
 
-pub front_opened : (p : Program) (o : Listing) (t : ℕ) (xs : List ℤ) → t ≤ length o → IsTaken p o t xs → IsOpened p (take t o)
-front_opened p o t xs h u = whole_opened (front_taken p o t h u.taken)
+pub front_opened : (p : Program) (o : Listing) (t : ℕ) (grid : ℕ → ℕ → ℤ) → t ≤ length o → IsTaken p o t grid → IsOpened p (take t o)
+front_opened p o t grid h u = whole_opened (front_taken p o t h u.taken)
 
 -- what the checks of one pair show
-pub can_take_from : (p : Program) (o : Listing) (t r c : ℕ) (xs : List ℤ) → t < length o → slice_index_or o t (0, 0) ≡ (r + 1, c + 1) → r < p.rows
-    → c < p.cols → IsNewPair o t → IsTableOf p (take t o) xs
-    → table_rows p xs r c ≢ pos 0 → CanTakeAt p (table_rows p xs) o t
-can_take_from p o t r c xs h at rm cm new rows ne =
+pub can_take_from : (p : Program) (o : Listing) (t r c : ℕ) (grid : ℕ → ℕ → ℤ) → t < length o → slice_index_or o t (0, 0) ≡ (r + 1, c + 1) → r < p.rows
+    → c < p.cols → IsNewPair o t → IsTableOf p (take t o) grid
+    → grid r c ≢ pos 0 → CanTakeAt p (grid) o t
+can_take_from p o t r c grid h at rm cm new rows ne =
     let long : length (take t o) ≡ t = length-take-le t o (omega arith) in
     let row_free : RowListed (take t o) r → ⊥ = λ x. (let k = x.1.0 in let kt : k < t = omega (arith, x.1.1) in
     (new k kt).0 (ap (λ (w : ℕ × ℕ). w.0) (sym (get_or-take t o k (0, 0) kt) ∙ place_of (take t o) r x.0 x.1) ∙ sym (ap (λ (w : ℕ × ℕ). w.0) at))) in
@@ -58,10 +58,10 @@ can_take_from p o t r c xs h at rm cm new rows ne =
     }
 
 -- one more pair taken
-pub taken_more : (p : Program) (o : Listing) (t r c : ℕ) (xs new : List ℤ) → t < length o → slice_index_or o t (0, 0) ≡ (r + 1, c + 1)
-    → CanTake p (take t o) r c → IsTaken p o t xs → IsTableAfter p xs new r c → IsTaken p o (t + 1) new
-taken_more p o t r c xs new h at can u w =
-    let il = (front_opened p o t xs (omega arith) u).is_list in
+pub taken_more : (p : Program) (o : Listing) (t r c : ℕ) (grid new : ℕ → ℕ → ℤ) → t < length o → slice_index_or o t (0, 0) ≡ (r + 1, c + 1)
+    → CanTake p (take t o) r c → IsTaken p o t grid → IsTableAfter p grid new r c → IsTaken p o (t + 1) new
+taken_more p o t r c grid new h at can u w =
+    let il = (front_opened p o t grid (omega arith) u).is_list in
     let v = u.rows.rows_of in
     let q = w.after v.0 v.1 (v.2.primitive r can.row) v.3 in
     let P : Listing → Type 0 = λ x. IsRowsOf p x q.0 q.1 in
@@ -77,13 +77,13 @@ taken_more p o t r c xs new h at can u w =
     }
 
 -- ---- all together
-pub whole_pairs : (p : Program) (o : Listing) (xs : List ℤ) → IsTaken p o (length o) xs → IsPairList p o
-whole_pairs p o xs u = opened_pair_list (whole_opened u.taken)
+pub whole_pairs : (p : Program) (o : Listing) (grid : ℕ → ℕ → ℤ) → IsTaken p o (length o) grid → IsPairList p o
+whole_pairs p o grid u = opened_pair_list (whole_opened u.taken)
 
-module _ (p : Program) (o : Listing) (xs : List ℤ) (u : IsTaken p o (length o) xs) (named : (i : ℕ) → i < p.rows
+module _ (p : Program) (o : Listing) (grid : ℕ → ℕ → ℤ) (u : IsTaken p o (length o) grid) (named : (i : ℕ) → i < p.rows
     → (k : ℕ) × (k < length o) × ((slice_index_or o k (0, 0)).0 ≡ i + 1))
     (free : (j : ℕ) → j < p.cols → IsFree p j → (k : ℕ) × (k < length o)
-    × ((slice_index_or o k (0, 0)).1 ≡ j + 1)) (sides : HasFeasibleSides p o (table_rows p xs)) where
+    × ((slice_index_or o k (0, 0)).1 ≡ j + 1)) (sides : HasFeasibleSides p o (grid)) where
   is_opened : IsOpened p o
   is_opened = whole_opened u.taken
 
@@ -102,12 +102,12 @@ module _ (p : Program) (o : Listing) (xs : List ℤ) (u : IsTaken p o (length o)
   full : IsFull p o
   full = record { is_list = is_opened.is_list; once = is_opened.once; regular = is_opened.regular; all = row_named; free_in = free_named }
 
-  rows_o : IsTableOf p o xs
-  rows_o = let P : Listing → Type 0 = λ x. IsTableOf p x xs in subst P (take-length o) u.rows
+  rows_o : IsTableOf p o grid
+  rows_o = let P : Listing → Type 0 = λ x. IsTableOf p x grid in subst P (take-length o) u.rows
 
   sides_o : HasFeasibleSides p o rows_o.rows_of.0
   sides_o i j h free = let m = (rows_o.rows_of.3.rows_kept i (is_opened.is_list.row_inside i j h)).by in
-      down_nonneg m.0 (table_rows p xs i p.cols) (rows_o.rows_of.0 i p.cols) m.1 (m.2 p.cols (omega arith)) (sides i j h free)
+      down_nonneg m.0 (grid i p.cols) (rows_o.rows_of.0 i p.cols) m.1 (m.2 p.cols (omega arith)) (sides i j h free)
 
   pub opening_from : length o ≡ p.rows → IsOpening p o
   opening_from long =

@@ -27,7 +27,12 @@ pub mod Reduce
 pub mod Places
 pub mod Tables
 pub mod Kept
-pub mod Lives
+pub mod Supports
+pub mod Standing
+pub mod Living
+pub mod Pivoting
+pub mod Relisting
+pub mod Slots
 pub mod Starts
 pub mod Choosing
 pub mod Paths

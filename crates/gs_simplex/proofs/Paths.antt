@@ -1,33 +1,33 @@
 -- The path up to a table: its first state, one more step of the opening or one more pivot, and each way in which it stops.
-use Rattle.std.proofs.Common.{◌≡◌, ◌≢◌, ℕ, suc, ◌+◌, ◌-◌, ◌*◌, ◌<◌, ◌≤◌, inl, inr, List, [], ◌∷◌, ◌++◌, length, take, drop, slice_index_or, slice_set, ℤ, pos}
+use Rattle.std.proofs.Common.{◌≡◌, ◌≢◌, ℕ, suc, ◌+◌, ◌<◌, ◌≤◌, inl, inr, [], ◌∷◌, ◌++◌, length, take, slice_index_or, slice_set, ℤ, pos}
 use Rattle.std.proofs.Common.{neg_ℤ, ◌<ℤ◌, ◌≤ℤ◌, Option, Some, None, IfNone, MatchOption, refl, sym, ap, subst, ◌∙◌, arith}
-use Rattle.std.proofs.{lemmas.List.{take_more, length-take-le, length-drop}, Math.Seq.{take-length}}
+use Rattle.std.proofs.{lemmas.List.{take_more}, Math.Seq.{take-length}}
 use Rattle.gs_simplex.specs.{declared.program.Program.{Program}, Rows.{IsPrimitive}, Elimination.{IsEliminated}}
 use Rattle.gs_simplex.specs.Program.{Listing, IsPairList, IsRowsOf, CanTake, IsTakenInTurn, IsOpening}
 use Rattle.gs_simplex.specs.Path.{States, IsPath, IsWhole, IsPivot, Enters, NoneEnters, Leaves, NoneLeaves, AllNarrow, IsFirstWide, ends, wide, pivots}
-use Rattle.gs_simplex.specs.{Path.{unbounded, PathStops}, Numbers.{at, cell}}
-use Rattle.gs_simplex.specs.Table.{table_rows, table_aim, IsTable, IsKept, IsTableOf, IsTableAfter, stated, IsWideAfter}
+use Rattle.gs_simplex.specs.{Path.{unbounded, PathStops}}
+use Rattle.gs_simplex.specs.Table.{table_aim, IsTable, IsKept, IsTableOf, IsTableAfter, stated, IsWideAfter}
 use Rattle.gs_simplex.specs.{State.{IsSoFar, IsPivoted, IsWidePivot}, Choice.{IsLeaving}}
 use Rattle.gs_simplex.proofs.{Ring.{linear}, Steps.{IsList, take_rows}, Pivots.{IsPlace, turn_rows}, Opening.{opened}, Extend.{longer, last_step, path_longer}}
 use Rattle.gs_simplex.proofs.{Agree.{Agree, enters_same, leaves_same, lists_same, paths_agree}, Exists.{take_nonzero}}
-use Rattle.gs_simplex.proofs.{PairLists.{less_one, pair_list_is_list, opened_pair_list, place_in, changed_pair_list}, Places.{at_part}, Tables.{flipped_other}}
+use Rattle.gs_simplex.proofs.{PairLists.{less_one, pair_list_is_list, opened_pair_list, place_in, changed_pair_list}, Tables.{flipped_other}}
 use Rattle.gs_simplex.proofs.Kept.{narrow_kept, aim_zero_kept, nonzero_kept, enters_kept, none_enters_kept, leaves_kept, none_leaves_kept}
 
-module _ {p : Program} {o l : Listing} {xs : List ℤ} {t : ℕ} where
+module _ {p : Program} {o l : Listing} {grid : ℕ → ℕ → ℤ} {t : ℕ} where
   -- ---- what a table holds
-  pub rows_at : (u : IsSoFar p o t l xs) → IsRowsOf p l (u.states.0.rows t) (u.states.0.aim t)
+  pub rows_at : (u : IsSoFar p o t l grid) → IsRowsOf p l (u.states.0.rows t) (u.states.0.aim t)
   rows_at u = let s = u.states.0 in let P : Listing → Type 0 = λ x. IsRowsOf p x (s.rows t) (s.aim t) in
       subst P u.states.2 (u.states.1.rows t (omega arith))
 
-  pub rows_of_so_far : IsSoFar p o t l xs → IsTableOf p l xs
+  pub rows_of_so_far : IsSoFar p o t l grid → IsTableOf p l grid
   rows_of_so_far u = record { rows_of = (u.states.0.rows t, u.states.0.aim t, rows_at u, u.states.3) }
 
-  narrow_at : (u : IsSoFar p o t l xs) → IsTable p xs → AllNarrow p (u.states.0.rows t) (u.states.0.aim t)
+  narrow_at : (u : IsSoFar p o t l grid) → IsTable p grid → AllNarrow p (u.states.0.rows t) (u.states.0.aim t)
   narrow_at u table = narrow_kept u.states.3 table
 
 -- ---- the first step
-pub so_far_start : (p : Program) (o : Listing) (xs : List ℤ) → IsTableOf p [] xs → IsSoFar p o 0 [] xs
-so_far_start p o xs u = record {
+pub so_far_start : (p : Program) (o : Listing) (grid : ℕ → ℕ → ℤ) → IsTableOf p [] grid → IsSoFar p o 0 [] grid
+so_far_start p o grid u = record {
   states = (
     record { lists = λ k. []; rows = λ k. u.rows_of.0; aim = λ k. u.rows_of.1; entering = λ k. 0; leaving = λ k. 0 },
     record {
@@ -50,9 +50,9 @@ taken_next : (o : Listing) (t : ℕ) (r c : ℕ) → t < length o → slice_inde
 taken_next o t r c h at = ap (λ x. take x o) (let q : suc t ≡ t + 1 = omega arith in q) ∙ take_more o t (0, 0) h ∙ ap (λ x. take t o ++ (x ∷ [])) at
 
 module _ {p : Program} {o : Listing} where
-  module _ {l : Listing} {xs : List ℤ} {t : ℕ} {Q : ℕ → ℕ → ℤ} {b : ℕ → ℤ} {next : Listing} (f d : ℕ) where
+  module _ {l : Listing} {grid : ℕ → ℕ → ℤ} {t : ℕ} {Q : ℕ → ℕ → ℤ} {b : ℕ → ℤ} {next : Listing} (f d : ℕ) where
     -- an opening step, or a pivot in which column f enters and column d leaves, leads to the new state
-    next_step : (u : IsSoFar p o t l xs) → IsTable p xs → IsRowsOf p next Q b → (t < length o → next ≡ take (suc t) o)
+    next_step : (u : IsSoFar p o t l grid) → IsTable p grid → IsRowsOf p next Q b → (t < length o → next ≡ take (suc t) o)
         → (length o ≤ t → IsPivot p (u.states.0.lists t) (u.states.0.rows t) (u.states.0.aim t) next f d) → IsNext p o t next Q b
     next_step u table new opens turn =
         let s = u.states.0 in let more : States = longer t s next Q b f d in
@@ -62,17 +62,17 @@ module _ {p : Program} {o : Listing} where
           states = (more, path_longer t s next Q b f d p o u.states.1 (λ z. narrow_at u table) new opens turn, w.0, w.1, w.2);
         }
 
-  module _ {xs : List ℤ} {t : ℕ} {Q : ℕ → ℕ → ℤ} {b : ℕ → ℤ} {r c : ℕ} where
-    pub next_opens : IsTakenInTurn p o → t < length o → slice_index_or o t (0, 0) ≡ (r + 1, c + 1) → CanTake p (take t o) r c → IsTable p xs
-        → (u : IsSoFar p o t (take t o) xs) → IsEliminated p (u.states.0.rows t) (u.states.0.aim t) r c Q b → IsNext p o t (take (suc t) o) Q b
+  module _ {grid : ℕ → ℕ → ℤ} {t : ℕ} {Q : ℕ → ℕ → ℤ} {b : ℕ → ℤ} {r c : ℕ} where
+    pub next_opens : IsTakenInTurn p o → t < length o → slice_index_or o t (0, 0) ≡ (r + 1, c + 1) → CanTake p (take t o) r c → IsTable p grid
+        → (u : IsSoFar p o t (take t o) grid) → IsEliminated p (u.states.0.rows t) (u.states.0.aim t) r c Q b → IsNext p o t (take (suc t) o) Q b
     next_opens taken h at can table u el =
         let w = opened o taken t (omega arith) in
         let P : Listing → Type 0 = λ x. IsRowsOf p x Q b in
         let new : IsRowsOf p (take (suc t) o) Q b = subst P (sym (taken_next o t r c h at)) (take_rows w.is_list can (rows_at u) el) in
         next_step 0 0 u table new (λ z. refl) (λ z. absurd (omega arith))
 
-  module _ {l : Listing} {xs : List ℤ} {t e : ℕ} {Q : ℕ → ℕ → ℤ} {b : ℕ → ℤ} {r c q : ℕ} where
-    pub next_pivots : length o ≤ t → IsPlace p l q r c → IsTable p xs → (u : IsSoFar p o t l xs) → Enters p l (u.states.0.aim t) e
+  module _ {l : Listing} {grid : ℕ → ℕ → ℤ} {t e : ℕ} {Q : ℕ → ℕ → ℤ} {b : ℕ → ℤ} {r c q : ℕ} where
+    pub next_pivots : length o ≤ t → IsPlace p l q r c → IsTable p grid → (u : IsSoFar p o t l grid) → Enters p l (u.states.0.aim t) e
         → Leaves p l (u.states.0.rows t) e r c → IsEliminated p (u.states.0.rows t) (u.states.0.aim t) r e Q b
         → IsNext p o t (slice_set l q (r + 1, e + 1)) Q b
     next_pivots h at table u en lv el =
@@ -89,7 +89,7 @@ module _ {p : Program} {o : Listing} where
         (λ z. subst T (sym u.states.2) (record { enters = en; place = (q, r, at.inside, at.pair, lv, refl) }))
 
   module _ {t : ℕ} {Q : ℕ → ℕ → ℤ} {b : ℕ → ℤ} {next : Listing} where
-    pub so_far_next : {new : List ℤ} → IsNext p o t next Q b → IsKept p Q b new → IsSoFar p o (suc t) next new
+    pub so_far_next : {new : ℕ → ℕ → ℤ} → IsNext p o t next Q b → IsKept p Q b new → IsSoFar p o (suc t) next new
     so_far_next {new} u kept =
         let s = u.states.0 in
         let R : (ℕ → ℕ → ℤ) → Type 0 = λ x. IsKept p x (s.aim (suc t)) new in let S : (ℕ → ℤ) → Type 0 = λ x. IsKept p Q x new in
@@ -115,13 +115,14 @@ module _ {p : Program} {o : Listing} where
           );
         }
 
-whole : (p : Program) (o : Listing) (limit t : ℕ) (l : Listing) (xs : List ℤ) (u : IsSoFar p o t l xs) → IsTable p xs → length o ≤ t → t ≤ length o + limit
+whole : (p : Program) (o : Listing) (limit t : ℕ) (l : Listing) (grid : ℕ → ℕ → ℤ) (u : IsSoFar p o t l grid) → IsTable p grid → length o ≤ t → t ≤ length
+    o + limit
     → IsWhole p o limit t u.states.0
-whole p o limit t l xs u table h k =
+whole p o limit t l grid u table h k =
     record { path = u.states.1; whole = h; within = k; narrow = λ z. narrow_at u table }
 
-module _ {p : Program} {o l : Listing} {xs : List ℤ} where
-  pub ends_stops : {limit : ℕ} (n : ℕ) → IsSoFar p o (length o + n) l xs → IsTable p xs → n ≤ limit → NoneEnters p l (table_aim p xs)
+module _ {p : Program} {o l : Listing} {grid : ℕ → ℕ → ℤ} where
+  pub ends_stops : {limit : ℕ} (n : ℕ) → IsSoFar p o (length o + n) l grid → IsTable p grid → n ≤ limit → NoneEnters p l (table_aim p grid)
       → PathStops p o limit (ends n l)
   ends_stops {limit} n u table h none =
       let s = u.states.0 in let t = length o + n in
@@ -131,7 +132,7 @@ module _ {p : Program} {o l : Listing} {xs : List ℤ} where
           t,
           s,
           (
-            whole p o limit t l xs u table (omega arith) (omega arith),
+            whole p o limit t l grid u table (omega arith) (omega arith),
             subst Q (sym u.states.2) (none_enters_kept u.states.3 l none),
             refl,
             sym u.states.2,
@@ -139,13 +140,13 @@ module _ {p : Program} {o l : Listing} {xs : List ℤ} where
         );
       }
 
-  enters_at : {t e : ℕ} (u : IsSoFar p o t l xs) → Enters p l (table_aim p xs) e → Enters p (u.states.0.lists t) (u.states.0.aim t) e
+  enters_at : {t e : ℕ} (u : IsSoFar p o t l grid) → Enters p l (table_aim p grid) e → Enters p (u.states.0.lists t) (u.states.0.aim t) e
   enters_at {t} {e} u en =
       let s = u.states.0 in let Q : Listing → Type 0 = λ x. Enters p x (s.aim t) e in
       subst Q (sym u.states.2) (enters_kept u.states.3 en)
 
-  pub pivots_stops : {e r c limit : ℕ} → IsPairList p l → IsSoFar p o (length o + limit) l xs → IsTable p xs → Enters p l (table_aim p xs) e
-      → Leaves p l (table_rows p xs) e r c → PathStops p o limit pivots
+  pub pivots_stops : {e r c limit : ℕ} → IsPairList p l → IsSoFar p o (length o + limit) l grid → IsTable p grid → Enters p l (table_aim p grid) e
+      → Leaves p l (grid) e r c → PathStops p o limit pivots
   pivots_stops {e} {r} {c} {limit} pairs u table en lv =
       let s = u.states.0 in let t = length o + limit in
       let Q : Listing → Type 0 = λ x. Leaves p x (s.rows t) e r c in
@@ -154,15 +155,15 @@ module _ {p : Program} {o l : Listing} {xs : List ℤ} where
           t,
           s,
           (
-            whole p o limit t l xs u table (omega arith) (omega arith),
+            whole p o limit t l grid u table (omega arith) (omega arith),
             refl,
             (e, r, c, enters_at u en, subst Q (sym u.states.2) (leaves_kept u.states.3 pairs en.column lv)),
           ),
         );
       }
 
-  pub unbounded_stops : {e limit : ℕ} (n : ℕ) → IsPairList p l → IsSoFar p o (length o + n) l xs → IsTable p xs → n ≤ limit → Enters p l (table_aim p xs) e
-      → NoneLeaves p l (table_rows p xs) e → PathStops p o limit (unbounded (e + 1))
+  pub unbounded_stops : {e limit : ℕ} (n : ℕ) → IsPairList p l → IsSoFar p o (length o + n) l grid → IsTable p grid → n ≤ limit → Enters p l (table_aim p grid) e
+      → NoneLeaves p l (grid) e → PathStops p o limit (unbounded (e + 1))
   unbounded_stops {e} {limit} n pairs u table h en none =
       let s = u.states.0 in let t = length o + n in
       let Q : Listing → Type 0 = λ x. NoneLeaves p x (s.rows t) e in
@@ -171,38 +172,30 @@ module _ {p : Program} {o l : Listing} {xs : List ℤ} where
           t,
           s,
           (
-            whole p o limit t l xs u table (omega arith) (omega arith),
+            whole p o limit t l grid u table (omega arith) (omega arith),
             (e, refl, enters_at u en, subst Q (sym u.states.2) (none_leaves_kept u.states.3 pairs en.column none)),
           ),
         );
       }
 
 -- ---- the entering column as it is found in the aim's row
-module _ {p : Program} {xs : List ℤ} (n : ℕ) (e : n ≡ p.rows * (p.cols + 2) + p.cols - p.rows * (p.cols + 2)) (table : IsTable p xs) where
-  abbrev part : List ℤ
-  part = take n (drop (p.rows * (p.cols + 2)) xs)
+module _ (p : Program) (grid : ℕ → ℕ → ℤ) where
+  aim_at : (j : ℕ) → j < p.cols → grid p.rows j ≡ table_aim p grid j
+  aim_at j h = sym (flipped_other p.cols (grid p.rows) j (λ s. omega arith))
 
-  pub part_long : length part ≡ p.cols
-  part_long = length-take-le n (drop (p.rows * (p.cols + 2)) xs) (omega (arith, length-drop (p.rows * (p.cols + 2)) xs, table.long))
-      ∙ (let q : n ≡ p.cols = omega arith in q)
+  pub none_enters_from : (l : Listing) → ((j : ℕ) → j < p.cols → grid p.rows j ≤ℤ pos 0) → NoneEnters p l (table_aim p grid)
+  none_enters_from l h j jn out = let P : ℤ → Type 0 = λ t. t ≤ℤ pos 0 in subst P (aim_at j jn) (h j jn)
 
-  pub part_at : (j : ℕ) → j < p.cols → at part j ≡ table_aim p xs j
-  part_at j h = at_part xs (p.rows * (p.cols + 2)) n j (omega arith) ∙ sym (flipped_other p.cols (cell xs (p.cols + 2) p.rows) j (λ s. omega arith))
-
-  pub none_enters_from : (l : Listing) → ((j : ℕ) → j < length part → at part j ≤ℤ pos 0) → NoneEnters p l (table_aim p xs)
-  none_enters_from l h j jn out = let P : ℤ → Type 0 = λ t. t ≤ℤ pos 0 in subst P (part_at j jn) (h j (omega (arith, part_long)))
-
-  pub enters_from : (l : Listing) (k : ℕ) → IsTableOf p l xs → k < length part → pos 0 <ℤ at part k
-      → ((j : ℕ) → j < k → at part j ≤ℤ pos 0) → Enters p l (table_aim p xs) k
-  enters_from l k rows inside up before =
-      let column : k < p.cols = omega (arith, part_long) in
-      let rises : pos 0 <ℤ table_aim p xs k = (let P : ℤ → Type 0 = λ t. pos 0 <ℤ t in subst P (part_at k column) up) in
+  pub enters_from : (l : Listing) (k : ℕ) → IsTableOf p l grid → k < p.cols → pos 0 <ℤ grid p.rows k
+      → ((j : ℕ) → j < k → grid p.rows j ≤ℤ pos 0) → Enters p l (table_aim p grid) k
+  enters_from l k rows column up before =
+      let rises : pos 0 <ℤ table_aim p grid k = (let P : ℤ → Type 0 = λ t. pos 0 <ℤ t in subst P (aim_at k column) up) in
       record {
         column = column;
         unlisted = λ h. (let w = rows.rows_of in
-            let z : table_aim p xs k ≡ pos 0 = aim_zero_kept w.3 k (omega arith) (w.2.aim_row.2.zeros k h) in omega (arith, linear));
+            let z : table_aim p grid k ≡ pos 0 = aim_zero_kept w.3 k (omega arith) (w.2.aim_row.2.zeros k h) in omega (arith, linear));
         rises = rises;
-        least = λ j jk out. (let P : ℤ → Type 0 = λ t. t ≤ℤ pos 0 in subst P (part_at j (omega arith)) (before j jk));
+        least = λ j jk out. (let P : ℤ → Type 0 = λ t. t ≤ℤ pos 0 in subst P (aim_at j (omega arith)) (before j jk));
       }
 
 pub none_of : {X : Type 0} (r : Option X) (P : Type 0) (Q : X → Type 0) → r ≡ None → MatchOption r P Q → P
@@ -223,12 +216,12 @@ can_take_at {p} {r} {c} o t taken h at =
     let P : ℕ → Type 0 = λ x. CanTake p (take t o) x w.1 in let Q : ℕ → Type 0 = λ x. CanTake p (take t o) r x in subst Q b (subst P a w.3)
 
 -- at step t of the opening the pair of row r and column c comes next
-module _ {p : Program} {o : Listing} {t : ℕ} {xs : List ℤ} (r c : ℕ) (opens : IsOpening p o) (h : t < length o) (at : slice_index_or o t (0, 0)
-    ≡ (r + 1, c + 1)) (table : IsTable p xs) (u : IsSoFar p o t (take t o) xs) where
+module _ {p : Program} {o : Listing} {t : ℕ} {grid : ℕ → ℕ → ℤ} (r c : ℕ) (opens : IsOpening p o) (h : t < length o) (at : slice_index_or o t (0, 0)
+    ≡ (r + 1, c + 1)) (table : IsTable p grid) (u : IsSoFar p o t (take t o) grid) where
   can : CanTake p (take t o) r c
   can = can_take_at o t opens.taken h at
 
-  pub open_nonzero : table_rows p xs r c ≢ pos 0
+  pub open_nonzero : grid r c ≢ pos 0
   open_nonzero =
       let w = opened o opens.taken t (omega arith) in let s = u.states.0 in
       nonzero_kept u.states.3 r c can.row (omega (arith, can.column)) (take_nonzero w.is_list w.regular can (rows_at u))
@@ -236,7 +229,7 @@ module _ {p : Program} {o : Listing} {t : ℕ} {xs : List ℤ} (r c : ℕ) (open
   open_prim : IsPrimitive p.cols (u.states.0.rows t r)
   open_prim = (rows_at u).primitive r can.row
 
-  pub open_wide : (i j : ℕ) (z : ℤ) → IsWideAfter p xs r c i j z → (limit : ℕ) → PathStops p o limit (wide (t + 1) (i + 1) (j + 1) (stated p i j z))
+  pub open_wide : (i j : ℕ) (z : ℤ) → IsWideAfter p grid r c i j z → (limit : ℕ) → PathStops p o limit (wide (t + 1) (i + 1) (j + 1) (stated p i j z))
   open_wide i j z w limit =
       let q = w.after (u.states.0.rows t) (u.states.0.aim t) open_prim u.states.3 in
       wide_stops (omega arith) (next_opens opens.taken h at can table u q.2) q.3
@@ -244,7 +237,7 @@ module _ {p : Program} {o : Listing} {t : ℕ} {xs : List ℤ} (r c : ℕ) (open
   pub open_pairs : (k : ℕ) → k ≤ length o → IsPairList p (take k o)
   open_pairs k l = opened_pair_list (opened o opens.taken k l)
 
-  pub open_next : (new : List ℤ) → IsTableAfter p xs new r c → IsSoFar p o (t + 1) (take (t + 1) o) new
+  pub open_next : (new : ℕ → ℕ → ℤ) → IsTableAfter p grid new r c → IsSoFar p o (t + 1) (take (t + 1) o) new
   open_next new w =
       let e : suc t ≡ t + 1 = omega arith in
       let P : ℕ → Type 0 = λ k. IsSoFar p o k (take k o) new in
@@ -269,13 +262,14 @@ same_names l q r c k d a b =
     (less_one r k (ap (λ (x : ℕ × ℕ). x.0) e), less_one c d (ap (λ (x : ℕ × ℕ). x.1) e))
 
 -- after t steps column e enters and the row at place q leaves
-module _ {p : Program} {o : Listing} {t : ℕ} {l : Listing} {xs : List ℤ} {e : ℕ} (q : ℕ) (h : length o ≤ t) (pairs : IsPairList p l) (table : IsTable p xs)
-    (u : IsSoFar p o t l xs) (en : Enters p l (table_aim p xs) e)
-    (lv : IsLeaving p l (table_rows p xs) e (Some q)) where
+module _ {p : Program} {o : Listing} {t : ℕ} {l : Listing} {grid : ℕ → ℕ → ℤ} {e : ℕ} (q : ℕ) (h : length o ≤ t) (pairs : IsPairList p l) (table : IsTable p
+    grid)
+    (u : IsSoFar p o t l grid) (en : Enters p l (table_aim p grid) e)
+    (lv : IsLeaving p l (grid) e (Some q)) where
   leaves_at : (r c : ℕ) → slice_index_or l q (0, 0) ≡ (r + 1, c + 1) → Leaves p l (u.states.0.rows t) e r c
   leaves_at r c at =
       let s = same_names l q lv.0 lv.1 r c lv.3 at in
-      let P : ℕ → Type 0 = λ x. Leaves p l (table_rows p xs) e x lv.1 in let Q : ℕ → Type 0 = λ x. Leaves p l (table_rows p xs) e r x in
+      let P : ℕ → Type 0 = λ x. Leaves p l (grid) e x lv.1 in let Q : ℕ → Type 0 = λ x. Leaves p l (grid) e r x in
       leaves_kept u.states.3 pairs en.column (subst Q s.1 (subst P s.0 lv.4))
 
   enters_kept_at : Enters p l (u.states.0.aim t) e
@@ -284,7 +278,7 @@ module _ {p : Program} {o : Listing} {t : ℕ} {l : Listing} {xs : List ℤ} {e 
   pivot_prim : (r c : ℕ) → slice_index_or l q (0, 0) ≡ (r + 1, c + 1) → IsPrimitive p.cols (u.states.0.rows t r)
   pivot_prim r c at = (rows_at u).primitive r ((pair_list_is_list pairs).row_inside r c (leaves_at r c at).listed)
 
-  pub pivot_next : (next : Listing) (new : List ℤ) → IsPivoted p l next xs new q e → (IsTable p new) × (IsPairList p next) × IsSoFar p o (t + 1) next new
+  pub pivot_next : (next : Listing) (new : ℕ → ℕ → ℤ) → IsPivoted p l next grid new q e → (IsTable p new) × (IsPairList p next) × IsSoFar p o (t + 1) next new
   pivot_next next new w =
       let a = w.pair in let r = a.0 in let c = a.1 in let at : IsPlace p l q r c = place_in pairs lv.2 a.2 in
       let step : suc t ≡ t + 1 = omega arith in
@@ -297,7 +291,7 @@ module _ {p : Program} {o : Listing} {t : ℕ} {l : Listing} {xs : List ℤ} {e 
       ) in
       (a.4.table, both.0, both.1)
 
-  pub pivot_wide : (i j : ℕ) (z : ℤ) → IsWidePivot p l xs q e i j z → (limit : ℕ) → t < length o + limit
+  pub pivot_wide : (i j : ℕ) (z : ℤ) → IsWidePivot p l grid q e i j z → (limit : ℕ) → t < length o + limit
       → PathStops p o limit (wide (t + 1) (i + 1) (j + 1) (stated p i j z))
   pivot_wide i j z w limit k =
       let a = w.pair in let r = a.0 in let c = a.1 in let at : IsPlace p l q r c = place_in pairs lv.2 a.2 in
@@ -319,8 +313,8 @@ module _ {p : Program} {o l : Listing} where
         (ee, (leaves_same il en.column ag (subst M ee (subst L el pv.place.4)) lv).1)
 
   -- the pivot made
-  pub turn_at : {xs : List ℤ} {e : ℕ} {next : Listing} {new : List ℤ} (made : ℕ) (q r c : ℕ) → IsOpening p o → IsPairList p l
-      → IsSoFar p o (length o + made) l xs → Enters p l (table_aim p xs) e → IsLeaving p l (table_rows p xs) e (Some q)
+  pub turn_at : {grid : ℕ → ℕ → ℤ} {e : ℕ} {next : Listing} {new : ℕ → ℕ → ℤ} (made : ℕ) (q r c : ℕ) → IsOpening p o → IsPairList p l
+      → IsSoFar p o (length o + made) l grid → Enters p l (table_aim p grid) e → IsLeaving p l (grid) e (Some q)
       → slice_index_or l q (0, 0) ≡ (r + 1, c + 1) → IsSoFar p o (length o + made + 1) next new
       → (s : States) × (IsPath p o (length o + made + 1) s) × (e + 1 ≡ s.entering (length o + made) + 1) × (c + 1 ≡ s.leaving (length o + made) + 1)
   turn_at made q r c ok pairs u en lv at w =

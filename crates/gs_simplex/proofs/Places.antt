@@ -9,7 +9,7 @@ use Rattle.std.proofs.Math.ListN.{get_or-map}
 use Prim.Native.Nat.{◌∣◌}
 use borrow.Rule.Slice.PartMut.{put_mid}
 use Rattle.gs_simplex.specs.Rows.{IsNarrow, IsPrimitive}
-use Rattle.gs_simplex.specs.Numbers.{at, cell, AreNarrowNumbers, IsAtMost, IsMultiple, IsDivided, cleared_by, IsMixed, IsReduced, IsReducedTo, IsTurned}
+use Rattle.gs_simplex.specs.Numbers.{at, cell, AreNarrowNumbers, IsAtMost, IsMultiple, IsDivided, cleared_by, IsReduced, IsTurned}
 use Rattle.gs_simplex.specs.Numbers.{IsLeadOf}
 use Rattle.gs_simplex.proofs.{Ring.{linear}, Multiples.{down_nonneg}}
 
@@ -97,24 +97,8 @@ reduced_same lead lead' c width old old' new new' cw el eo en =
     (λ j h. ap (λ t. t *ℤ old j -ℤ old c *ℤ lead j) (el c cw) ∙ ap (λ t. lead' c *ℤ t -ℤ old c *ℤ lead j) (eo j h)
     ∙ ap (λ t. lead' c *ℤ old' j -ℤ t *ℤ lead j) (eo c cw) ∙ ap (λ t. lead' c *ℤ old' j -ℤ old' c *ℤ t) (el j h)) en
 
-pub mixed_same : (lead : ℕ → ℤ) (c width : ℕ) (old old' new new' : ℕ → ℤ) → c < width → ((j : ℕ) → j < width → old j ≡ old' j)
-    → ((j : ℕ) → j < width → new j ≡ new' j) → IsMixed lead c width old new → IsMixed lead c width old' new'
-mixed_same lead c width old old' new new' cw eo en =
-    multiple_same width (cleared_by lead c old) (cleared_by lead c old') new new'
-    (λ j h. ap (λ t. lead c *ℤ t -ℤ old c *ℤ lead j) (eo j h) ∙ ap (λ t. lead c *ℤ old' j -ℤ t *ℤ lead j) (eo c cw)) en
-
 pub at_most_same : (width most : ℕ) (old new : ℕ → ℤ) → ((j : ℕ) → j < width → old j ≡ new j) → IsAtMost width old most → IsAtMost width new most
 at_most_same width most old new e u j h = let P : ℤ → Type 0 = λ t. unsigned_abs t ≤ most in subst P (e j h) (u j h)
-
-pub reduced_to_same : (lead lead' : ℕ → ℤ) (c width : ℕ) (old old' : ℕ → ℤ) (j : ℕ) (z : ℤ) → c < width → ((j : ℕ) → j < width → lead j ≡ lead' j)
-    → ((j : ℕ) → j < width → old j ≡ old' j)
-    → IsReducedTo lead c width old j z → IsReducedTo lead' c width old' j z
-reduced_to_same lead lead' c width old old' j z cw el eo u = record {
-  inside = u.inside;
-  size = u.size;
-  wide = u.wide;
-  row = (u.row.0, reduced_same lead lead' c width old old' u.row.0 u.row.0 cw el eo (λ k h. refl) u.row.1, u.row.2, u.row.3);
-}
 
 -- ---- places of rows that stand one after the other
 pub row_inside : (count width i j : ℕ) → i < count → j < width → i * width + j < count * width
@@ -164,16 +148,6 @@ lead_by old new c width u = elim u.divided [
   | inl v ↦ (let m = v.multiple.by in (m.0, m.1, inl m.2, v.primitive))
   | inr v ↦ (let m = v.multiple.by in (m.0, m.1, inr (λ j h. let e = m.2 j h in omega (arith, linear)), v.primitive))
 ]
-
-pub lead_same : (old old' new : ℕ → ℤ) (c width : ℕ) → 0 < width → ((j : ℕ) → j < width → old j ≡ old' j) → IsLeadOf old new c width
-    → IsLeadOf old' new c width
-lead_same old old' new c width some e u = record {
-  own = u.own;
-  divided = elim u.divided [
-    | inl s ↦ inl (divided_same width old old' new new some e (λ j h. refl) s)
-    | inr s ↦ inr (divided_same width (λ j. neg_ℤ (old j)) (λ j. neg_ℤ (old' j)) new new some (λ j h. ap neg_ℤ (e j h)) (λ j h. refl) s)
-  ];
-}
 
 -- what stands outside a part that was written
 pub others_put : (xs ys : List ℤ) (start width n : ℕ) → n ≡ start + width - start → start + width ≤ length xs → length ys ≡ n → (k : ℕ)

@@ -8,8 +8,8 @@ use Rattle.std.specs.Int.{IsGcd}
 use Rattle.gs_simplex.proofs.{Ring.{ring, linear, one_times, times_pos, times_times, cancel, cancel_zero}, Sums.{cases_last}}
 use Rattle.gs_simplex.proofs.Primitive.{over, over_times, zero_abs}
 use Rattle.gs_simplex.specs.Rows.{IsNarrow, IsPrimitive}
-use Rattle.gs_simplex.specs.Numbers.{at, AreNarrowNumbers, AllAtMost, IsAtMost, IsDivisor, IsShared, IsQuotient, IsWideQuotient, IsMultiple, IsDivided, IsMixed}
-use Rattle.gs_simplex.specs.Numbers.{IsReduced, IsReducedTo}
+use Rattle.gs_simplex.specs.Numbers.{at, AreNarrowNumbers, AllAtMost, IsAtMost, IsDivisor, IsShared, IsQuotient, HasWideQuotient, IsMultiple, IsDivided, IsMixed}
+use Rattle.gs_simplex.specs.Numbers.{IsReduced, IsWideReduced}
 
 -- one more number among those divided, which may be 0
 pub one_more : (f : ℕ → ℤ) (i found next m : ℕ) → m ≡ unsigned_abs (f i) → IsGcd found m next → IsDivisor i f found → IsDivisor (i + 1) f next
@@ -138,23 +138,19 @@ module _ (lead row : ℕ → ℤ) (c width d by : ℕ) (own far : ℤ) (mixed : 
   pub reduced_from : (q : ℕ → ℤ) → ((j : ℕ) → j < width → at mixed j ≡ pos by *ℤ q j) → IsReduced lead c width row q
   reduced_from q h = reduced_divided lead row (at mixed) q c width own far sh is (divided_from q h)
 
-  pub reduced_wide : (j : ℕ) (z : ℤ) → IsWideQuotient by mixed j z → IsReducedTo lead c width row j z
-  reduced_wide j z w =
+  pub reduced_wide : 0 < by → by ≤ 2 ^ 125 → AllAtMost mixed (2 ^ 125) → HasWideQuotient by mixed → IsWideReduced lead c width row mixed by
+  reduced_wide some small within w =
       let q : ℕ → ℤ = λ k. over by (at mixed k) in
       let at_q : (k : ℕ) → k < width → at mixed k ≡ pos by *ℤ q k = λ k l. over_times by (at mixed k)
       (by_divides d by (length mixed) (at mixed) u e k (omega arith)) in
-      let jw : j < width = omega (arith, w.inside) in
+      let f = w.found in let kw : f.0 < width = omega (arith, f.2) in
+      let s : f.1 ≡ q f.0 = cancel (pos by) f.1 (q f.0) by_positive (sym f.3 ∙ at_q f.0 kw) in
+      let P : ℤ → Type 0 = λ t. IsNarrow t → ⊥ in
       record {
-        inside = jw;
-        size = w.size;
-        wide = w.wide;
-        row = (
-          q,
-          reduced_from q at_q,
-          cancel (pos by) (q j) z by_positive (sym (at_q j jw) ∙ w.here),
-          λ k l. (let b = w.before k l in let s : q k ≡ b.0 = cancel (pos by) (q k) b.0 by_positive (sym (at_q k (omega arith)) ∙ b.1) in
-              let P : ℤ → Type 0 = λ t. IsNarrow t in subst P (sym s) b.2),
-        );
+        some = some;
+        small = small;
+        within = within;
+        row = (q, reduced_from q at_q, at_q, (f.0, kw, subst P s f.4));
       }
 
 -- a row with 0 in the column stays

@@ -1,14 +1,14 @@
 -- A pivot on a whole table: the table after it where all numbers are narrow, and else the first number that is not.
-use Rattle.std.proofs.Common.{◌≡◌, ◌≢◌, ℕ, suc, ◌+◌, ◌-◌, ◌*◌, ◌<◌, ◌≤◌, ◌^◌, ◌⊎◌, inl, inr, cond, nat_eq, List, length, ℤ, pos, ◌+ℤ◌, ◌-ℤ◌, ◌*ℤ◌, neg_ℤ, ◌≤ℤ◌}
+use Rattle.std.proofs.Common.{◌≡◌, ◌≢◌, ℕ, suc, ◌+◌, ◌-◌, ◌<◌, ◌≤◌, ◌^◌, ◌⊎◌, inl, inr, cond, nat_eq, ℤ, pos, ◌+ℤ◌, ◌-ℤ◌, ◌*ℤ◌, neg_ℤ, ◌≤ℤ◌}
 use Rattle.std.proofs.Common.{◌<ℤ◌, unsigned_abs, refl, sym, ap, subst, ◌∙◌, arith}
 use Rattle.std.proofs.{lemmas.Bool.{cases_eq, cases_lt}, lemmas.Int.{ints}, lemmas.Nat.Gcd.{dvd-zero}}
 use Prim.Native.Nat.{◌∣◌}
 use Rattle.gs_simplex.specs.{declared.program.Program.{Program}, Rows.{IsNarrow, IsPrimitive}, Elimination.{IsEliminated}, Path.{IsFirstWide}}
-use Rattle.gs_simplex.specs.Numbers.{at, cell, IsMultiple, IsReduced, IsMixed, IsLeadOf, IsCleared, IsClearedTo}
-use Rattle.gs_simplex.specs.Table.{table_rows, IsTable, IsKept, IsTableAfter, stated, IsWideAfter}
+use Rattle.gs_simplex.specs.Numbers.{IsMultiple, IsReduced, IsMixed, IsLeadOf, IsCleared, IsClearedTo}
+use Rattle.gs_simplex.specs.Table.{IsTable, IsKept, IsTableAfter, stated, IsWideAfter}
 use Rattle.gs_simplex.proofs.{Ring.{linear, times_zero, times_neg, times_pos, cancel_zero}, Pivot.{primitive_same}, Exists.{elimination_exists}}
 use Rattle.gs_simplex.proofs.{Primitive.{zero_abs}, Multiples.{multiple_of_same, multiple_of_equal, mixed_along, down_narrow, up_zero, same_turn}}
-use Rattle.gs_simplex.proofs.Places.{reduced_same, mixed_same, row_apart, lead_by}
+use Rattle.gs_simplex.proofs.Places.{lead_by}
 
 -- ---- a row with 0 at its end
 pub primitive_shorter : (last : ℕ) (f : ℕ → ℤ) → f (last + 1) ≡ pos 0 → IsPrimitive (last + 1) f → IsPrimitive last f
@@ -69,33 +69,26 @@ flipped_out n last g k f q e j h = elim (cases_eq j n) [
   | inr ne ↦ ap (λ t. g *ℤ t) (flipped_other n f j ne) ∙ e j h ∙ ap (λ t. k *ℤ t) (flipped_other n q j ne)
 ]
 
--- ---- a pivot on the table: `mid` is the table after row r was taken to the lead
-module _ (p : Program) (old mid : List ℤ) (lead : ℕ → ℤ) (r c : ℕ) (rows : r < p.rows) (cols : c < p.cols) (table : IsTable p old)
-    (others : (k : ℕ) → (k < r * (p.cols + 2)) ⊎ (r * (p.cols + 2) + (p.cols + 2) ≤ k) → at mid k ≡ at old k)
-    (same : (j : ℕ) → j < p.cols + 2 → lead j ≡ at mid (r * (p.cols + 2) + j))
-    (taken : IsLeadOf (λ j. at old (r * (p.cols + 2) + j)) lead c (p.cols + 2))
-    (nonzero : table_rows p old r c ≢ pos 0) where
-  -- the other rows are those of the table before
-  row_kept : (i : ℕ) → i ≢ r → (j : ℕ) → j < p.cols + 2 → cell mid (p.cols + 2) i j ≡ cell old (p.cols + 2) i j
-  row_kept i ne j h = others (i * (p.cols + 2) + j) (row_apart (p.cols + 2) i r j h ne)
-
+-- ---- a pivot on the table, with its row r taken to the lead
+module _ (p : Program) (old : ℕ → ℕ → ℤ) (lead : ℕ → ℤ) (r c : ℕ) (rows : r < p.rows) (cols : c < p.cols) (table : IsTable p old)
+    (taken : IsLeadOf (old r) lead c (p.cols + 2)) (nonzero : old r c ≢ pos 0) where
   -- by what the row that is taken is divided, and whether it is negated
-  by : (d : ℤ) × (pos 0 <ℤ d) × (((j : ℕ) → j < p.cols + 2 → table_rows p old r j ≡ d *ℤ lead j)
-      ⊎ ((j : ℕ) → j < p.cols + 2 → table_rows p old r j ≡ neg_ℤ (d *ℤ lead j))) × IsPrimitive (p.cols + 2 - 1) lead
-  by = lead_by (λ j. at old (r * (p.cols + 2) + j)) lead c (p.cols + 2) taken
+  by : (d : ℤ) × (pos 0 <ℤ d) × (((j : ℕ) → j < p.cols + 2 → old r j ≡ d *ℤ lead j)
+      ⊎ ((j : ℕ) → j < p.cols + 2 → old r j ≡ neg_ℤ (d *ℤ lead j))) × IsPrimitive (p.cols + 2 - 1) lead
+  by = lead_by (old r) lead c (p.cols + 2) taken
 
   -- the lead is 0 only where the row is, and where it is
-  lead_zero : (j : ℕ) → j < p.cols + 2 → lead j ≡ pos 0 → table_rows p old r j ≡ pos 0
+  lead_zero : (j : ℕ) → j < p.cols + 2 → lead j ≡ pos 0 → old r j ≡ pos 0
   lead_zero j h z = let d = by in let e : d.0 *ℤ lead j ≡ pos 0 = ap (λ t. d.0 *ℤ t) z ∙ times_zero d.0 in
       elim d.2 [ inl s ↦ s j h ∙ e | inr s ↦ s j h ∙ ap neg_ℤ e ]
 
-  pub zero_lead : (j : ℕ) → j < p.cols + 2 → table_rows p old r j ≡ pos 0 → lead j ≡ pos 0
+  zero_lead : (j : ℕ) → j < p.cols + 2 → old r j ≡ pos 0 → lead j ≡ pos 0
   zero_lead j h z = let d = by in cancel_zero d.0 (lead j) d.1 (elim d.2 [
     | inl s ↦ sym (s j h) ∙ z
     | inr s ↦ (let e = s j h in omega (arith, linear))
   ])
 
-  pub own : pos 0 <ℤ lead c
+  own : pos 0 <ℤ lead c
   own = let h : pos 0 ≤ℤ lead c = taken.own in let ne : lead c ≢ pos 0 = λ z. nonzero (lead_zero c (omega arith) z) in omega (arith, ints)
 
   -- the lead has 0 at the further place
@@ -106,36 +99,25 @@ module _ (p : Program) (old mid : List ℤ) (lead : ℕ → ℤ) (r c : ℕ) (ro
   lead_primitive = primitive_shorter p.cols lead lead_end
       (let s : p.cols + 2 - 1 ≡ p.cols + 1 = omega arith in let P : ℕ → Type 0 = λ k. IsPrimitive k lead in subst P s by.3)
 
-  -- a reduced or mixed row, from the table before
-  reduced_old : (i : ℕ) (new : ℕ → ℤ) → i ≢ r → IsReduced lead c (p.cols + 2) (cell mid (p.cols + 2) i) new
-      → IsReduced lead c (p.cols + 2) (cell old (p.cols + 2) i) new
-  reduced_old i new ne u = reduced_same lead lead c (p.cols + 2) (cell mid (p.cols + 2) i) (cell old (p.cols + 2) i) new new (omega arith) (λ j h. refl)
-      (λ j h. row_kept i ne j h) (λ j h. refl) u
-
-  mixed_old : (i : ℕ) (new : ℕ → ℤ) → i ≢ r → IsMixed lead c (p.cols + 2) (cell mid (p.cols + 2) i) new
-      → IsMixed lead c (p.cols + 2) (cell old (p.cols + 2) i) new
-  mixed_old i new ne u = mixed_same lead c (p.cols + 2) (cell mid (p.cols + 2) i) (cell old (p.cols + 2) i) new new (omega arith)
-      (λ j h. row_kept i ne j h) (λ j h. refl) u
-
   reduced_primitive : (old new : ℕ → ℤ) → IsReduced lead c (p.cols + 2) old new → IsPrimitive (p.cols + 1) new
   reduced_primitive o new u = let s : p.cols + 2 - 1 ≡ p.cols + 1 = omega arith in let P : ℕ → Type 0 = λ k. IsPrimitive k new in subst P s u.primitive
 
   -- a program row keeps 0 at the further place
-  mixed_end : (i : ℕ) (new : ℕ → ℤ) → i < p.rows → IsMixed lead c (p.cols + 2) (cell old (p.cols + 2) i) new → new (p.cols + 1) ≡ pos 0
+  mixed_end : (i : ℕ) (new : ℕ → ℤ) → i < p.rows → IsMixed lead c (p.cols + 2) (old i) new → new (p.cols + 1) ≡ pos 0
   mixed_end i new h u =
       let g = u.by in
-      let e : lead c *ℤ cell old (p.cols + 2) i (p.cols + 1) -ℤ cell old (p.cols + 2) i c *ℤ lead (p.cols + 1) ≡ g.0 *ℤ new (p.cols + 1) =
+      let e : lead c *ℤ old i (p.cols + 1) -ℤ old i c *ℤ lead (p.cols + 1) ≡ g.0 *ℤ new (p.cols + 1) =
       g.2 (p.cols + 1) (omega arith) in
-      let a : lead c *ℤ cell old (p.cols + 2) i (p.cols + 1) ≡ pos 0 = ap (λ t. lead c *ℤ t) (table.zero i h) ∙ times_zero (lead c) in
-      let b : cell old (p.cols + 2) i c *ℤ lead (p.cols + 1) ≡ pos 0 = ap (λ t. cell old (p.cols + 2) i c *ℤ t) lead_end
-      ∙ times_zero (cell old (p.cols + 2) i c) in
+      let a : lead c *ℤ old i (p.cols + 1) ≡ pos 0 = ap (λ t. lead c *ℤ t) (table.zero i h) ∙ times_zero (lead c) in
+      let b : old i c *ℤ lead (p.cols + 1) ≡ pos 0 = ap (λ t. old i c *ℤ t) lead_end
+      ∙ times_zero (old i c) in
       cancel_zero g.0 (new (p.cols + 1)) g.1 (omega (arith, linear))
 
-  reduced_end : (i : ℕ) (new : ℕ → ℤ) → i < p.rows → IsReduced lead c (p.cols + 2) (cell old (p.cols + 2) i) new → new (p.cols + 1) ≡ pos 0
+  reduced_end : (i : ℕ) (new : ℕ → ℤ) → i < p.rows → IsReduced lead c (p.cols + 2) (old i) new → new (p.cols + 1) ≡ pos 0
   reduced_end i new h u = mixed_end i new h u.multiple
 
-  reduced_row_primitive : (i : ℕ) (new : ℕ → ℤ) → i < p.rows → IsReduced lead c (p.cols + 2) (cell old (p.cols + 2) i) new → IsPrimitive p.cols new
-  reduced_row_primitive i new h u = primitive_shorter p.cols new (reduced_end i new h u) (reduced_primitive (cell old (p.cols + 2) i) new u)
+  reduced_row_primitive : (i : ℕ) (new : ℕ → ℤ) → i < p.rows → IsReduced lead c (p.cols + 2) (old i) new → IsPrimitive p.cols new
+  reduced_row_primitive i new h u = primitive_shorter p.cols new (reduced_end i new h u) (reduced_primitive (old i) new u)
 
   -- ---- the rows that follow those that the table keeps
   module _ (R : ℕ → ℕ → ℤ) (a : ℕ → ℤ) (kept : IsKept p R a old) (Q : ℕ → ℕ → ℤ) (b : ℕ → ℤ) (el : IsEliminated p R a r c Q b) where
@@ -143,26 +125,26 @@ module _ (p : Program) (old mid : List ℤ) (lead : ℕ → ℤ) (r c : ℕ) (ro
     lead_is k kn =
         let m = (kept.rows_kept r rows).by in let d = by in
         sym (primitive_same d.0 m.0 d.1 m.1
-        (same_turn m.0 d.0 m.1 d.1 p.cols c (omega arith) (R r) (Q r) (table_rows p old r) lead (λ j jn. m.2 j (omega arith)) el.own own el.self
+        (same_turn m.0 d.0 m.1 d.1 p.cols c (omega arith) (R r) (Q r) (old r) lead (λ j jn. m.2 j (omega arith)) el.own own el.self
         (elim d.2 [ inl s ↦ inl (λ j jn. s j (omega arith)) | inr s ↦ inr (λ j jn. s j (omega arith)) ])) lead_primitive (el.primitive r rows) k kn)
 
     -- what a row that is mixed is times, and what the row that follows is
-    row_along : (h : ℕ) (new : ℕ → ℤ) (hm : h < p.rows) (ne : h ≢ r) (u : IsMixed lead c (p.cols + 2) (cell old (p.cols + 2) h) new) → (k : ℕ) → k ≤ p.cols
+    row_along : (h : ℕ) (new : ℕ → ℤ) (hm : h < p.rows) (ne : h ≢ r) (u : IsMixed lead c (p.cols + 2) (old h) new) → (k : ℕ) → k ≤ p.cols
         → u.by.0 *ℤ new k ≡ ((kept.rows_kept h hm).by.0 *ℤ (el.other h hm ne).0) *ℤ Q h k
     row_along h new hm ne u k kn =
         let o = el.other h hm ne in let m = (kept.rows_kept h hm).by in
-        mixed_along (lead c) (cell old (p.cols + 2) h k) (cell old (p.cols + 2) h c) (lead k) m.0 (R h k) (R h c) u.by.0 (new k) o.0 (Q h k)
+        mixed_along (lead c) (old h k) (old h c) (lead k) m.0 (R h k) (R h c) u.by.0 (new k) o.0 (Q h k)
         (u.by.2 k (omega arith)) (m.2 k (omega arith)) (m.2 c (omega arith))
         (ap (λ t. t *ℤ R h k -ℤ R h c *ℤ lead k) (sym (lead_is c (omega arith))) ∙ ap (λ t. Q r c *ℤ R h k -ℤ R h c *ℤ t) (sym (lead_is k kn)) ∙ o.2 k kn)
 
     row_factor : (h : ℕ) (hm : h < p.rows) (ne : h ≢ r) → pos 0 <ℤ ((kept.rows_kept h hm).by.0 *ℤ (el.other h hm ne).0)
     row_factor h hm ne = times_pos _ _ (kept.rows_kept h hm).by.1 (el.other h hm ne).1
 
-    row_multiple : (h : ℕ) (new : ℕ → ℤ) → h < p.rows → h ≢ r → IsMixed lead c (p.cols + 2) (cell old (p.cols + 2) h) new → IsMultiple (p.cols + 1) new (Q h)
+    row_multiple : (h : ℕ) (new : ℕ → ℤ) → h < p.rows → h ≢ r → IsMixed lead c (p.cols + 2) (old h) new → IsMultiple (p.cols + 1) new (Q h)
     row_multiple h new hm ne u = multiple_of_same p.cols u.by.0 ((kept.rows_kept h hm).by.0 *ℤ (el.other h hm ne).0) u.by.1 (row_factor h hm ne) new (Q h)
         (row_along h new hm ne u) (el.primitive h hm)
 
-    row_is : (h : ℕ) (new : ℕ → ℤ) → h < p.rows → h ≢ r → IsReduced lead c (p.cols + 2) (cell old (p.cols + 2) h) new → (k : ℕ) → k ≤ p.cols → Q h k ≡ new k
+    row_is : (h : ℕ) (new : ℕ → ℤ) → h < p.rows → h ≢ r → IsReduced lead c (p.cols + 2) (old h) new → (k : ℕ) → k ≤ p.cols → Q h k ≡ new k
     row_is h new hm ne u k kn =
         let v = u.multiple in
         sym (primitive_same v.by.0 ((kept.rows_kept h hm).by.0 *ℤ (el.other h hm ne).0) v.by.1 (row_factor h hm ne)
@@ -199,10 +181,10 @@ module _ (p : Program) (old mid : List ℤ) (lead : ℕ → ℤ) (r c : ℕ) (ro
           ]
         ]
 
-    aim_along : (new : ℕ → ℤ) → (u : IsMixed lead c (p.cols + 2) (cell old (p.cols + 2) p.rows) new) → (k : ℕ) → k ≤ p.cols + 1
+    aim_along : (new : ℕ → ℤ) → (u : IsMixed lead c (p.cols + 2) (old p.rows) new) → (k : ℕ) → k ≤ p.cols + 1
         → u.by.0 *ℤ new k ≡ (kept.aim_kept.by.0 *ℤ el.aim_row.0) *ℤ flipped p.cols b k
     aim_along new u k kn =
-        let n = p.cols in let m = kept.aim_kept.by in let X = cell old (n + 2) p.rows in
+        let n = p.cols in let m = kept.aim_kept.by in let X = old p.rows in
         let x : (j : ℕ) → j ≤ n + 1 → X j ≡ m.0 *ℤ flipped n a j = flipped_in n (n + 1) m.0 X a (λ j jn. m.2 j (omega arith)) in
         mixed_along (lead c) (X k) (X c) (lead k) m.0 (flipped n a k) (flipped n a c) u.by.0 (new k) el.aim_row.0 (flipped n b k)
         (u.by.2 k (omega arith)) (x k kn) (x c (omega arith)) (aim_flat k kn)
@@ -210,58 +192,57 @@ module _ (p : Program) (old mid : List ℤ) (lead : ℕ → ℤ) (r c : ℕ) (ro
     aim_factor : pos 0 <ℤ (kept.aim_kept.by.0 *ℤ el.aim_row.0)
     aim_factor = times_pos _ _ kept.aim_kept.by.1 el.aim_row.1
 
-    aim_multiple : (new : ℕ → ℤ) → IsMixed lead c (p.cols + 2) (cell old (p.cols + 2) p.rows) new → IsMultiple (p.cols + 2) (flipped p.cols new) b
+    aim_multiple : (new : ℕ → ℤ) → IsMixed lead c (p.cols + 2) (old p.rows) new → IsMultiple (p.cols + 2) (flipped p.cols new) b
     aim_multiple new u = let two : p.cols + 1 + 1 ≡ p.cols + 2 = omega arith in let W : ℕ → Type 0 = λ w. IsMultiple w (flipped p.cols new) b in
         subst W two (multiple_of_same (p.cols + 1) u.by.0 (kept.aim_kept.by.0 *ℤ el.aim_row.0) u.by.1 aim_factor (flipped p.cols new) b
         (flipped_out p.cols (p.cols + 1) u.by.0 (kept.aim_kept.by.0 *ℤ el.aim_row.0) new b (aim_along new u)) el.primitive_aim)
 
-    aim_is : (new : ℕ → ℤ) → IsReduced lead c (p.cols + 2) (cell old (p.cols + 2) p.rows) new → (k : ℕ) → k ≤ p.cols + 1 → flipped p.cols b k ≡ new k
+    aim_is : (new : ℕ → ℤ) → IsReduced lead c (p.cols + 2) (old p.rows) new → (k : ℕ) → k ≤ p.cols + 1 → flipped p.cols b k ≡ new k
     aim_is new u k kn =
         let v = u.multiple in
         sym (primitive_same v.by.0 (kept.aim_kept.by.0 *ℤ el.aim_row.0) v.by.1 aim_factor (aim_along new v)
-        (reduced_primitive (cell old (p.cols + 2) p.rows) new u)
+        (reduced_primitive (old p.rows) new u)
         (primitive_flipped p.cols (p.cols + 1) b (flipped p.cols b) (λ k. flipped_abs p.cols b k) el.primitive_aim) k kn)
 
     -- ---- all rows narrow
-    pub kept_after : (new : List ℤ) → IsCleared mid new (p.rows + 1) (p.cols + 2) r c lead → IsKept p Q b new
-    kept_after new cleared = record {
+    pub kept_after : (new : ℕ → ℕ → ℤ) → ((j : ℕ) → j < p.cols + 2 → new r j ≡ lead j)
+        → ((i : ℕ) → i < p.rows + 1 → i ≢ r → IsMixed lead c (p.cols + 2) (old i) (new i)) → IsKept p Q b new
+    kept_after new same others = record {
       rows_kept = λ i h. elim (cases_eq i r) [
-        | inl e ↦ (let P : ℕ → Type 0 = λ k. IsMultiple (p.cols + 1) (cell new (p.cols + 2) k) (Q k) in
-            subst P (sym e) (multiple_of_equal (p.cols + 1) (cell new (p.cols + 2) r) (Q r)
-            (λ j jn. cleared.kept j (omega arith) ∙ sym (same j (omega arith)) ∙ sym (lead_is j (omega arith)))))
-        | inr ne ↦ row_multiple i (cell new (p.cols + 2) i) h ne (mixed_old i (cell new (p.cols + 2) i) ne (cleared.others i (omega arith) ne))
+        | inl e ↦ (let P : ℕ → Type 0 = λ k. IsMultiple (p.cols + 1) (new k) (Q k) in
+            subst P (sym e) (multiple_of_equal (p.cols + 1) (new r) (Q r) (λ j jn. same j (omega arith) ∙ sym (lead_is j (omega arith)))))
+        | inr ne ↦ row_multiple i (new i) h ne (others i (omega arith) ne)
       ];
-      aim_kept = (let ne : p.rows ≢ r = λ e. omega arith in
-          aim_multiple (cell new (p.cols + 2) p.rows) (mixed_old p.rows (cell new (p.cols + 2) p.rows) ne (cleared.others p.rows (omega arith) ne)));
+      aim_kept = (let ne : p.rows ≢ r = λ e. omega arith in aim_multiple (new p.rows) (others p.rows (omega arith) ne));
     }
 
   -- ---- what follows exists
   next_exists : (R : ℕ → ℕ → ℤ) (a : ℕ → ℤ) → IsPrimitive p.cols (R r) → IsKept p R a old → (Q : ℕ → ℕ → ℤ) × (b : ℕ → ℤ) × IsEliminated p R a r c Q b
   next_exists R a prim kept = let m = (kept.rows_kept r rows).by in
-      elimination_exists (λ z. nonzero (up_zero m.0 (table_rows p old r c) (R r c) (m.2 c (omega arith)) z)) prim
+      elimination_exists (λ z. nonzero (up_zero m.0 (old r c) (R r c) (m.2 c (omega arith)) z)) prim
 
-  pub table_after : (new : List ℤ) → length new ≡ length old → IsCleared mid new (p.rows + 1) (p.cols + 2) r c lead → IsTableAfter p old new r c
-  table_after new long cleared = record {
+  table_from : (new : ℕ → ℕ → ℤ) → ((j : ℕ) → j < p.cols + 2 → new r j ≡ lead j)
+      → ((i : ℕ) → i < p.rows + 1 → i ≢ r → IsMixed lead c (p.cols + 2) (old i) (new i))
+      → ((i j : ℕ) → i < p.rows + 1 → j < p.cols + 2 → IsNarrow (new i j)) → IsTableAfter p old new r c
+  table_from new same others narrow = record {
     table = record {
-      long = long ∙ table.long;
       zero = λ i h. elim (cases_eq i r) [
-        | inl e ↦ (let P : ℕ → Type 0 = λ k. cell new (p.cols + 2) k (p.cols + 1) ≡ pos 0 in
-            subst P (sym e) (cleared.kept (p.cols + 1) (omega arith) ∙ sym (same (p.cols + 1) (omega arith)) ∙ lead_end))
-        | inr ne ↦ mixed_end i (cell new (p.cols + 2) i) h (mixed_old i (cell new (p.cols + 2) i) ne (cleared.others i (omega arith) ne))
+        | inl e ↦ (let P : ℕ → Type 0 = λ k. new k (p.cols + 1) ≡ pos 0 in subst P (sym e) (same (p.cols + 1) (omega arith) ∙ lead_end))
+        | inr ne ↦ mixed_end i (new i) h (others i (omega arith) ne)
       ];
-      narrow = cleared.narrow;
+      narrow = λ i j im jn. narrow i j (omega arith) (omega arith);
     };
-    after = λ R a prim kept. (let x = next_exists R a prim kept in (x.0, x.1, x.2, kept_after R a kept x.0 x.1 x.2 new cleared));
+    after = λ R a prim kept. (let x = next_exists R a prim kept in (x.0, x.1, x.2, kept_after R a kept x.0 x.1 x.2 new same others));
   }
 
   -- ---- some number not narrow
-  module _ (i j : ℕ) (z : ℤ) (cleared : IsClearedTo mid (p.rows + 1) (p.cols + 2) r c lead i j z) (narrow : (k : ℕ) → k < p.cols + 2 → IsNarrow (lead k))
+  module _ (i j : ℕ) (z : ℤ) (cleared : IsClearedTo old lead (p.rows + 1) (p.cols + 2) r c i j z)
       (R : ℕ → ℕ → ℤ) (a : ℕ → ℤ) (kept : IsKept p R a old) (Q : ℕ → ℕ → ℤ) (b : ℕ → ℤ) (el : IsEliminated p R a r c Q b) where
     narrow_is : (x y : ℤ) → unsigned_abs x ≡ unsigned_abs y → IsNarrow y → IsNarrow x
     narrow_is x y e h = omega (arith, h)
 
-    here_row : IsReduced lead c (p.cols + 2) (cell old (p.cols + 2) i) cleared.here.row.0
-    here_row = reduced_old i cleared.here.row.0 cleared.apart cleared.here.row.1
+    here_row : IsReduced lead c (p.cols + 2) (old i) cleared.here.row.0
+    here_row = cleared.here.row.1
 
     -- the number in a program row is not at the further place
     in_row : i < p.rows → j ≤ p.cols
@@ -274,9 +255,9 @@ module _ (p : Program) (old mid : List ℤ) (lead : ℕ → ℤ) (r c : ℕ) (ro
     narrow_before : (h k : ℕ) → h < p.rows → k ≤ p.cols → (h < i) ⊎ ((h ≡ i) × (k < j)) → IsNarrow (Q h k)
     narrow_before h k hm kn s = elim (cases_eq h r) [
       | inl e ↦ (let P : ℕ → Type 0 = λ t. IsNarrow (Q t k) in let N : ℤ → Type 0 = λ t. IsNarrow t in
-          subst P (sym e) (subst N (sym (lead_is R a kept Q b el k kn)) (narrow k (omega arith))))
+          subst P (sym e) (subst N (sym (lead_is R a kept Q b el k kn)) (cleared.narrow k (omega arith))))
       | inr ne ↦ elim s [
-        | inl less ↦ (let v = cleared.before h less ne in let m = (row_multiple R a kept Q b el h v.0 hm ne (mixed_old h v.0 ne v.1)).by in
+        | inl less ↦ (let v = cleared.before h less ne in let m = (row_multiple R a kept Q b el h v.0 hm ne v.1).by in
             down_narrow m.0 (v.0 k) (Q h k) m.1 (m.2 k (omega arith)) (v.2 k (omega arith)))
         | inr q ↦ (let P : ℕ → Type 0 = λ t. IsNarrow (Q t k) in let N : ℤ → Type 0 = λ t. IsNarrow t in
             let im : i < p.rows = omega (arith, q.0, hm) in
@@ -302,8 +283,8 @@ module _ (p : Program) (old mid : List ℤ) (lead : ℕ → ℤ) (r c : ℕ) (ro
       | inr ne ↦ ap unsigned_abs (stated_aim ne)
     ]
 
-    aim_row_here : (e : i ≡ p.rows) → IsReduced lead c (p.cols + 2) (cell old (p.cols + 2) p.rows) cleared.here.row.0
-    aim_row_here e = let P : ℕ → Type 0 = λ t. IsReduced lead c (p.cols + 2) (cell old (p.cols + 2) t) cleared.here.row.0 in subst P e here_row
+    aim_row_here : (e : i ≡ p.rows) → IsReduced lead c (p.cols + 2) (old p.rows) cleared.here.row.0
+    aim_row_here e = let P : ℕ → Type 0 = λ t. IsReduced lead c (p.cols + 2) (old t) cleared.here.row.0 in subst P e here_row
 
     aim_here : (e : i ≡ p.rows) → b j ≡ stated p i j z
     aim_here e =
@@ -336,11 +317,18 @@ module _ (p : Program) (old mid : List ℤ) (lead : ℕ → ℤ) (r c : ℕ) (ro
           subst P (sym (aim_is R a kept Q b el cleared.here.row.0 (aim_row_here e) k (omega arith))) (cleared.here.row.3 k kj));
     }
 
-  pub wide_from : (i j : ℕ) (z : ℤ) → IsClearedTo mid (p.rows + 1) (p.cols + 2) r c lead i j z → ((k : ℕ) → k < p.cols + 2 → IsNarrow (lead k))
-      → IsWideAfter p old r c i j z
-  wide_from i j z cleared narrow = record {
+  wide_from : (i j : ℕ) (z : ℤ) → IsClearedTo old lead (p.rows + 1) (p.cols + 2) r c i j z → IsWideAfter p old r c i j z
+  wide_from i j z cleared = record {
     row = (let h : i < p.rows + 1 = cleared.inside in omega arith);
     column = (let h : j < p.cols + 2 = cleared.here.inside in omega arith);
     size = cleared.here.size;
-    after = λ R a prim kept. (let x = next_exists R a prim kept in (x.0, x.1, x.2, wide_after i j z cleared narrow R a kept x.0 x.1 x.2));
+    after = λ R a prim kept. (let x = next_exists R a prim kept in (x.0, x.1, x.2, wide_after i j z cleared R a kept x.0 x.1 x.2));
   }
+
+pub table_after : (p : Program) (old new : ℕ → ℕ → ℤ) (r c : ℕ) → r < p.rows → c < p.cols → IsTable p old → old r c ≢ pos 0
+    → IsCleared old new (p.rows + 1) (p.cols + 2) r c → IsTableAfter p old new r c
+table_after p old new r c rows cols table nonzero u = table_from p old (new r) r c rows cols table u.lead nonzero new (λ j h. refl) u.others u.narrow
+
+pub wide_after_list : (p : Program) (old : ℕ → ℕ → ℤ) (taken : ℕ → ℤ) (r c i j : ℕ) (z : ℤ) → r < p.rows → c < p.cols → IsTable p old → old r c ≢ pos 0
+    → IsClearedTo old taken (p.rows + 1) (p.cols + 2) r c i j z → IsWideAfter p old r c i j z
+wide_after_list p old taken r c i j z rows cols table nonzero u = wide_from p old taken r c rows cols table u.lead nonzero i j z u

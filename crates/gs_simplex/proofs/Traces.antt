@@ -133,14 +133,14 @@ module _ (p : Program) (o : Listing) (n : ℕ) (s : States) (ok : IsOpening p o)
   pub basis_is : (k : ℕ) → k ≤ n → (columns : List ℕ) → IsBasisAt p o (length o + k) columns → IsBasis (s.lists (length o + k)) columns
   basis_is k h columns w = let P : Listing → Type 0 = λ x. IsBasis x columns in subst P (sym (list_same k (length o + k) w.0 w.1 h (omega arith))) w.2
 
-  pub value_is : (k : ℕ) → k ≤ n → (l : Listing) (xs : List ℤ) (f : Fraction) → IsSoFar p o (length o + k) l xs → IsAimValue p (table_aim p xs) f
+  pub value_is : (k : ℕ) → k ≤ n → (l : Listing) (grid : ℕ → ℕ → ℤ) (f : Fraction) → IsSoFar p o (length o + k) l grid → IsAimValue p (table_aim p grid) f
       → IsAimValue p (s.aim (length o + k)) f
-  value_is k h l xs f u e =
+  value_is k h l grid f u e =
       let t = length o + k in let r = u.states.0 in
       let ag = agrees k t r u.states.1 h (omega arith) in
       let m = u.states.3.aim_kept.by in
       ap (λ x. f.num *ℤ x) (ag.aim (p.cols + 1) (omega arith))
-      ∙ down_fraction m.0 f.num f.den (table_aim p xs (p.cols + 1)) (table_aim p xs p.cols) (r.aim t (p.cols + 1)) (r.aim t p.cols) m.1
+      ∙ down_fraction m.0 f.num f.den (table_aim p grid (p.cols + 1)) (table_aim p grid p.cols) (r.aim t (p.cols + 1)) (r.aim t p.cols) m.1
       (m.2 (p.cols + 1) (omega arith)) (m.2 p.cols (omega arith)) e ∙ ap (λ x. x *ℤ f.den) (sym (ag.aim p.cols (omega arith)))
 
   pub bases_apart : (k h : ℕ) → k < h → h ≤ n → (a b : List ℕ) → IsBasis (s.lists (length o + k)) a → IsBasis (s.lists (length o + h)) b → a ≡ b → ⊥
@@ -150,18 +150,18 @@ module _ (p : Program) (o : Listing) (n : ℕ) (s : States) (ok : IsOpening p o)
       (same_columns (s.lists (length o + k)) (s.lists (length o + h)) a b u w e)
 
 -- ---- all together
-pub shown_of : (p : Program) (o : Listing) (limit n : ℕ) (t : Path) (l0 l : Listing) (xs0 xs : List ℤ) → IsSmallTable p → IsOpening p o
-    → IsSoFar p o (length o) l0 xs0 → IsAimValue p (table_aim p xs0) t.start
-    → IsSoFar p o (length o + n) l xs → IsTable p xs → n ≤ limit → NoneEnters p l (table_aim p xs) → IsAimValue p (table_aim p xs) t.aim
+pub shown_of : (p : Program) (o : Listing) (limit n : ℕ) (t : Path) (l0 l : Listing) (grid0 grid : ℕ → ℕ → ℤ) → IsSmallTable p → IsOpening p o
+    → IsSoFar p o (length o) l0 grid0 → IsAimValue p (table_aim p grid0) t.start
+    → IsSoFar p o (length o + n) l grid → IsTable p grid → n ≤ limit → NoneEnters p l (table_aim p grid) → IsAimValue p (table_aim p grid) t.aim
     → length t.turns.items ≡ n → AreTurns p o t.turns.items → IsShown p o limit t
-shown_of p o limit n t l0 l xs0 xs small ok u0 start u table within none aim long turns =
+shown_of p o limit n t l0 l grid0 grid small ok u0 start u table within none aim long turns =
     let stop : PathStops p o limit (ends n l) = ends_stops n u table within none in
     let s = stop.stops.1 in
     let W : ℕ → Type 0 = λ x. Stops p o limit x s (ends n l) in
     let w : Stops p o limit (length o + n) s (ends n l) = subst W stop.stops.2.2 stop.stops.2 in
     let path : IsPath p o (length o + n) s = w.0.path in
     let q : length o ≡ length o + 0 = omega arith in
-    let S : ℕ → Type 0 = λ x. IsSoFar p o x l0 xs0 in let V : ℕ → Type 0 = λ x. IsAimValue p (s.aim x) t.start in
+    let S : ℕ → Type 0 = λ x. IsSoFar p o x l0 grid0 in let V : ℕ → Type 0 = λ x. IsAimValue p (s.aim x) t.start in
     record {
       small = small;
       path = (
@@ -172,8 +172,8 @@ shown_of p o limit n t l0 l xs0 xs small ok u0 start u table within none aim lon
         record {
           turns_long = long;
           turns = λ k h d. turn_is p o n s ok path k h (slice_index_or t.turns.items k d) (turns k (omega arith) d);
-          start = subst V (sym q) (value_is p o n s ok path 0 (omega arith) l0 xs0 t.start (subst S q u0) start);
-          aim = value_is p o n s ok path n (omega arith) l xs t.aim u aim;
+          start = subst V (sym q) (value_is p o n s ok path 0 (omega arith) l0 grid0 t.start (subst S q u0) start);
+          aim = value_is p o n s ok path n (omega arith) l grid t.aim u aim;
         },
       );
     }

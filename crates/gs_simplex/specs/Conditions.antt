@@ -18,10 +18,10 @@ pub record CanTakeAt (p : Program) (rows : ℕ → ℕ → ℤ) (o : Listing) (s
   pub pair : (r : ℕ) × (c : ℕ) × (slice_index_or o step (0, 0) ≡ (r + 1, c + 1)) × CanTake p (take step o) r c × (rows r c ≢ pos 0)
 
 -- the first t pairs were taken in turn, and the table has their rows
-pub record IsTaken (p : Program) (o : Listing) (t : ℕ) (xs : List ℤ) : Type 0 where
+pub record IsTaken (p : Program) (o : Listing) (t : ℕ) (grid : ℕ → ℕ → ℤ) : Type 0 where
   pub taken : (k : ℕ) → k < t → (r : ℕ) × (c : ℕ) × (slice_index_or o k (0, 0) ≡ (r + 1, c + 1)) × CanTake p (take k o) r c
-  pub table : IsTable p xs
-  pub rows : IsTableOf p (take t o) xs
+  pub table : IsTable p grid
+  pub rows : IsTableOf p (take t o) grid
 
 -- each row whose listed column is not free has a right side of at least 0
 abbrev pub HasFeasibleSides : Program → Listing → (ℕ → ℕ → ℤ) → Type 0

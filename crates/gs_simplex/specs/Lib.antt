@@ -6,9 +6,10 @@ pub mod Elimination
 pub mod Path
 pub mod PathLaws
 pub mod Numbers
+pub mod Support
+pub mod Columns
 pub mod Table
 pub mod Choice
-pub mod Live
 pub mod State
 pub mod Values
 pub mod Answer

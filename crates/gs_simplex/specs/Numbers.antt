@@ -34,13 +34,9 @@ pub record IsQuotient (by : ℕ) (mixed row : List ℤ) (count : ℕ) : Type 0 w
   pub each : (j : ℕ) → j < count → at mixed j ≡ pos by *ℤ at row j
   pub narrow : (j : ℕ) → j < count → IsNarrow (at row j)
 
--- z, at place j, is the first quotient that is not narrow
-pub record IsWideQuotient (by : ℕ) (mixed : List ℤ) (j : ℕ) (z : ℤ) : Type 0 where
-  pub inside : j < length mixed
-  pub here : at mixed j ≡ pos by *ℤ z
-  pub size : unsigned_abs z ≤ 2 ^ 125
-  pub wide : ¬ IsNarrow z
-  pub before : (k : ℕ) → k < j → (y : ℤ) × (at mixed k ≡ pos by *ℤ y) × IsNarrow y
+-- some number of `mixed` is `by` times a number that is not narrow
+pub record HasWideQuotient (by : ℕ) (mixed : List ℤ) : Type 0 where
+  pub found : (k : ℕ) × (z : ℤ) × (k < length mixed) × (at mixed k ≡ pos by *ℤ z) × (¬ IsNarrow z)
 
 -- the old row is a positive multiple of the new one
 pub record IsMultiple (width : ℕ) (old new : ℕ → ℤ) : Type 0 where
@@ -71,6 +67,14 @@ pub record IsReducedTo (lead : ℕ → ℤ) (c width : ℕ) (old : ℕ → ℤ) 
   pub wide : ¬ IsNarrow z
   pub row : (new : ℕ → ℤ) × (IsReduced lead c width old new) × (new j ≡ z) × ((k : ℕ) → k < j → IsNarrow (new k))
 
+-- the numbers of `mixed` are `by` times those of the reduced row, of which one is not narrow
+pub record IsWideReduced (lead : ℕ → ℤ) (c width : ℕ) (old : ℕ → ℤ) (mixed : List ℤ) (by : ℕ) : Type 0 where
+  pub some : 0 < by
+  pub small : by ≤ 2 ^ 125
+  pub within : AllAtMost mixed (2 ^ 125)
+  pub row : (new : ℕ → ℤ) × (IsReduced lead c width old new) × ((k : ℕ) → k < width → at mixed k ≡ pos by *ℤ new k)
+      × ((k : ℕ) × (k < width) × (¬ IsNarrow (new k)))
+
 -- the number in row i and column j, where rows of this width stand one after the other
 abbrev pub cell : List ℤ → ℕ → ℕ → ℕ → ℤ
 cell xs width i j = at xs (i * width + j)
@@ -89,15 +93,18 @@ pub record IsLeadOf (old new : ℕ → ℤ) (c width : ℕ) : Type 0 where
   pub own : pos 0 ≤ℤ new c
   pub divided : (IsDivided width old new) ⊎ IsDivided width (λ j. neg_ℤ (old j)) new
 
--- each of `count` rows but r is mixed with the lead in column c, and row r stays
-pub record IsCleared (old new : List ℤ) (count width r c : ℕ) (lead : ℕ → ℤ) : Type 0 where
-  pub others : (i : ℕ) → i < count → i ≢ r → IsMixed lead c width (cell old width i) (cell new width i)
-  pub kept : (j : ℕ) → j < width → cell new width r j ≡ cell old width r j
-  pub narrow : AreNarrowNumbers new
+-- row r is taken as the lead, each other of `count` rows is mixed with it in column c, and all are narrow
+pub record IsCleared (old new : ℕ → ℕ → ℤ) (count width r c : ℕ) : Type 0 where
+  pub lead : IsLeadOf (old r) (new r) c width
+  pub others : (i : ℕ) → i < count → i ≢ r → IsMixed (new r) c width (old i) (new i)
+  pub narrow : (i j : ℕ) → i < count → j < width → IsNarrow (new i j)
 
--- z, in row i and column j, is the first number of the reduced rows that is not narrow. The rows before row i need only be mixed.
-pub record IsClearedTo (old : List ℤ) (count width r c : ℕ) (lead : ℕ → ℤ) (i j : ℕ) (z : ℤ) : Type 0 where
+-- Row r is taken as the lead, and z, in row i and column j, is the first number of the reduced rows that is not narrow. The rows before row i need only be
+-- mixed.
+pub record IsClearedTo (old : ℕ → ℕ → ℤ) (taken : ℕ → ℤ) (count width r c i j : ℕ) (z : ℤ) : Type 0 where
+  pub lead : IsLeadOf (old r) taken c width
+  pub narrow : (k : ℕ) → k < width → IsNarrow (taken k)
   pub inside : i < count
   pub apart : i ≢ r
-  pub here : IsReducedTo lead c width (cell old width i) j z
-  pub before : (h : ℕ) → h < i → h ≢ r → (new : ℕ → ℤ) × (IsMixed lead c width (cell old width h) new) × ((k : ℕ) → k < width → IsNarrow (new k))
+  pub here : IsReducedTo taken c width (old i) j z
+  pub before : (h : ℕ) → h < i → h ≢ r → (new : ℕ → ℤ) × (IsMixed taken c width (old h) new) × ((k : ℕ) → k < width → IsNarrow (new k))

@@ -3,10 +3,11 @@
 ghost use Rattle.std.specs.Prelude.{◌≡◌, ◌+◌, ◌-◌, ◌*◌, ◌<◌, ◌≤◌, ◌^◌, ◌↔◌, IsTrue, ℤ, ◌*ℤ◌, unsigned_abs};
 ghost use Rattle.std.specs.Prelude.{length, slice_index_or, MatchBool};
 ghost use Rattle.std.specs.Option.{ForSome};
-ghost use Rattle.gs_simplex.specs.{Rows.{IsNarrow}, Program.{IsShaped, IsPairList, IsFree}, Numbers.{at, cell, AreNarrowNumbers}, Table.{table_rows, IsTable}};
+ghost use Rattle.gs_simplex.specs.{Rows.{IsNarrow}, Program.{IsShaped, IsPairList, IsFree}, Table.{grid_of, IsHeld}};
 ghost use Rattle.gs_simplex.specs.Choice.{IsEntering, Before, NotAfter, IsNarrowRatio, IsRatioAt, IsBetter, IsLeaving};
 
 use crate::sparse::Program;
+use crate::table::Table;
 
 /// A row that may leave: its place in the list, its listed column, counted from 0, its right side, and its number in the entering column.
 #[derive(Clone, Copy)]
@@ -15,19 +16,6 @@ pub(crate) struct Ratio {
     pub(crate) column: usize,
     pub(crate) side: i64,
     pub(crate) over: i64,
-}
-
-// Returns the first column, counted from 0, whose number is above 0.
-pub(crate) fn entering(aim: &[i64]) -> Option<usize>
-    requires { AreNarrowNumbers aim.now }
-    ensures { IsEntering (at aim.now) (length aim.now) result }
-{
-    for (j, number) in aim.iter().enumerate() {
-        if *number > 0 {
-            return Some(j);
-        }
-    }
-    None
 }
 
 // Returns the product of two narrow numbers.
@@ -54,14 +42,36 @@ fn is_before(a: &Ratio, b: &Ratio) -> bool
 }
 
 // Returns the number in row `i` and column `j` of the table.
-pub(crate) fn number_at(p: &Program, numbers: &[i64], i: usize, j: usize) -> i64
-    requires table { IsTable p.now numbers.now }
+pub(crate) fn number_at(p: &Program, table: &Table, i: usize, j: usize) -> i64
+    requires table { IsHeld p.now table.now }
     requires row { i < p.now.rows + 1 }
     requires column { j < p.now.cols + 2 }
-    ensures value { result ≡ cell numbers.now (p.now.cols + 2) i j }
+    ensures value { result ≡ grid_of p.now table.now i j }
     ensures narrow { IsNarrow result }
 {
-    numbers[i * (p.cols as usize + 2) + j]
+    let rows = p.rows as usize;
+    let start = i * table.room.lead.len();
+    let stand = table.stands[j] as usize;
+    if stand > rows {
+        return table.numbers[start + (stand - rows)];
+    }
+    if stand == i {
+        return table.numbers[start];
+    }
+    0
+}
+
+// Returns the first column, counted from 0, whose number in the aim's row is above 0.
+pub(crate) fn entering(p: &Program, table: &Table) -> Option<usize>
+    requires { IsHeld p.now table.now }
+    ensures { IsEntering (grid_of p.now table.now p.now.rows) p.now.cols result }
+{
+    for j in 0..p.cols as usize {
+        if number_at(p, table, p.rows as usize, j) > 0 {
+            return Some(j);
+        }
+    }
+    None
 }
 
 // Returns whether column `j` may be below 0.
@@ -89,27 +99,27 @@ pub(crate) fn pair_at(p: &Program, basis: &[(u32, u32)], place: usize) -> (usize
 // Returns the ratio of the row at a place of the list when column `e` enters, if that row may leave.
 fn ratio_at(
     p: &Program,
-    numbers: &[i64],
+    table: &Table,
     basis: &[(u32, u32)],
     e: usize,
     place: usize,
 ) -> Option<Ratio>
     requires shaped { IsShaped p.now }
-    requires table { IsTable p.now numbers.now }
+    requires table { IsHeld p.now table.now }
     requires pairs { IsPairList p.now basis.now }
     requires column { e < p.now.cols }
     requires inside { place < length basis.now }
-    ensures { IsRatioAt p.now basis.now (table_rows p.now numbers.now) e place result }
+    ensures { IsRatioAt p.now basis.now (grid_of p.now table.now) e place result }
 {
     let (row, column) = pair_at(p, basis, place);
-    let over = number_at(p, numbers, row, e);
+    let over = number_at(p, table, row, e);
     if over <= 0 {
         return None;
     }
     if is_free(p, column) {
         return None;
     }
-    let side = number_at(p, numbers, row, p.cols as usize);
+    let side = number_at(p, table, row, p.cols as usize);
     Some(Ratio {
         place,
         column,
@@ -132,16 +142,16 @@ fn better(best: Option<Ratio>, next: Option<Ratio>) -> Option<Ratio>
 }
 
 // Returns the place in the list of the row that leaves when column `e` enters.
-pub(crate) fn leaving(p: &Program, numbers: &[i64], basis: &[(u32, u32)], e: usize) -> Option<usize>
+pub(crate) fn leaving(p: &Program, table: &Table, basis: &[(u32, u32)], e: usize) -> Option<usize>
     requires shaped { IsShaped p.now }
-    requires table { IsTable p.now numbers.now }
+    requires table { IsHeld p.now table.now }
     requires pairs { IsPairList p.now basis.now }
     requires column { e < p.now.cols }
-    ensures { IsLeaving p.now basis.now (table_rows p.now numbers.now) e result }
+    ensures { IsLeaving p.now basis.now (grid_of p.now table.now) e result }
 {
     let mut best: Option<Ratio> = None;
     for place in 0..basis.len() {
-        best = better(best, ratio_at(p, numbers, basis, e, place));
+        best = better(best, ratio_at(p, table, basis, e, place));
     }
     Some(best?.place)
 }

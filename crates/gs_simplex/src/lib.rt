@@ -10,9 +10,9 @@
 mod answer;
 mod best;
 mod choice;
+mod columns;
 mod exact;
 pub mod laws;
-mod live;
 mod path;
 mod program;
 mod row;

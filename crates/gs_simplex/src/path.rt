@@ -2,8 +2,8 @@
 
 ghost use Rattle.std.specs.Prelude.{◌≡◌, ◌≢◌, IfNone, MatchOption, MatchResult, ℕ, ◌+◌, ◌*◌, ◌<◌, ◌≤◌, ◌^◌, pos, length, slice_index_or};
 ghost use Rattle.std.specs.Prelude.{unsigned_abs, Some};
-ghost use Rattle.gs_simplex.specs.{Program.{IsShaped, IsPairList, IsOpening}, Table.{table_rows, table_aim, stated, IsTable, IsTableOf, HasTops}};
-ghost use Rattle.gs_simplex.specs.{State.{HasRoom, IsStart, IsState, IsChoice, IsPivoted, IsWidePivot, IsEnd, IsTurnedState}, Answer.{IsSmallTable, IsStop}};
+ghost use Rattle.gs_simplex.specs.{Program.{IsShaped, IsPairList, IsOpening}, Table.{grid_of, table_aim, stated, IsTable, IsHeld, IsTableOf}};
+ghost use Rattle.gs_simplex.specs.{State.{IsStart, IsState, IsChoice, IsPivoted, IsWidePivot, IsEnd, IsTurnedState}, Answer.{IsSmallTable, IsStop}};
 ghost use Rattle.gs_simplex.specs.Trace.{IsBegun, CanFollow};
 
 use crate::MOST_NUMBERS;
@@ -44,18 +44,17 @@ fn wide_stop(p: &Program, step: u32, cell: WideCell) -> Stop
 }
 
 // Returns what Bland's rule chooses for this table.
-fn choose(p: &Program, numbers: &[i64], basis: &[(u32, u32)]) -> Choice
+fn choose(p: &Program, table: &Table, basis: &[(u32, u32)]) -> Choice
     requires shaped { IsShaped p.now }
-    requires table { IsTable p.now numbers.now }
+    requires table { IsHeld p.now table.now }
     requires pairs { IsPairList p.now basis.now }
-    requires rows { IsTableOf p.now basis.now numbers.now }
-    ensures { IsChoice p.now basis.now (table_rows p.now numbers.now) (table_aim p.now numbers.now) result }
+    requires rows { IsTableOf p.now basis.now (grid_of p.now table.now) }
+    ensures { IsChoice p.now basis.now (grid_of p.now table.now) (table_aim p.now (grid_of p.now table.now)) result }
 {
-    let start = p.rows as usize * (p.cols as usize + 2);
-    let Some(column) = entering(&numbers[start..start + p.cols as usize]) else {
+    let Some(column) = entering(p, table) else {
         return Choice::Ends;
     };
-    match leaving(p, numbers, basis, column) {
+    match leaving(p, table, basis, column) {
         Some(place) => Choice::Leaves(place, column),
         None => Choice::Unbounded(column),
     }
@@ -80,7 +79,7 @@ pub(crate) fn open(p: &Program, opening: &[(u32, u32)], table: &mut Table) -> Re
 {
     for step in 0..opening.len() {
         let (row, column) = pair_at(p, opening, step);
-        if let Some(cell) = table.list(p, &opening[..step], row, column) {
+        if let Some(cell) = table.list(p, row, column) {
             return Err(wide_stop(p, step as u32 + 1, cell));
         }
     }
@@ -113,24 +112,21 @@ fn pivot(
     place: usize,
     column: usize,
 ) -> Option<WideCell>
-    requires room { HasRoom p.now table.old }
-    requires table { IsTable p.now table.old.numbers.items }
+    requires laid { IsHeld p.now table.old }
+    requires table { IsTable p.now (grid_of p.now table.old) }
     requires pairs { IsPairList p.now basis.old }
-    requires rows { IsTableOf p.now basis.old table.old.numbers.items }
-    requires tops { HasTops p.now table.old.numbers.items table.old.tops.items }
     requires inside { place < length basis.old }
     requires column { column < p.now.cols }
     requires small_rows { p.now.rows < 2 ^ 31 }
     requires small_cols { p.now.cols < 2 ^ 31 }
     requires rises { (r c : ℕ) → slice_index_or basis.old place (0, 0) ≡ (r + 1, c + 1) →
-        table_rows p.now table.old.numbers.items r column ≢ pos 0 }
-    ensures room { HasRoom p.now table.new }
-    ensures pivoted { MatchOption result (IsPivoted p.now basis.old basis.new table.old.numbers.items table.new.numbers.items place column)
-        (λ w. IsWidePivot p.now basis.old table.old.numbers.items place column w.row w.column w.number) }
-    ensures tops { IfNone result (HasTops p.now table.new.numbers.items table.new.tops.items) }
+        grid_of p.now table.old r column ≢ pos 0 }
+    ensures laid { IfNone result (IsHeld p.now table.new) }
+    ensures pivoted { MatchOption result (IsPivoted p.now basis.old basis.new (grid_of p.now table.old) (grid_of p.now table.new) place column)
+        (λ w. IsWidePivot p.now basis.old (grid_of p.now table.old) place column w.row w.column w.number) }
 {
     let (row, _) = pair_at(p, basis, place);
-    if let Some(cell) = table.list(p, basis, row, column) {
+    if let Some(cell) = table.list(p, row, column) {
         return Some(cell);
     }
     basis[place] = (row as u32 + 1, column as u32 + 1);
@@ -159,7 +155,7 @@ pub(crate) fn step(
         (λ t. IsTurnedState p.now opening.now limit made t basis.new table.new))
         (IsStop p.now opening.now limit) }
 {
-    match choose(p, &table.numbers, basis) {
+    match choose(p, table, basis) {
         Choice::Ends => Ok(None),
         Choice::Unbounded(column) => Err(Stop::Unbounded {
             col: column as u32 + 1,

@@ -1,13 +1,13 @@
 //! The arithmetic of one row in whole numbers. Products stay in place where they are narrow, and take 128 bits otherwise. A row is divided by its greatest
 //! common divisor only where its numbers may be long.
 
-ghost use Rattle.std.specs.Prelude.{◌≡◌, ◌≢◌, MatchOption, MatchResult, ℕ, ◌+◌, ◌*◌, ◌/◌, ◌<◌, ◌≤◌, ◌^◌, IsTrue, ℤ, pos, ◌-ℤ◌, ◌*ℤ◌, ◌<ℤ◌};
+ghost use Rattle.std.specs.Prelude.{◌≡◌, ◌≢◌, MatchBool, MatchResult, ℕ, ◌+◌, ◌*◌, ◌/◌, ◌<◌, ◌≤◌, ◌^◌, IsTrue, ℤ, pos, ◌-ℤ◌, ◌*ℤ◌, ◌<ℤ◌};
 ghost use Rattle.std.specs.Prelude.{length, slice_index, unsigned_abs};
 ghost use Prim.Native.Nat.{◌∣◌};
 ghost use Rattle.std.specs.Int.{IsGcd};
 ghost use Rattle.gs_simplex.specs.Rows.{IsNarrow};
-ghost use Rattle.gs_simplex.specs.Numbers.{at, AreNarrowNumbers, AllAtMost, IsDivisor, IsShared, IsQuotient, IsWideQuotient, IsMultiple, IsDivided};
-ghost use Rattle.gs_simplex.specs.{Numbers.{IsMixed, IsReducedTo}, Live.{IsSupport, IsChange}};
+ghost use Rattle.gs_simplex.specs.Numbers.{at, AreNarrowNumbers, AllAtMost, IsDivisor, IsShared, IsQuotient, HasWideQuotient, IsMultiple, IsDivided};
+ghost use Rattle.gs_simplex.specs.{Numbers.{IsMixed, IsWideReduced}, Support.{IsSupport, IsChange}};
 
 use crate::exact::{Divisor, short_gcd};
 use gs_frac::gcd;
@@ -17,13 +17,6 @@ pub(crate) const WIDE: u128 = 1 << 62;
 
 // Rows whose numbers are all below this size are not divided.
 const LONG: u64 = 1 << 30;
-
-/// A number that is not narrow, and its column, from 0.
-#[derive(Clone, Copy)]
-pub(crate) struct WideNumber {
-    pub(crate) column: usize,
-    pub(crate) number: i128,
-}
 
 /// The pivot row, which clears `column` in the other rows. Its numbers are at most `most` in size, and 0 outside the first `count` places of `filled`.
 /// Rows and columns count from 0.
@@ -40,6 +33,24 @@ pub(crate) struct Lead<'a> {
     pub(crate) ghost inside: { column < length numbers.now },
     pub(crate) ghost own: { pos 0 <ℤ at numbers.now column },
     pub(crate) ghost support: { IsSupport filled.now count (length numbers.now) (at numbers.now) (at numbers.now) },
+}
+
+// Lists the columns in which a row is not 0, and returns their number.
+pub(crate) fn fill(row: &[i64], filled: &mut [u32]) -> usize
+    requires small { length row.now ≤ 2 ^ 32 }
+    requires narrow { AreNarrowNumbers row.now }
+    requires room { length filled.old ≡ length row.now }
+    ensures { IsSupport filled.new result (length row.now) (at row.now) (at row.now) }
+{
+    let mut count: usize = 0;
+    for j in 0..row.len() {
+        if row[j] == 0 {
+            continue;
+        }
+        filled[count] = j as u32;
+        count += 1;
+    }
+    count
 }
 
 // Returns a bound on the numbers of a row that is 0 outside the first `found` places: the greatest size.
@@ -79,6 +90,9 @@ fn guessed_quotient(number: i64, by: u64, divisor: &Divisor) -> i64
     ensures value { number ≡ pos by *ℤ result }
     ensures narrow { IsNarrow result }
 {
+    if number == 0 {
+        return 0;
+    }
     match divisor.quotient(number) {
         Some(quotient) => quotient,
         None => narrow_quotient(number, by),
@@ -256,7 +270,7 @@ fn narrow_common_divisor(found: Divisor, number: i64) -> Divisor
 }
 
 // Returns `number` over `by`, which divides it.
-fn quotient(number: i128, by: u128) -> i128
+pub(crate) fn quotient(number: i128, by: u128) -> i128
     requires some { 0 < by }
     requires divides { by ∣ unsigned_abs number }
     requires within { unsigned_abs number ≤ 2 ^ 125 }
@@ -276,23 +290,23 @@ fn quotient(number: i128, by: u128) -> i128
     number / (by as i128)
 }
 
-// Sets `row` to `mixed` over `by`, number by number, and returns the first quotient that is not narrow.
-fn narrow_into(mixed: &[i128], by: u128, row: &mut [i64]) -> Option<WideNumber>
+// Sets `row` to `mixed` over `by`, number by number, up to a quotient that is not narrow. Returns whether there is none.
+fn narrow_into(mixed: &[i128], by: u128, row: &mut [i64]) -> bool
     requires room { length mixed.now ≡ length row.old }
     requires some { 0 < by }
     requires small { by ≤ 2 ^ 125 }
     requires within { AllAtMost mixed.now (2 ^ 125) }
     requires divides { (j : ℕ) → j < length mixed.now → by ∣ unsigned_abs (at mixed.now j) }
-    ensures { MatchOption result (IsQuotient by mixed.now row.new (length mixed.now)) (λ w. IsWideQuotient by mixed.now w.column w.number) }
+    ensures { MatchBool result (IsQuotient by mixed.now row.new (length mixed.now)) (HasWideQuotient by mixed.now) }
 {
     for j in 0..mixed.len() {
         let number = quotient(mixed[j], by);
         if number.unsigned_abs() >= WIDE {
-            return Some(WideNumber { column: j, number });
+            return false;
         }
         row[j] = number as i64;
     }
-    None
+    true
 }
 
 // Returns the greatest common divisor of a narrow row that is 0 outside the first `found` places; 0 where all numbers are 0. It begins with the last place:
@@ -386,8 +400,9 @@ fn multipliers(own: i64, far: i64) -> (i64, i64)
 }
 
 // Clears the lead's column of `row`: the lead's number there times the row, less the row's number there times the lead, over a common divisor. Returns a
-// bound on the new numbers. If a number is not narrow even after division by the greatest common divisor, the error is the first such number, and the row
-// is partly changed. The row's numbers are at most `top` in size. Row and lead are 0 outside the first `found` places.
+// bound on the new numbers. If a number is not narrow even after division by the greatest common divisor, the error is that divisor, `mixed` has the
+// numbers before the division, and the row is partly changed. The row's numbers are at most `top` in size. Row and lead are 0 outside the first `found`
+// places.
 pub(crate) fn reduce_row(
     lead: &Lead<'_>,
     row: &mut [i64],
@@ -395,7 +410,7 @@ pub(crate) fn reduce_row(
     places: &[u32],
     found: usize,
     top: u64,
-) -> Result<u64, WideNumber>
+) -> Result<u64, u128>
     requires support { IsSupport places.now found (length lead.now.numbers.now) (at row.old) (at lead.now.numbers.now) }
     requires long { length row.old ≡ length lead.now.numbers.now }
     requires room { length mixed.old ≡ length lead.now.numbers.now }
@@ -404,7 +419,7 @@ pub(crate) fn reduce_row(
     ensures { MatchResult result
         (λ most. IsMixed (at lead.now.numbers.now) lead.now.column (length lead.now.numbers.now) (at row.old) (at row.new)
         × AreNarrowNumbers row.new × AllAtMost row.new most)
-        (λ w. IsReducedTo (at lead.now.numbers.now) lead.now.column (length lead.now.numbers.now) (at row.old) w.column w.number) }
+        (IsWideReduced (at lead.now.numbers.now) lead.now.column (length lead.now.numbers.now) (at row.old) mixed.new) }
 {
     if row[lead.column] == 0 {
         return Ok(top);
@@ -418,8 +433,8 @@ pub(crate) fn reduce_row(
     }
     mix(lead.numbers, row, own, far, mixed);
     let by = divisor(mixed).max(1);
-    match narrow_into(mixed, by, row) {
-        None => Ok(WIDE as u64),
-        Some(wide) => Err(wide),
+    if narrow_into(mixed, by, row) {
+        return Ok(WIDE as u64);
     }
+    Err(by)
 }

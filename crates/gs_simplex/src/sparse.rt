@@ -168,7 +168,7 @@ impl Program {
             mut table,
         } = begin(alloc, self, opening)?;
         let pivots = follow(self, opening, limit, &mut basis, &mut table)?;
-        Ok(best(alloc, self, &table.numbers, basis, pivots)?)
+        Ok(best(alloc, self, &table, basis, pivots)?)
     }
 
     /// Returns the path's pivots, with the aim's value after the opening and at the end, or what stopped the path first. It stops as [`crate::run`] does.
@@ -184,10 +184,10 @@ impl Program {
             mut basis,
             mut table,
         } = begin(alloc, self, opening)?;
-        let start = aim_value(self, &table.numbers);
+        let start = aim_value(self, &table);
         let mut turns = Vec::new(alloc);
         follow_noting(self, opening, limit, &mut basis, &mut table, &mut turns)?;
-        let aim = aim_value(self, &table.numbers);
+        let aim = aim_value(self, &table);
         Ok(Path { start, turns, aim })
     }
 

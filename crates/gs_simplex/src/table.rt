@@ -1,11 +1,14 @@
 //! The simplex table: all rows in one piece of memory, and the pivot, which clears a column in every row but one.
 
-ghost use Rattle.std.specs.Prelude.{◌≡◌, ◌≢◌, IfNone, MatchOption, MatchResult, ℕ, ◌+◌, ◌*◌, ◌<◌, ◌≤◌, ◌^◌, ◌⊎◌, pos, neg_ℤ, length, slice_index};
-ghost use Rattle.gs_simplex.specs.{Program.{IsPairList}, Live.{IsSupport, IsLive}, Table.{table_rows, IsTable, IsTableOf, HasTops, IsTableAfter, IsWideAfter}};
-ghost use Rattle.gs_simplex.specs.Numbers.{at, cell, AreNarrowNumbers, IsAtMost, AreTops, IsMixed, IsReducedTo, IsTurned, IsLeadOf, IsCleared, IsClearedTo};
+ghost use Rattle.std.specs.Prelude.{◌≡◌, ◌≢◌, IfNone, MatchOption, MatchResult, ℕ, ◌+◌, ◌-◌, ◌*◌, ◌<◌, ◌≤◌, ◌^◌, ◌⊎◌, ℤ, pos, neg_ℤ, length, slice_index};
+ghost use Rattle.std.specs.Prelude.{vec_len};
+ghost use Rattle.gs_simplex.specs.{Rows.{IsNarrow}, Support.{IsSupport}};
+ghost use Rattle.gs_simplex.specs.Numbers.{at, cell, AreNarrowNumbers, IsAtMost, AreTops, AllAtMost, IsTurned, IsLeadOf, IsWideReduced};
+ghost use Rattle.gs_simplex.specs.Columns.{IsSlotFreed, IsOwnFreed, IsRowCleared, IsRowLed, AreRowsCleared, AreRowsClearedTo, IsPivotDone, IsPivotWide};
+ghost use Rattle.gs_simplex.specs.{Columns.{IsLiveRow, IsLive}, Table.{HasRoom}};
 
-use crate::live::{Live, fill};
-use crate::row::{Lead, WideNumber, divide_row, greatest, reduce_row};
+use crate::columns::{first_wide, live_places, make_own, place_of};
+use crate::row::{Lead, divide_row, fill, greatest, reduce_row};
 use crate::sparse::Program;
 
 /// A number that is not narrow, with its row and column, from 0.
@@ -43,7 +46,7 @@ fn turn_row(row: &mut [i64], c: usize)
 fn take_row(row: &mut [i64], c: usize, lead: &mut [i64], filled: &mut [u32]) -> usize
     requires long { length row.old ≡ length lead.old }
     requires inside { c < length row.old }
-    requires small { length row.old < 2 ^ 32 }
+    requires small { length row.old ≤ 2 ^ 32 }
     requires room { length filled.old ≡ length row.old }
     requires narrow { AreNarrowNumbers row.old }
     ensures same { lead.new ≡ row.new }
@@ -58,161 +61,225 @@ fn take_row(row: &mut [i64], c: usize, lead: &mut [i64], filled: &mut [u32]) -> 
     count
 }
 
-// Makes the row that begins at `start` the pivot row, as `take_row` does.
+// Moves the number at place `q` to the spare place, which is the last, and the row's own number, at place 0, to place `q`. The own place is left with 0.
+fn free_own(row: &mut [i64], q: usize)
+    requires inside { q + 1 < length row.old }
+    requires narrow { AreNarrowNumbers row.old }
+    ensures freed { IsOwnFreed q (length row.old - 1) (length row.old) (at row.old) (at row.new) }
+    ensures narrow { AreNarrowNumbers row.new }
+{
+    let spare = row.len() - 1;
+    row.swap(q, spare);
+    row.swap(q, 0);
+}
+
+// Makes the row that begins at `start` the pivot row, as `take_row` does. Its number at place `q` goes to the spare place, and its own number to place `q`.
 fn take_lead(
     numbers: &mut [i64],
     start: usize,
-    c: usize,
+    q: usize,
     lead: &mut [i64],
     filled: &mut [u32],
 ) -> usize
     requires inside { start + length lead.old ≤ length numbers.old }
-    requires column { c < length lead.old }
-    requires small { length lead.old < 2 ^ 32 }
+    requires place { q + 1 < length lead.old }
+    requires small { length lead.old ≤ 2 ^ 32 }
     requires room { length filled.old ≡ length lead.old }
     requires narrow { AreNarrowNumbers numbers.old }
     ensures same { (j : ℕ) → j < length lead.new → at lead.new j ≡ at numbers.new (start + j) }
-    ensures taken { IsLeadOf (λ j. at numbers.old (start + j)) (at lead.new) c (length lead.new) }
-    ensures narrow { AreNarrowNumbers lead.new }
+    ensures taken { IsRowLed (λ j. at numbers.old (start + j)) (at lead.new) q (length lead.new - 1) (length lead.new) }
     ensures support { IsSupport filled.new result (length lead.new) (at lead.new) (at lead.new) }
     ensures others { (k : ℕ) → (k < start) ⊎ (start + length lead.new ≤ k) → at numbers.new k ≡ at numbers.old k }
+    ensures narrow { AreNarrowNumbers numbers.new }
 {
     let end = start + lead.len();
     let row = &mut numbers[start..end];
-    take_row(row, c, lead, filled)
+    free_own(row, q);
+    take_row(row, lead.len() - 1, lead, filled)
 }
 
-// Clears the lead's column of the row that begins at `start`, as `reduce_row` does. The row's numbers are at most `top` in size.
+// Moves the number at slot `q`, if it is one, to the spare place. The slot is left with 0.
+fn free_slot(row: &mut [i64], q: usize)
+    requires inside { q + 1 < length row.old }
+    requires narrow { AreNarrowNumbers row.old }
+    ensures freed { IsSlotFreed q (length row.old - 1) (length row.old) (at row.old) (at row.new) }
+    ensures narrow { AreNarrowNumbers row.new }
+    ensures bound { (most : ℕ) → AllAtMost row.old most → AllAtMost row.new most }
+{
+    if q > 0 {
+        row.swap(q, row.len() - 1);
+    }
+}
+
+// Moves the number at slot `q` of the row that begins at `start` to the spare place, and clears it as `reduce_row` does.
 fn reduce_at(
     numbers: &mut [i64],
     start: usize,
+    q: usize,
     lead: &Lead<'_>,
     mixed: &mut [i128],
-    places: &[u32],
-    found: usize,
+    live: &[u32],
     top: u64,
-) -> Result<u64, WideNumber>
-    requires support { IsSupport places.now found (length lead.now.numbers.now) (λ j. at numbers.old (start + j)) (at lead.now.numbers.now) }
+) -> Result<u64, u128>
     requires inside { start + length lead.now.numbers.now ≤ length numbers.old }
+    requires spare { lead.now.column + 1 ≡ length lead.now.numbers.now }
+    requires place { q < lead.now.column }
+    requires live { IsLiveRow live.now q lead.now.column (length lead.now.numbers.now) (λ j. at numbers.old (start + j)) (at lead.now.numbers.now) }
     requires room { length mixed.old ≡ length lead.now.numbers.now }
     requires narrow { AreNarrowNumbers numbers.old }
     requires bound { IsAtMost (length lead.now.numbers.now) (λ j. at numbers.old (start + j)) top }
     ensures others { (k : ℕ) → (k < start) ⊎ (start + length lead.now.numbers.now ≤ k) → at numbers.new k ≡ at numbers.old k }
     ensures answer { MatchResult result
-        (λ most.
-        IsMixed (at lead.now.numbers.now) lead.now.column (length lead.now.numbers.now) (λ j. at numbers.old (start + j)) (λ j. at numbers.new (start + j))
+        (λ most. IsRowCleared (at lead.now.numbers.now) q lead.now.column (length lead.now.numbers.now)
+        (λ j. at numbers.old (start + j)) (λ j. at numbers.new (start + j))
         × AreNarrowNumbers numbers.new × IsAtMost (length lead.now.numbers.now) (λ j. at numbers.new (start + j)) most)
-        (λ w. IsReducedTo (at lead.now.numbers.now) lead.now.column (length lead.now.numbers.now) (λ j. at numbers.old (start + j)) w.column w.number) }
+        (λ by. (mid : ℕ → ℤ) × (IsSlotFreed q lead.now.column (length lead.now.numbers.now) (λ j. at numbers.old (start + j)) mid)
+        × IsWideReduced (at lead.now.numbers.now) lead.now.column (length lead.now.numbers.now) mid mixed.new by) }
 {
     let end = start + lead.numbers.len();
     let row = &mut numbers[start..end];
-    reduce_row(lead, row, mixed, places, found, top)
+    free_slot(row, q);
+    reduce_row(lead, row, mixed, live, live.len(), top)
 }
 
-// Clears the lead's column of every row but its own, at the first `found` places. The first place is for the row's own column. Returns the first number,
-// by row and column, that is not narrow. `tops` has a bound on each row's numbers.
+/// A row with a number that is not narrow: its numbers are the products over `by`.
+#[derive(Clone, Copy)]
+pub(crate) struct WideRow {
+    pub(crate) row: usize,
+    pub(crate) by: u128,
+}
+
+// Clears the number at slot `q` of every row but the lead's. Returns the first row that has a number that is not narrow. `tops` has a bound on each row's
+// numbers.
 fn clear_column(
     numbers: &mut [i64],
+    q: usize,
     lead: &Lead<'_>,
     mixed: &mut [i128],
-    places: &mut [u32],
-    found: usize,
-    owns: &[u32],
+    live: &[u32],
     tops: &mut [u64],
-) -> Option<WideCell>
-    requires live { let w = length lead.now.numbers.now in
-        IsLive places.old owns.now found (length owns.now) lead.now.row w (cell numbers.old w) (at lead.now.numbers.now) }
-    requires long { length numbers.old ≡ length owns.now * length lead.now.numbers.now }
+) -> Option<WideRow>
+    requires long { length numbers.old ≡ length tops.old * length lead.now.numbers.now }
+    requires spare { lead.now.column + 1 ≡ length lead.now.numbers.now }
+    requires place { q < lead.now.column }
+    requires live { let k = lead.now in let w = length k.numbers.now in
+        (i : ℕ) → i < length tops.old → i ≢ k.row → IsLiveRow live.now q k.column w (cell numbers.old w i) (at k.numbers.now) }
     requires room { length mixed.old ≡ length lead.now.numbers.now }
     requires narrow { AreNarrowNumbers numbers.old }
-    requires few_tops { length tops.old ≡ length owns.now }
     requires tops { let w = length lead.now.numbers.now in
-        (i : ℕ) → i < length owns.now → i ≢ lead.now.row → IsAtMost w (cell numbers.old w i) (slice_index tops.old i) }
+        (i : ℕ) → i < length tops.old → i ≢ lead.now.row → IsAtMost w (cell numbers.old w i) (slice_index tops.old i) }
     requires lead { let w = length lead.now.numbers.now in (j : ℕ) → j < w → cell numbers.old w lead.now.row j ≡ at lead.now.numbers.now j }
-    ensures cleared { let k = lead.now in let count = length owns.now in let w = length k.numbers.now in MatchOption result
-        (IsCleared numbers.old numbers.new count w k.row k.column (at k.numbers.now))
-        (λ x. IsClearedTo numbers.old count w k.row k.column (at k.numbers.now) x.row x.column x.number) }
-    ensures tops { IfNone result (AreTops (length owns.now) (length lead.now.numbers.now) numbers.new tops.new) }
+    ensures cleared { let k = lead.now in let w = length k.numbers.now in MatchOption result
+        (AreRowsCleared numbers.old numbers.new (length tops.old) w k.row q k.column (at k.numbers.now))
+        (λ x. AreRowsClearedTo numbers.old mixed.new (length tops.old) w k.row q k.column (at k.numbers.now) x.row x.by) }
+    ensures tops { IfNone result (AreTops (length tops.old) (length lead.now.numbers.now) numbers.new tops.new) }
 {
     let width = lead.numbers.len();
-    for i in 0..owns.len() {
+    for i in 0..tops.len() {
         if i == lead.row {
             tops[i] = lead.most;
             continue;
         }
-        places[0] = owns[i];
-        match reduce_at(numbers, i * width, lead, mixed, places, found, tops[i]) {
+        match reduce_at(numbers, i * width, q, lead, mixed, live, tops[i]) {
             Ok(top) => tops[i] = top,
-            Err(wide) => {
-                return Some(WideCell {
-                    row: i,
-                    column: wide.column,
-                    number: wide.number,
-                });
-            }
+            Err(by) => return Some(WideRow { row: i, by }),
         }
     }
     None
 }
 
-/// A positive multiple of each row of a step, with room for a pivot: the pivot row, one row's products and the columns to look at.
+/// Room for a pivot: the pivot row, one row's products and the places where the pivot row is not 0.
 #[derive(Drop)]
-pub(crate) struct Table {
-    pub(crate) numbers: Vec<i64>,
+pub(crate) struct Room {
     pub(crate) lead: Vec<i64>,
     pub(crate) mixed: Vec<i128>,
+    pub(crate) filled: Vec<u32>,
+}
+
+// Makes the pivot on row `r` and place `q`. The row's number there becomes its own. Returns the first row that has a number that is not narrow.
+fn clear(
+    numbers: &mut [i64],
+    tops: &mut [u64],
+    room: &mut Room,
+    live: &[u32],
+    r: usize,
+    q: usize,
+) -> Option<WideRow>
+    requires room { HasRoom (vec_len room.old.lead) room.old }
+    requires small { vec_len room.old.lead ≤ 2 ^ 32 }
+    requires long { length numbers.old ≡ length tops.old * vec_len room.old.lead }
+    requires row { r < length tops.old }
+    requires place { q + 1 < vec_len room.old.lead }
+    requires narrow { AreNarrowNumbers numbers.old }
+    requires tops { AreTops (length tops.old) (vec_len room.old.lead) numbers.old tops.old }
+    requires nonzero { cell numbers.old (vec_len room.old.lead) r q ≢ pos 0 }
+    requires live { IsLive live.now numbers.old (length tops.old) (vec_len room.old.lead) r q }
+    ensures room { HasRoom (vec_len room.old.lead) room.new }
+    ensures pivoted { let w = vec_len room.old.lead in MatchOption result
+        (IsPivotDone numbers.old numbers.new (length tops.old) w r q)
+        (λ x. IsPivotWide numbers.old room.new.mixed.items (length tops.old) w r q x.row x.by) }
+    ensures tops { IfNone result (AreTops (length tops.old) (vec_len room.old.lead) numbers.new tops.new) }
+{
+    let start = r * room.lead.len();
+    let count = take_lead(numbers, start, q, &mut room.lead, &mut room.filled);
+    let pivot: &[i64] = &room.lead;
+    let filled: &[u32] = &room.filled;
+    let lead = Lead {
+        row: r,
+        numbers: pivot,
+        most: greatest(pivot, filled, count),
+        column: pivot.len() - 1,
+        filled,
+        count,
+    };
+    let wide = clear_column(numbers, q, &lead, &mut room.mixed, live, tops);
+    numbers.swap(start, start + pivot.len() - 1);
+    wide
+}
+
+/// A positive multiple of each row of a step, with room for a pivot.
+#[derive(Drop)]
+pub(crate) struct Table {
+    /// For each row its own number, a number for each slot, and a spare place, which is 0 between pivots.
+    pub(crate) numbers: Vec<i64>,
+    /// For each column, and for the right side and the multiple, where it stands, as [`place_of`] has it.
+    pub(crate) stands: Vec<u32>,
     /// For each row a bound on the size of its numbers.
     pub(crate) tops: Vec<u64>,
-    pub(crate) live: Live,
+    pub(crate) room: Room,
+    /// The places that have columns in a pivot.
+    pub(crate) live: Vec<u32>,
 }
 
 impl Table {
-    ghost use Rattle.gs_simplex.specs.State.{HasRoom};
+    ghost use Rattle.gs_simplex.specs.Table.{grid_of, IsTable, IsHeld, IsTableAfter, IsWideAfter};
 
-    // Makes the pivot that lists row `r` with column `c` after the list `basis`. Returns the first number, by row and column, that is not narrow after it.
-    pub(crate) fn list(
-        &mut self,
-        p: &Program,
-        basis: &[(u32, u32)],
-        r: usize,
-        c: usize,
-    ) -> Option<WideCell>
-        requires small_rows { p.now.rows < 2 ^ 31 }
-        requires small_cols { p.now.cols < 2 ^ 31 }
-        requires room { HasRoom p.now self.old }
-        requires table { IsTable p.now self.old.numbers.items }
-        requires pairs { IsPairList p.now basis.now }
-        requires rows { IsTableOf p.now basis.now self.old.numbers.items }
-        requires tops { HasTops p.now self.old.numbers.items self.old.tops.items }
+    // Makes the pivot that lists row `r` with column `c`. Returns the first number, by row and column, that is not narrow after it.
+    pub(crate) fn list(&mut self, p: &Program, r: usize, c: usize) -> Option<WideCell>
+        requires laid { IsHeld p.now self.old }
+        requires table { IsTable p.now (grid_of p.now self.old) }
         requires row { r < p.now.rows }
         requires column { c < p.now.cols }
-        requires nonzero { table_rows p.now self.old.numbers.items r c ≢ pos 0 }
-        ensures room { HasRoom p.now self.new }
-        ensures listed { MatchOption result (IsTableAfter p.now self.old.numbers.items self.new.numbers.items r c)
-            (λ w. IsWideAfter p.now self.old.numbers.items r c w.row w.column w.number) }
-        ensures tops { IfNone result (HasTops p.now self.new.numbers.items self.new.tops.items) }
+        requires nonzero { grid_of p.now self.old r c ≢ pos 0 }
+        ensures laid { IfNone result (IsHeld p.now self.new) }
+        ensures listed { MatchOption result (IsTableAfter p.now (grid_of p.now self.old) (grid_of p.now self.new) r c)
+            (λ w. IsWideAfter p.now (grid_of p.now self.old) r c w.row w.column w.number) }
     {
-        let width = p.cols as usize + 2;
-        let found = self.live.find(p, basis, r);
-        let filled: &mut [u32] = &mut self.live.filled;
-        let count = take_lead(&mut self.numbers, r * width, c, &mut self.lead, filled);
-        let numbers: &[i64] = &self.lead;
-        let lead = Lead {
-            row: r,
-            numbers,
-            most: greatest(numbers, filled, count),
-            column: c,
-            filled,
-            count,
-        };
-        clear_column(
+        let rows = p.rows as usize;
+        let q = place_of(rows, self.room.lead.len(), self.stands[c], r);
+        make_own(&mut self.stands, r, c);
+        let found = live_places(rows, self.room.lead.len(), &self.stands, &mut self.live);
+        let live: &[u32] = &self.live[..found];
+        match clear(
             &mut self.numbers,
-            &lead,
-            &mut self.mixed,
-            &mut self.live.places,
-            found,
-            &self.live.owns,
             &mut self.tops,
-        )
+            &mut self.room,
+            live,
+            r,
+            q,
+        ) {
+            None => None,
+            Some(wide) => Some(first_wide(rows, &self.stands, &self.room.mixed, wide.row, wide.by)),
+        }
     }
 }

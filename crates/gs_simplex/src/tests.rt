@@ -1,6 +1,6 @@
 ghost use Rattle.std.specs.Prelude.{◌≡◌, ℕ, ◌+◌, ◌-◌, ◌*◌, ◌<◌, ◌≤◌, ◌^◌, IsTrue, IfOk, [], length, map, take, slice_index_or};
 ghost use Rattle.std.specs.Vec.{vec_items};
-ghost use Rattle.gs_simplex.specs.{Program.{IsShaped, IsOpening, IsPairList, IsFree}, Numbers.{AreNarrowNumbers}, Table.{table_rows, IsTable, IsTableOf}};
+ghost use Rattle.gs_simplex.specs.{Program.{IsShaped, IsOpening, IsPairList, IsFree}, Numbers.{AreNarrowNumbers}, Table.{grid_of, IsHeld, IsTableOf}};
 ghost use Rattle.gs_simplex.specs.{State.{IsStart}, Answer.{IsSmallTable}, Conditions.{IsWideRow, IsNewPair, CanTakeAt, IsTaken, HasFeasibleSides}};
 
 use super::*;
@@ -67,11 +67,11 @@ fn in_range(p: &sparse::Program, pair: (u32, u32)) -> bool
     0 < pair.0 && pair.0 <= p.rows && 0 < pair.1 && pair.1 <= p.cols
 }
 
-fn can_take(p: &sparse::Program, numbers: &[i64], opening: &[(u32, u32)], step: usize) -> bool
+fn can_take(p: &sparse::Program, table: &Table, opening: &[(u32, u32)], step: usize) -> bool
     requires inside { step < length opening.now }
-    requires table { IsTable p.now numbers.now }
-    requires rows { IsTableOf p.now (take step opening.now) numbers.now }
-    ensures { IsTrue result → CanTakeAt p.now (table_rows p.now numbers.now) opening.now step }
+    requires table { IsHeld p.now table.now }
+    requires rows { IsTableOf p.now (take step opening.now) (grid_of p.now table.now) }
+    ensures { IsTrue result → CanTakeAt p.now (grid_of p.now table.now) opening.now step }
 {
     let (row, column) = opening[step];
     if !in_range(p, (row, column)) {
@@ -80,7 +80,7 @@ fn can_take(p: &sparse::Program, numbers: &[i64], opening: &[(u32, u32)], step: 
     if !is_new(opening, step) {
         return false;
     }
-    if number_at(p, numbers, row as usize - 1, column as usize - 1) == 0 {
+    if number_at(p, table, row as usize - 1, column as usize - 1) == 0 {
         return false;
     }
     true
@@ -90,14 +90,14 @@ fn take_all(p: &sparse::Program, opening: &[(u32, u32)], table: &mut Table) -> b
     requires small_rows { p.now.rows < 2 ^ 31 }
     requires small_cols { p.now.cols < 2 ^ 31 }
     requires start { IsStart p.now table.old }
-    ensures { IsTrue result → IsTaken p.now opening.now (length opening.now) table.new.numbers.items }
+    ensures { IsTrue result → IsTaken p.now opening.now (length opening.now) (grid_of p.now table.new) × IsHeld p.now table.new }
 {
     for step in 0..opening.len() {
-        if !can_take(p, &table.numbers, opening, step) {
+        if !can_take(p, table, opening, step) {
             return false;
         }
         let (row, column) = opening[step];
-        if let Some(_) = table.list(p, &opening[..step], row as usize - 1, column as usize - 1) {
+        if let Some(_) = table.list(p, row as usize - 1, column as usize - 1) {
             return false;
         }
     }
@@ -154,15 +154,15 @@ fn names_free_columns(p: &sparse::Program, opening: &[(u32, u32)]) -> bool
     true
 }
 
-fn has_feasible_sides(p: &sparse::Program, numbers: &[i64], opening: &[(u32, u32)]) -> bool
+fn has_feasible_sides(p: &sparse::Program, table: &Table, opening: &[(u32, u32)]) -> bool
     requires shaped { IsShaped p.now }
-    requires table { IsTable p.now numbers.now }
+    requires table { IsHeld p.now table.now }
     requires pairs { IsPairList p.now opening.now }
-    ensures { IsTrue result → HasFeasibleSides p.now opening.now (table_rows p.now numbers.now) }
+    ensures { IsTrue result → HasFeasibleSides p.now opening.now (grid_of p.now table.now) }
 {
     for place in 0..opening.len() {
         let (row, column) = pair_at(p, opening, place);
-        if !is_free(p, column) && number_at(p, numbers, row, p.cols as usize) < 0 {
+        if !is_free(p, column) && number_at(p, table, row, p.cols as usize) < 0 {
             return false;
         }
     }
@@ -190,7 +190,7 @@ fn opens(alloc: Global, p: &sparse::Program, opening: &[(u32, u32)]) -> Result<b
     if !names_free_columns(p, opening) {
         return Ok(false);
     }
-    if !has_feasible_sides(p, &table.numbers, opening) {
+    if !has_feasible_sides(p, &table, opening) {
         return Ok(false);
     }
     Ok(true)

@@ -1,7 +1,7 @@
 //! The pivots of a path, its bases, and the aim's value.
 
 ghost use Rattle.std.specs.Prelude.{MatchResult, IfOk, OnOk, ◌≡◌, ℕ, ◌+◌, ◌<◌, ◌^◌, [], ◌∷◌, ◌++◌, ℤ, pos, ◌<ℤ◌, length, slice_index_or, slice_set};
-ghost use Rattle.gs_simplex.specs.{Program.{IsPairList, IsOpening}, Table.{table_aim, IsTable}, State.{IsEnd}, Answer.{IsStop}, Values.{IsRowIndex}};
+ghost use Rattle.gs_simplex.specs.{Program.{IsPairList, IsOpening}, Table.{grid_of, table_aim, IsHeld}, State.{IsEnd}, Answer.{IsStop}, Values.{IsRowIndex}};
 ghost use Rattle.gs_simplex.specs.Trace.{IsAimValue, IsBasis, IsReachedBy, AreTurns, AreBases, CanFollow};
 
 use crate::answer::{Stop, Turn};
@@ -14,13 +14,13 @@ use gs_frac::Fraction;
 use std::alloc::{AllocError, Global};
 
 // Returns the aim's value when the unlisted columns are 0.
-pub(crate) fn aim_value(p: &Program, numbers: &[i64]) -> Fraction
-    requires table { IsTable p.now numbers.now }
-    requires multiple { pos 0 <ℤ table_aim p.now numbers.now (p.now.cols + 1) }
-    ensures { IsAimValue p.now (table_aim p.now numbers.now) result }
+pub(crate) fn aim_value(p: &Program, table: &Table) -> Fraction
+    requires table { IsHeld p.now table.now }
+    requires multiple { pos 0 <ℤ table_aim p.now (grid_of p.now table.now) (p.now.cols + 1) }
+    ensures { IsAimValue p.now (table_aim p.now (grid_of p.now table.now)) result }
 {
-    let last = number_at(p, numbers, p.rows as usize, p.cols as usize);
-    let multiple = number_at(p, numbers, p.rows as usize, p.cols as usize + 1);
+    let last = number_at(p, table, p.rows as usize, p.cols as usize);
+    let multiple = number_at(p, table, p.rows as usize, p.cols as usize + 1);
     Fraction::new(-i128::from(last), i128::from(multiple))
 }
 

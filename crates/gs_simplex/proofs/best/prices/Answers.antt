@@ -1,7 +1,7 @@
 use Rattle.std.proofs.Common.{◌≡◌, ℕ, ◌+◌, ◌<◌, List, [], ◌∷◌, ◌++◌, length, slice_index_or, neg_ℤ, ◌*ℤ◌, sym, ap, subst, ◌∙◌, arith, below_more}
 use Rattle.std.proofs.lemmas.List.{get_or_append_left, get_or_push, length_push}
 use Rattle.gs_frac.specs.declared.value.Fraction.{Fraction}
-use Rattle.gs_simplex.specs.Table.{table_aim}
+use Rattle.gs_simplex.specs.Table.{grid_of, table_aim}
 use Rattle.gs_simplex.proofs.best.prices.Goals as goal
 
 -- what holds of each item, and of one more
@@ -14,9 +14,9 @@ pushed_all {X} P xs ys x n is long u here = below_more (λ k. (d : X) → P k (s
 
 pub loop-j-preserved : goal.loop-j-preserved
 loop-j-preserved c =
-    let p = c.args.p.now in let xs = c.args.numbers.now in let v = c.loop-j.invariant in
+    let p = c.args.p.now in let grid = grid_of p c.args.table.now in let v = c.loop-j.invariant in
     record {
       long = ap length c.in_ok-push.ensures.items ∙ length_push c.loop-j.price.items c.price_at.result ∙ ap (λ t. t + 1) v.long;
-      done = pushed_all (λ k (f : Fraction). f.num *ℤ table_aim p xs (p.cols + 1) ≡ neg_ℤ (table_aim p xs k) *ℤ f.den) c.loop-j.price.items
+      done = pushed_all (λ k (f : Fraction). f.num *ℤ table_aim p grid (p.cols + 1) ≡ neg_ℤ (table_aim p grid k) *ℤ f.den) c.loop-j.price.items
           c.push.new.self.items c.price_at.result c.loop-j.j c.in_ok-push.ensures.items v.long v.done c.price_at.ensures;
     }

@@ -1,7 +1,7 @@
 use Rattle.std.proofs.Common.{◌≡◌, ℕ, ◌+◌, ◌-◌, ◌*ℤ◌, to_z, of_z, sym, ap, subst, ◌∙◌, arith}
 use Rattle.std.proofs.lemmas.Grind.{common_steps}
 use mir.Syntax.{w128}
-use Rattle.gs_simplex.specs.Numbers.{cell}
+use Rattle.gs_simplex.specs.Table.{grid_of}
 use Rattle.gs_simplex.proofs.Fits.{widened}
 use Rattle.gs_simplex.proofs.best.value_at.Goals as goal
 
@@ -12,13 +12,13 @@ number_at-side-requires-clause-row c =
 
 pub returns : goal.returns
 returns c =
-    let p = c.args.p.now in let xs = c.args.numbers.now in let n = p.cols in let f = c.new-2.result in let i = c.args.row - 1 in
-    let own : to_z w128 (of_z w128 c.from-2.result) ≡ cell xs (n + 2) i c.args.j = widened c.number_at-own.result c.from-2.result c.number_at-own.ensures.narrow
+    let p = c.args.p.now in let grid = grid_of p c.args.table.now in let n = p.cols in let f = c.new-2.result in let i = c.args.row - 1 in
+    let own : to_z w128 (of_z w128 c.from-2.result) ≡ grid i c.args.j = widened c.number_at-own.result c.from-2.result c.number_at-own.ensures.narrow
     c.from-2.ensures ∙ c.number_at-own.ensures.value in
-    let side : to_z w128 (of_z w128 c.from.result) ≡ cell xs (n + 2) i n = widened c.number_at-side.result c.from.result c.number_at-side.ensures.narrow
+    let side : to_z w128 (of_z w128 c.from.result) ≡ grid i n = widened c.number_at-side.result c.from.result c.number_at-side.ensures.narrow
     c.from.ensures ∙ c.number_at-side.ensures.value in
     record {
-      listed = λ k e. (let s : i ≡ k = omega arith in let P : ℕ → Type 0 = λ t. f.num *ℤ cell xs (n + 2) t c.args.j ≡ cell xs (n + 2) t n *ℤ f.den in
+      listed = λ k e. (let s : i ≡ k = omega arith in let P : ℕ → Type 0 = λ t. f.num *ℤ grid t c.args.j ≡ grid t n *ℤ f.den in
           subst P s (ap (λ t. f.num *ℤ t) (sym own) ∙ c.new-2.ensures ∙ ap (λ t. t *ℤ f.den) side));
       unlisted = λ e. absurd (c.if-row-eq0.false e);
     }

@@ -7,6 +7,3 @@ loop-j-preserved c = grind (arith, common_steps)
 
 pub returns : goal.returns
 returns c = grind (arith, common_steps)
-
-pub returns-then-number-gt0 : goal.returns-then-number-gt0
-returns-then-number-gt0 c = grind (arith, common_steps)

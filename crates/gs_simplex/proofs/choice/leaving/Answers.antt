@@ -1,17 +1,17 @@
 use Rattle.std.proofs.Common.{◌≡◌, ℕ, Option, Some, None, length, sym, subst, arith}
-use Rattle.gs_simplex.specs.{declared.choice.Ratio.{Ratio}, Table.{table_rows}, Choice.{IsLeaving}}
+use Rattle.gs_simplex.specs.{declared.choice.Ratio.{Ratio}, Table.{grid_of}, Choice.{IsLeaving}}
 use Rattle.gs_simplex.proofs.Choosing.{IsLeastSoFar, one_more, none_leaves_from, leaves_from}
 use Rattle.gs_simplex.proofs.choice.leaving.Goals as goal
 
 pub loop-place-preserved : goal.loop-place-preserved
 loop-place-preserved c =
-    one_more c.args.p.now c.args.basis.now (table_rows c.args.p.now c.args.numbers.now) c.args.e c.loop-place.place c.loop-place.best c.ratio_at.result
+    one_more c.args.p.now c.args.basis.now (grid_of c.args.p.now c.args.table.now) c.args.e c.loop-place.place c.loop-place.best c.ratio_at.result
     c.better-best.result c.loop-place.invariant c.ratio_at.ensures
     c.better-best.ensures
 
 pub returns-in_err-best : goal.returns-in_err-best
 returns-in_err-best c =
-    let p = c.args.p.now in let l = c.args.basis.now in let rows = table_rows p c.args.numbers.now in
+    let p = c.args.p.now in let l = c.args.basis.now in let rows = grid_of p c.args.table.now in
     let all : c.loop-place.place ≡ length l = omega arith in
     let P : Option Ratio → Type 0 = λ x. IsLeastSoFar p l rows c.args.e c.loop-place.place x in
     let Q : ℕ → Type 0 = λ k. IsLeastSoFar p l rows c.args.e k None in
@@ -20,7 +20,7 @@ returns-in_err-best c =
 
 pub returns : goal.returns
 returns c =
-    let p = c.args.p.now in let l = c.args.basis.now in let rows = table_rows p c.args.numbers.now in
+    let p = c.args.p.now in let l = c.args.basis.now in let rows = grid_of p c.args.table.now in
     let all : c.loop-place.place ≡ length l = omega arith in
     let P : Option Ratio → Type 0 = λ x. IsLeastSoFar p l rows c.args.e c.loop-place.place x in
     let Q : ℕ → Type 0 = λ k. IsLeastSoFar p l rows c.args.e k (Some c.in_ok-best.field-0) in

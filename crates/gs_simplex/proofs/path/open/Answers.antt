@@ -1,34 +1,21 @@
 use Rattle.std.proofs.Common.{◌+◌, sym, subst, arith}
 use Rattle.std.proofs.lemmas.Grind.{elements}
-use Rattle.gs_simplex.specs.{declared.answer.Stop.{Stop}, Table.{HasTops, IsTableAfter, IsWideAfter}, Answer.{IsStop}}
-use Rattle.gs_simplex.proofs.Paths.{rows_of_so_far, so_far_start, none_of, if_none, open_nonzero, open_wide, open_pairs, open_next, opening_pairs, empty_pairs}
+use Rattle.gs_simplex.specs.{declared.answer.Stop.{Stop}, Table.{grid_of, IsHeld, IsTableAfter, IsWideAfter}, Answer.{IsStop}}
+use Rattle.gs_simplex.proofs.Paths.{so_far_start, none_of, if_none, open_nonzero, open_wide, open_pairs, open_next, opening_pairs, empty_pairs}
 use Rattle.gs_simplex.proofs.path.open.Goals as goal
 
 pub loop-step-init : goal.loop-step-init
 loop-step-init c =
     let s = c.requires.start in let p = c.args.p.now in
     record {
-      room = s.room;
+      laid = s.laid;
       table = s.table;
-      tops = s.tops;
       pairs = empty_pairs p;
-      so_far = so_far_start p c.args.opening.now
-          c.args.table.now.numbers.items s.rows;
+      so_far = so_far_start p c.args.opening.now (grid_of p c.args.table.now) s.rows;
     }
 
 pub pair_at-row-requires-clause-pairs : goal.pair_at-row-requires-clause-pairs
 pair_at-row-requires-clause-pairs c = opening_pairs c.requires.opens
-
-pub list-requires-clause-pairs : goal.list-requires-clause-pairs
-list-requires-clause-pairs c =
-    let v = c.loop-step.invariant in let t = c.loop-step.step in
-    open_pairs c.pair_at-row.result.0 c.pair_at-row.result.1 c.requires.opens c.loop-step-test.true c.pair_at-row.ensures.pair v.table v.so_far t
-    (omega (arith, c.loop-step-test.true))
-
-pub list-requires-clause-rows : goal.list-requires-clause-rows
-list-requires-clause-rows c =
-    let p = c.args.p.now in let o = c.args.opening.now in let t = c.loop-step.step in let xs = c.loop-step.table.numbers.items in
-    rows_of_so_far c.loop-step.invariant.so_far
 
 pub list-requires-clause-nonzero : goal.list-requires-clause-nonzero
 list-requires-clause-nonzero c =
@@ -49,13 +36,13 @@ returns-in-Some c = λ limit.
 pub loop-step-preserved : goal.loop-step-preserved
 loop-step-preserved c =
     let p = c.args.p.now in let o = c.args.opening.now in let t = c.loop-step.step in let v = c.loop-step.invariant in
-    let r = c.pair_at-row.result.0 in let k = c.pair_at-row.result.1 in let xs = c.loop-step.table.numbers.items in let new = c.list.new.self.numbers.items in
-    let a : IsTableAfter p xs new r k = none_of c.list.result (IsTableAfter p xs new r k) (λ w. IsWideAfter p xs r k w.row w.column w.number) c.in_default.is
+    let r = c.pair_at-row.result.0 in let k = c.pair_at-row.result.1 in let grid = grid_of p c.loop-step.table in let new = grid_of p c.list.new.self in
+    let a : IsTableAfter p grid new r k = none_of c.list.result (IsTableAfter p grid new r k) (λ w. IsWideAfter p grid r k w.row w.column w.number)
+    c.in_default.is
     c.list.ensures.listed in
     record {
-      room = c.list.ensures.room;
+      laid = if_none c.list.result (IsHeld p c.list.new.self) c.in_default.is c.list.ensures.laid;
       table = a.table;
-      tops = if_none c.list.result (HasTops p new c.list.new.self.tops.items) c.in_default.is c.list.ensures.tops;
       pairs = open_pairs r k c.requires.opens c.loop-step-test.true c.pair_at-row.ensures.pair v.table v.so_far (t + 1) (omega (arith, c.loop-step-test.true));
       so_far = open_next r k c.requires.opens c.loop-step-test.true c.pair_at-row.ensures.pair v.table v.so_far new a;
     }

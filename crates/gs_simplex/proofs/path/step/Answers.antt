@@ -1,43 +1,27 @@
-use Rattle.std.proofs.Common.{◌≡◌, ℕ, ◌+◌, ℤ, List, length, Some, sym, subst, arith}
-use Rattle.gs_simplex.specs.{Path.{Enters, NoneLeaves, PathStops, wide}, declared.answer.Stop.{Stop}, Table.{table_rows, table_aim, IsTableOf, HasTops, stated}}
-use Rattle.gs_simplex.specs.{Choice.{IsLeaving}, State.{IsSoFar, IsPivoted, IsWidePivot}, Answer.{IsStop}}
+use Rattle.std.proofs.Common.{◌≡◌, ℕ, ◌+◌, length, sym, subst, arith}
+use Rattle.gs_simplex.specs.{Path.{PathStops, wide}, declared.answer.Stop.{Stop}, Table.{grid_of, IsHeld, stated}}
+use Rattle.gs_simplex.specs.{State.{IsSoFar, IsPivoted, IsWidePivot}, Answer.{IsStop}}
 use Rattle.gs_simplex.proofs.Paths.{rows_of_so_far, turn_at, none_of, if_none, pivots_stops, unbounded_stops, pivot_next, pivot_wide}
 use Rattle.gs_simplex.proofs.path.step.Goals as goal
 
 pub choose-requires-clause-rows : goal.choose-requires-clause-rows
-choose-requires-clause-rows c =
-    let p = c.args.p.now in let o = c.args.opening.now in let l = c.args.basis.now in
-    let P : List ℤ → Type 0 = λ x. IsTableOf p l x in
-    subst P (sym c.deref.ensures.value) (rows_of_so_far c.requires.state.so_far)
+choose-requires-clause-rows c = rows_of_so_far c.requires.state.so_far
 
 pub returns-in-Unbounded : goal.returns-in-Unbounded
 returns-in-Unbounded c =
-    let p = c.args.p.now in let o = c.args.opening.now in let l = c.args.basis.now in let e = c.in-Unbounded.column in let v = c.requires.state in
-    let P : List ℤ → Type 0 = λ x. (Enters p l (table_aim p x) e) × NoneLeaves p l (table_rows p x) e in
-    let w = subst P c.deref.ensures.value c.in-Unbounded.ensures in
+    let v = c.requires.state in let w = c.in-Unbounded.ensures in
     (c.requires.small, unbounded_stops c.args.made v.pairs v.so_far v.table c.requires.within w.0 w.1)
 
 pub returns-then-made-limit : goal.returns-then-made-limit
 returns-then-made-limit c =
-    let p = c.args.p.now in let o = c.args.opening.now in let l = c.args.basis.now in let e = c.in-Leaves.column in let v = c.requires.state in let xs =
-    c.args.table.now.numbers.items in
-    let P : List ℤ → Type 0 = λ x. (Enters p l (table_aim p x) e) × IsLeaving p l (table_rows p x) e (Some c.in-Leaves.place) in
-    let w = subst P c.deref.ensures.value c.in-Leaves.ensures in
-    let T : ℕ → Type 0 = λ k. IsSoFar p o (length o + k) l xs in
+    let p = c.args.p.now in let o = c.args.opening.now in let v = c.requires.state in let w = c.in-Leaves.ensures in
+    let T : ℕ → Type 0 = λ k. IsSoFar p o (length o + k) c.args.basis.now (grid_of p c.args.table.now) in
     (c.requires.small, pivots_stops v.pairs (subst T c.if-made-limit.true v.so_far) v.table w.0 w.1.4)
-
-pub pivot-requires-clause-rows : goal.pivot-requires-clause-rows
-pivot-requires-clause-rows c =
-    let p = c.args.p.now in let o = c.args.opening.now in let l = c.args.basis.now in let xs = c.args.table.now.numbers.items in
-    rows_of_so_far c.requires.state.so_far
 
 pub returns-in-Some : goal.returns-in-Some
 returns-in-Some c =
-    let p = c.args.p.now in let o = c.args.opening.now in let l = c.args.basis.now in let e = c.in-Leaves.column in let v = c.requires.state in let xs =
-    c.args.table.now.numbers.items in
-    let w = c.in-Some.cell in let t = length o + c.args.made in
-    let P : List ℤ → Type 0 = λ x. (Enters p l (table_aim p x) e) × IsLeaving p l (table_rows p x) e (Some c.in-Leaves.place) in
-    let f = subst P c.deref.ensures.value c.in-Leaves.ensures in
+    let p = c.args.p.now in let o = c.args.opening.now in let v = c.requires.state in
+    let w = c.in-Some.cell in let t = length o + c.args.made in let f = c.in-Leaves.ensures in
     let a : PathStops p o c.args.limit (wide (t + 1) (w.row + 1) (w.column + 1) (stated p w.row w.column w.number)) =
     pivot_wide c.in-Leaves.place (omega arith) v.pairs v.table v.so_far f.0 f.1 w.row w.column w.number c.in-Some.ensures.pivoted c.args.limit
     (omega (arith, c.requires.within, c.if-made-limit.false)) in
@@ -48,22 +32,18 @@ returns-in-Some c =
 
 pub returns-in_default : goal.returns-in_default
 returns-in_default c =
-    let p = c.args.p.now in let o = c.args.opening.now in let l = c.args.basis.now in let e = c.in-Leaves.column in let v = c.requires.state in let xs =
-    c.args.table.now.numbers.items in
-    let t = length o + c.args.made in let next = c.pivot.new.basis in let new = c.pivot.new.table.numbers.items in let q = c.in-Leaves.place in
-    let P : List ℤ → Type 0 = λ x. (Enters p l (table_aim p x) e) × IsLeaving p l (table_rows p x) e (Some q) in
-    let f = subst P c.deref.ensures.value c.in-Leaves.ensures in
-    let w : IsPivoted p l next xs new q e = none_of c.pivot.result (IsPivoted p l next xs new q e) (λ x. IsWidePivot p l xs q e x.row x.column x.number)
-    c.in_default.is c.pivot.ensures.pivoted in
+    let p = c.args.p.now in let o = c.args.opening.now in let l = c.args.basis.now in let e = c.in-Leaves.column in let v = c.requires.state in
+    let grid = grid_of p c.args.table.now in let t = length o + c.args.made in let next = c.pivot.new.basis in let q = c.in-Leaves.place in
+    let new = grid_of p c.pivot.new.table in let f = c.in-Leaves.ensures in
+    let w : IsPivoted p l next grid new q e = none_of c.pivot.result (IsPivoted p l next grid new q e)
+    (λ x. IsWidePivot p l grid q e x.row x.column x.number) c.in_default.is c.pivot.ensures.pivoted in
     let n = pivot_next q (omega arith) v.pairs v.table v.so_far f.0 f.1 next new w in
     let s : t + 1 ≡ length o + (c.args.made + 1) = omega arith in
     let T : ℕ → Type 0 = λ k. IsSoFar p o k next new in
     record {
       state = record {
-        room = c.pivot.ensures.room;
+        laid = if_none c.pivot.result (IsHeld p c.pivot.new.table) c.in_default.is c.pivot.ensures.laid;
         table = n.0;
-        tops = if_none c.pivot.result (HasTops p new c.pivot.new.table.tops.items) c.in_default.is
-            c.pivot.ensures.tops;
         pairs = n.1;
         so_far = subst T s n.2;
       };

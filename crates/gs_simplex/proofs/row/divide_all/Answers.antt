@@ -2,7 +2,7 @@ use Rattle.std.proofs.Common.{◌≡◌, ℕ, ◌<◌, ◌^◌, length, slice_in
 use Rattle.std.proofs.lemmas.Grind.{common_steps}
 use Prim.Native.Nat.{◌∣◌}
 use Rattle.gs_simplex.specs.Numbers.{at}
-use Rattle.gs_simplex.proofs.{Ring.{times_zero}, Fits.{kept_64}, Lives.{columns_of, still_old, left_more, done_more, all_written}}
+use Rattle.gs_simplex.proofs.{Ring.{times_zero}, Fits.{kept_64}, Supports.{columns_of, still_old, left_more, done_more, all_written}}
 use Rattle.gs_simplex.proofs.row.divide_all.Goals as goal
 
 pub guessed_quotient-requires-clause-divides : goal.guessed_quotient-requires-clause-divides

@@ -1,6 +1,6 @@
 use Rattle.std.proofs.Common.{◌≤◌, ℤ, length, unsigned_abs, arith}
 use Rattle.gs_simplex.specs.Numbers.{at}
-use Rattle.gs_simplex.proofs.Lives.{everywhere}
+use Rattle.gs_simplex.proofs.Supports.{everywhere}
 use Rattle.gs_simplex.proofs.row.greatest.Goals as goal
 
 pub returns : goal.returns

@@ -2,8 +2,8 @@ use Rattle.std.proofs.Common.{◌≡◌, arith, ◌+◌, ◌<◌, ◌-◌, ◌^�
 use Rattle.std.proofs.lemmas.Grind.{common_steps}
 use Rattle.std.proofs.{lemmas.Int.{to_z_pos}, lemmas.Nat.Gcd.{dvd-zero}}
 use Prim.Native.Nat.{◌∣◌}
-use Rattle.gs_simplex.specs.{Live.{IsSupport}, Numbers.{at, IsDivisor}}
-use Rattle.gs_simplex.proofs.{Reduce.{nothing_common, one_more, one_of_all, one_zero}, Fits.{kept_64}, Lives.{everywhere}}
+use Rattle.gs_simplex.specs.{Support.{IsSupport}, Numbers.{at, IsDivisor}}
+use Rattle.gs_simplex.proofs.{Reduce.{nothing_common, one_more, one_of_all, one_zero}, Fits.{kept_64}, Supports.{everywhere}}
 use Rattle.gs_simplex.proofs.row.narrow_divisor.Goals.{After-narrow_common_divisor-common, In-loop-k}
 use Rattle.gs_simplex.proofs.row.narrow_divisor.Goals as goal
 

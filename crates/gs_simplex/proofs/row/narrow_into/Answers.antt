@@ -2,7 +2,7 @@ use Rattle.std.proofs.Common.{arith, ◌+◌, ◌≡◌, ◌<◌, ◌≤◌, ◌
 use Rattle.std.proofs.Common.{get_or-set_other, get_or-set_same, below_more}
 use mir.Syntax.{w128}
 use Prim.Native.Nat.{◌∣◌}
-use Rattle.gs_simplex.specs.Numbers.{at, IsQuotient, IsWideQuotient}
+use Rattle.gs_simplex.specs.Numbers.{at, IsQuotient, HasWideQuotient}
 use Rattle.gs_simplex.proofs.Fits.{kept_128, stored}
 use Rattle.gs_simplex.proofs.row.narrow_into.Goals as goal
 
@@ -18,14 +18,10 @@ quotient_at : (by : ℕ) (mixed : List ℤ) (j : ℕ) (z : ℤ) → unsigned_abs
     → at mixed j ≡ pos by *ℤ z
 quotient_at by mixed j z h e = sym (kept_128 (at mixed j) (omega (arith, h))) ∙ e
 
-broad : (by : ℕ) (mixed row : List ℤ) (j : ℕ) (z : ℤ) (m : ℕ) → j < length mixed → at mixed j ≡ pos by *ℤ z → unsigned_abs z ≤ 2 ^ 125
-    → m ≡ unsigned_abs (to_z w128 (of_z w128 z)) → 2 ^ 62 ≤ m → IsQuotient by mixed row j → IsWideQuotient by mixed j z
-broad by mixed row j z m h e s f g inv = record {
-  inside = h;
-  here = e;
-  size = s;
-  wide = λ n. (let k : unsigned_abs (to_z w128 (of_z w128 z)) ≡ unsigned_abs z = ap unsigned_abs (kept_128 z (omega (arith, s))) in omega arith);
-  before = λ k l. (at row k, inv.each k l, inv.narrow k l);
+broad : (by : ℕ) (mixed : List ℤ) (j : ℕ) (z : ℤ) (m : ℕ) → j < length mixed → at mixed j ≡ pos by *ℤ z → unsigned_abs z ≤ 2 ^ 125
+    → m ≡ unsigned_abs (to_z w128 (of_z w128 z)) → 2 ^ 62 ≤ m → HasWideQuotient by mixed
+broad by mixed j z m h e s f g = record {
+  found = (j, z, h, e, λ n. (let k : unsigned_abs (to_z w128 (of_z w128 z)) ≡ unsigned_abs z = ap unsigned_abs (kept_128 z (omega (arith, s))) in omega arith));
 }
 
 more : (by : ℕ) (mixed row : List ℤ) (j : ℕ) (z : ℤ) (m : ℕ) → j < length row → at mixed j ≡ pos by *ℤ z → unsigned_abs z ≤ 2 ^ 125
@@ -48,12 +44,10 @@ more by mixed row j z m h e s f g inv =
 
 pub returns-then-unsigned_abs-ge-WIDE : goal.returns-then-unsigned_abs-ge-WIDE
 returns-then-unsigned_abs-ge-WIDE c =
-    let P : ℤ → Type 0 = λ t. IsWideQuotient c.args.by c.args.mixed.now c.loop-j.j t in
-    subst P (sym (kept_128 c.quotient-number.result (omega (arith, c.quotient-number.ensures.small_result))))
-    (broad c.args.by c.args.mixed.now c.loop-j.row c.loop-j.j c.quotient-number.result c.unsigned_abs.result c.loop-j-test.true
+    broad c.args.by c.args.mixed.now c.loop-j.j c.quotient-number.result c.unsigned_abs.result c.loop-j-test.true
     (quotient_at c.args.by c.args.mixed.now c.loop-j.j c.quotient-number.result (c.requires.within c.loop-j.j c.loop-j-test.true)
     c.quotient-number.ensures.value) c.quotient-number.ensures.small_result
-    c.unsigned_abs.ensures.value (omega arith) c.loop-j.invariant)
+    c.unsigned_abs.ensures.value (omega arith)
 
 pub loop-j-preserved : goal.loop-j-preserved
 loop-j-preserved c =

@@ -1,9 +1,9 @@
 use Rattle.std.proofs.Common.{◌≡◌, ℕ, ◌+◌, ◌*◌, ◌<◌, ◌≤◌, ◌^◌, ℤ, pos, ◌-ℤ◌, ◌*ℤ◌, ◌<ℤ◌, unsigned_abs, length, slice_index, to_z, of_z, w64, sym, ap, subst}
 use Rattle.std.proofs.lemmas.Grind.{common_steps}
 use Rattle.std.proofs.Common.{◌∙◌, arith}
-use Rattle.std.proofs.lemmas.Nat.{mul-le}
-use Rattle.gs_simplex.specs.{Rows.{IsNarrow}, Numbers.{at, IsShared, IsMultiple}, Live.{IsSupport, IsChange}}
-use Rattle.gs_simplex.proofs.{Fits.{kept_64, narrow_passed, difference_bound}, Lives.{support_mixed, support_row}}
+use Rattle.std.proofs.{lemmas.Nat.{mul-le}, lemmas.Bool.Decides.{when_true, when_false}}
+use Rattle.gs_simplex.specs.{Rows.{IsNarrow}, Numbers.{at, IsShared, IsMultiple, IsQuotient, HasWideQuotient}, Support.{IsSupport, IsChange}}
+use Rattle.gs_simplex.proofs.{Fits.{kept_64, narrow_passed, difference_bound}, Supports.{support_mixed, support_row}}
 use Rattle.gs_simplex.proofs.Reduce.{kept_mixed, divisor_small, by_divides, mixed_times, reduced_from, reduced_wide}
 use Rattle.gs_simplex.proofs.row.reduce_row.Goals.{After-touched-count}
 use Rattle.gs_simplex.proofs.row.reduce_row.Goals as goal
@@ -138,8 +138,8 @@ returns-then-stays_narrow c =
       c.lessen.ensures.bound,
     )
 
-pub returns-in-None : goal.returns-in-None
-returns-in-None c =
+pub returns-then-narrow_into : goal.returns-then-narrow_into
+returns-then-narrow_into c =
     let lead = c.args.lead.now.numbers.now in let row = c.args.row.now in let mixed = c.mix.new.mixed in let k = c.args.lead.now.column in let m =
     c.multipliers-own in
     let inside : k < length lead = c.args.lead.now.inside in
@@ -149,7 +149,8 @@ returns-in-None c =
     m.ensures.narrow_own m.ensures.narrow_far m.ensures.shared in
     let own = to_z w64 (of_z w64 m.result.0) in let far = to_z w64 (of_z w64 m.result.1) in
     let is : (j : ℕ) → j < length lead → at mixed j ≡ own *ℤ at row j -ℤ far *ℤ at lead j = λ j l. c.mix.ensures.mixed j (omega (arith, c.requires.long)) in
-    let new = c.narrow_into.new.row in let q = c.in-None.ensures in
+    let new = c.narrow_into.new.row in let q = when_true (IsQuotient c.max-by.result mixed new (length mixed)) (HasWideQuotient c.max-by.result mixed)
+    c.if-narrow_into.true c.narrow_into.ensures in
     let same : length new ≡ length mixed = omega (arith, c.narrow_into.auto.row, c.requires.long) in (
       (reduced_from (at lead) (at row) k (length lead) c.divisor.result c.max-by.result own far mixed sh some long is c.divisor.ensures c.max-by.ensures
           (at new) (λ j l. q.each j (omega arith))).multiple,
@@ -157,8 +158,8 @@ returns-in-None c =
       λ j l. (let n : unsigned_abs (at new j) < 2 ^ 62 = q.narrow j (omega arith) in omega arith),
     )
 
-pub returns-in-Some : goal.returns-in-Some
-returns-in-Some c =
+pub returns : goal.returns
+returns c =
     let lead = c.args.lead.now.numbers.now in let row = c.args.row.now in let mixed = c.mix.new.mixed in let k = c.args.lead.now.column in let m =
     c.multipliers-own in
     let inside : k < length lead = c.args.lead.now.inside in
@@ -168,8 +169,11 @@ returns-in-Some c =
     m.ensures.narrow_own m.ensures.narrow_far m.ensures.shared in
     let own = to_z w64 (of_z w64 m.result.0) in let far = to_z w64 (of_z w64 m.result.1) in
     let is : (j : ℕ) → j < length lead → at mixed j ≡ own *ℤ at row j -ℤ far *ℤ at lead j = λ j l. c.mix.ensures.mixed j (omega (arith, c.requires.long)) in
+    let small : c.divisor.result ≤ 2 ^ 125 = divisor_small c.divisor.result (length mixed) (2 ^ 125) (at mixed) c.divisor.ensures c.mix.ensures.within in
     reduced_wide (at lead) (at row) k (length lead) c.divisor.result c.max-by.result own far mixed sh some long is c.divisor.ensures c.max-by.ensures
-    c.in-Some.wide.column c.in-Some.wide.number c.in-Some.ensures
+    (omega (arith, c.max-by.ensures)) (omega (arith, c.max-by.ensures)) c.mix.ensures.within
+    (when_false (IsQuotient c.max-by.result mixed c.narrow_into.new.row (length mixed)) (HasWideQuotient c.max-by.result mixed) c.if-narrow_into.false
+    c.narrow_into.ensures)
 
 pub lessen-requires-clause-narrow : goal.lessen-requires-clause-narrow
 lessen-requires-clause-narrow c = grind (arith, common_steps)

@@ -1,6 +1,6 @@
 use Rattle.std.proofs.{Common.{to_z, w64, sym, ap, ◌∙◌}, lemmas.Int.{to_z-of_z}}
 use Rattle.gs_simplex.specs.Numbers.{at}
-use Rattle.gs_simplex.proofs.Lives.{change_of_row, change_of_lead}
+use Rattle.gs_simplex.proofs.Supports.{change_of_row, change_of_lead}
 use Rattle.gs_simplex.proofs.row.touched.Goals as goal
 
 pub returns-then-own-eq1 : goal.returns-then-own-eq1

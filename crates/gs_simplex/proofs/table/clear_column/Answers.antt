@@ -1,8 +1,8 @@
-use Rattle.std.proofs.Common.{◌≡◌, ◌≢◌, ◌⊎◌, ℕ, ◌+◌, ◌*◌, ◌<◌, ◌≤◌, ℤ, List, length, slice_index, refl, sym, subst, ◌∙◌, arith, below_more, get_or-set_other}
+use Rattle.std.proofs.Common.{◌≡◌, ◌≢◌, ◌⊎◌, ℕ, ◌+◌, ◌*◌, ◌<◌, ◌≤◌, ℤ, List, length, slice_index, refl, sym, subst, ◌∙◌, arith, below_more}
 use Rattle.std.proofs.lemmas.Grind.{common_steps}
-use Rattle.gs_simplex.specs.Numbers.{at, cell, IsAtMost, IsMixed, IsReducedTo, IsClearedTo}
-use Rattle.gs_simplex.proofs.{Fits.{kept_128}, Lives.{support_same, support_of}}
-use Rattle.gs_simplex.proofs.Places.{mixed_same, at_most_same, reduced_to_same, row_stays, rows_left, tops_more, tops_left_more}
+use Rattle.gs_simplex.specs.{Numbers.{at, cell, IsAtMost}, Columns.{IsRowCleared}}
+use Rattle.gs_simplex.proofs.Places.{at_most_same, row_stays, row_inside, rows_left, tops_more, tops_left_more}
+use Rattle.gs_simplex.proofs.Standing.{slot_freed_same, row_cleared_same}
 use Rattle.gs_simplex.proofs.table.clear_column.Goals as goal
 
 pub loop-i-preserved-then-i-lead : goal.loop-i-preserved-then-i-lead
@@ -17,19 +17,15 @@ loop-i-preserved-then-i-lead c =
       left = λ h l j jw. v.left h (omega arith) j jw;
       kept = v.kept;
       narrow = v.narrow;
-      tops_done = tops_more now now c.loop-i.tops w i lead.most (omega (arith, c.loop-i.auto.tops, c.requires.few_tops)) (λ h l j jw. refl) v.tops_done here;
+      tops_done = tops_more now now c.loop-i.tops w i lead.most (omega (arith, c.loop-i.auto.tops, c.loop-i-test.true)) (λ h l j jw. refl) v.tops_done here;
       tops_left = tops_left_more c.loop-i.tops c.args.tops.now i lead.most v.tops_left;
-      places = v.places;
     }
 
-pub reduce_at-requires-clause-support : goal.reduce_at-requires-clause-support
-reduce_at-requires-clause-support c =
-    let lead = c.args.lead.now in let count = length c.args.owns.now in
-    let v = c.loop-i.invariant in let w = length lead.numbers.now in let i = c.loop-i.i in let old = c.args.numbers.now in let now =
-    c.loop-i.numbers in let row = at lead.numbers.now in
-    support_same _ c.args.found w (cell old w i) (cell now w i) row row (λ j h. sym (v.left i (omega arith) j h)) (λ j h. refl)
-    (support_of c.args.places.now c.loop-i.places c.args.owns.now c.args.found count lead.row w i (cell old w) row c.requires.live c.loop-i-test.true
-    c.if-i-lead.false c.loop-i.auto.places v.places)
+pub reduce_at-requires-clause-live : goal.reduce_at-requires-clause-live
+reduce_at-requires-clause-live c = λ mid u.
+    let lead = c.args.lead.now in let v = c.loop-i.invariant in let w = length lead.numbers.now in let i = c.loop-i.i in
+    c.requires.live i c.loop-i-test.true c.if-i-lead.false mid (slot_freed_same c.args.q lead.column w (cell c.loop-i.numbers w i) (cell c.args.numbers.now w i)
+    (omega (arith, c.requires.place, c.requires.spare)) (omega (arith, c.requires.spare)) (λ k l. v.left i (omega arith) k l) mid u)
 
 pub reduce_at-requires-clause-bound : goal.reduce_at-requires-clause-bound
 reduce_at-requires-clause-bound c =
@@ -41,58 +37,60 @@ reduce_at-requires-clause-bound c =
 
 pub returns-in-Err-clause-cleared : goal.returns-in-Err-clause-cleared
 returns-in-Err-clause-cleared c =
-    let lead = c.args.lead.now in let count = length c.args.owns.now in
+    let lead = c.args.lead.now in let count = length c.args.tops.now in
     let w = length lead.numbers.now in let i = c.loop-i.i in let old = c.args.numbers.now in let now = c.loop-i.numbers in
-    let row = at lead.numbers.now in
-    let z = c.in-Err.wide.number in
-    let here : IsReducedTo row lead.column w (cell old w i) c.in-Err.wide.column z =
-    reduced_to_same row row lead.column w (cell now w i) (cell old w i) c.in-Err.wide.column z lead.inside (λ j h. refl)
-    (λ j h. c.loop-i.invariant.left i (omega arith) j h) c.in-Err.ensures.answer in
-    let P : ℤ → Type 0 = λ t. IsClearedTo old count w lead.row lead.column row i c.in-Err.wide.column t in
-    subst P (sym (kept_128 z (omega (arith, here.size)))) (record {
+    let v = c.loop-i.invariant in let a = c.in-Err.ensures.answer in
+    record {
       inside = c.loop-i-test.true;
       apart = c.if-i-lead.false;
-      here = here;
+      here = (
+        a.0,
+        slot_freed_same c.args.q lead.column w (cell now w i) (cell old w i) (omega (arith, c.requires.place, c.requires.spare))
+            (omega (arith, c.requires.spare)) (λ k l. v.left i (omega arith) k l) a.0 a.1,
+        a.2,
+      );
       before = λ h l ne. (
         cell now w h,
-        c.loop-i.invariant.done h l ne,
-        λ k kw. c.loop-i.invariant.narrow (h * w + k) (let e : length now ≡ count * w = omega (arith, c.loop-i.auto.numbers, c.requires.long) in
-            omega (arith, Rattle.gs_simplex.proofs.Places.row_inside count w h k (omega arith) kw)),
+        v.done h l ne,
+        λ k kw. v.narrow (h * w + k) (let e : length now ≡ count * w = omega (arith, c.loop-i.auto.numbers, c.requires.long) in
+            omega (arith, row_inside count w h k (omega arith) kw)),
       );
-    })
+    }
 
-module _ (old now new : List ℤ) (lead : ℕ → ℤ) (count w r c i : ℕ) (cw : c < w) (ne : i ≢ r)
-    (done : (h : ℕ) → h < i → h ≢ r → IsMixed lead c w (cell old w h) (cell now w h))
+-- one more row, which is cleared
+module _ (old now new : List ℤ) (lead : ℕ → ℤ) (w r q b i : ℕ) (qw : q < w) (bw : b < w) (ne : i ≢ r)
+    (done : (h : ℕ) → h < i → h ≢ r → IsRowCleared lead q b w (cell old w h) (cell now w h))
     (left : (h : ℕ) → i ≤ h → (j : ℕ) → j < w → cell now w h j ≡ cell old w h j)
     (kept : (j : ℕ) → j < w → cell now w r j ≡ cell old w r j)
     (others : (k : ℕ) → (k < i * w) ⊎ (i * w + w ≤ k) → at new k ≡ at now k)
-    (here : IsMixed lead c w (cell now w i) (cell new w i)) where
-  done_more : (h : ℕ) → h < i + 1 → h ≢ r → IsMixed lead c w (cell old w h) (cell new w h)
-  done_more = below_more (λ h. h ≢ r → IsMixed lead c w (cell old w h) (cell new w h)) i
-      (λ h l d. mixed_same lead c w (cell old w h) (cell old w h) (cell now w h) (cell new w h) cw (λ j jw. refl)
+    (here : IsRowCleared lead q b w (cell now w i) (cell new w i)) where
+  done_more : (h : ℕ) → h < i + 1 → h ≢ r → IsRowCleared lead q b w (cell old w h) (cell new w h)
+  done_more = below_more (λ h. h ≢ r → IsRowCleared lead q b w (cell old w h) (cell new w h)) i
+      (λ h l d. row_cleared_same q b w (cell old w h) (cell old w h) qw bw (λ j jw. refl) lead (cell now w h) (cell new w h)
       (λ j jw. sym (row_stays now new w i others h (λ e. omega arith) j jw)) (done h l d))
-      (λ d. mixed_same lead c w (cell now w i) (cell old w i) (cell new w i) (cell new w i) cw (λ j jw. left i (omega arith) j jw) (λ j jw. refl) here)
+      (λ d. row_cleared_same q b w (cell now w i) (cell old w i) qw bw (λ j jw. left i (omega arith) j jw) lead (cell new w i) (cell new w i)
+      (λ j jw. refl) here)
 
   kept_more : (j : ℕ) → j < w → cell new w r j ≡ cell old w r j
   kept_more j jw = row_stays now new w i others r (λ e. ne (sym e)) j jw ∙ kept j jw
 
 pub loop-i-preserved : goal.loop-i-preserved
 loop-i-preserved c =
-    let lead = c.args.lead.now in let count = length c.args.owns.now in
+    let lead = c.args.lead.now in let q = c.args.q in let b = lead.column in
     let w = length lead.numbers.now in let i = c.loop-i.i in let old = c.args.numbers.now in let now = c.loop-i.numbers in let new = c.reduce_at.new.numbers in
     let row = at lead.numbers.now in
     let v = c.loop-i.invariant in
     let a = c.in-Ok.ensures.answer in
+    let qw : q < w = omega (arith, c.requires.place, c.requires.spare) in let bw : b < w = omega (arith, c.requires.spare) in
     record {
       width = refl;
-      done = done_more old now new row count w lead.row lead.column i lead.inside c.if-i-lead.false v.done v.left v.kept c.reduce_at.ensures.others a.0;
+      done = done_more old now new row w lead.row q b i qw bw c.if-i-lead.false v.done v.left v.kept c.reduce_at.ensures.others a.0;
       left = rows_left old now new w i c.reduce_at.ensures.others v.left;
-      kept = kept_more old now new row count w lead.row lead.column i lead.inside c.if-i-lead.false v.done v.left v.kept c.reduce_at.ensures.others a.0;
+      kept = kept_more old now new row w lead.row q b i qw bw c.if-i-lead.false v.done v.left v.kept c.reduce_at.ensures.others a.0;
       narrow = a.1;
-      tops_done = tops_more now new c.loop-i.tops w i c.in-Ok.top (omega (arith, c.loop-i.auto.tops, c.requires.few_tops))
+      tops_done = tops_more now new c.loop-i.tops w i c.in-Ok.top (omega (arith, c.loop-i.auto.tops, c.loop-i-test.true))
           (λ h l j jw. row_stays now new w i c.reduce_at.ensures.others h (λ e. omega arith) j jw) v.tops_done a.2;
       tops_left = tops_left_more c.loop-i.tops c.args.tops.now i c.in-Ok.top v.tops_left;
-      places = λ k h. get_or-set_other c.loop-i.places 0 k (slice_index c.args.owns.now i) 0 (λ e. omega arith) ∙ v.places k h;
     }
 
 pub returns-clause-cleared : goal.returns-clause-cleared
@@ -114,9 +112,6 @@ reduce_at-requires-clause-inside c = grind (arith, common_steps)
 
 pub loop-i-init : goal.loop-i-init
 loop-i-init c = grind (arith, common_steps)
-
-pub bounds-tops-i-in-Ok : goal.bounds-tops-i-in-Ok
-bounds-tops-i-in-Ok c = grind (arith, common_steps)
 
 pub reduce_at-requires-clause-narrow : goal.reduce_at-requires-clause-narrow
 reduce_at-requires-clause-narrow c = grind (arith, common_steps)

@@ -1,6 +1,6 @@
 use Rattle.std.proofs.Common.{ℕ, length, subst}
-use Rattle.gs_simplex.specs.{Live.{IsSupport}, Numbers.{at, IsDivided}}
-use Rattle.gs_simplex.proofs.{Lives.{support_divided}, Places.{lead_of}, table.take_row.Goals.{After-divide_row}}
+use Rattle.gs_simplex.specs.{Support.{IsSupport}, Numbers.{at, IsDivided}}
+use Rattle.gs_simplex.proofs.{Supports.{support_divided}, Places.{lead_of}, table.take_row.Goals.{After-divide_row}}
 use Rattle.gs_simplex.proofs.table.take_row.Goals as goal
 
 -- the row divided, at its width

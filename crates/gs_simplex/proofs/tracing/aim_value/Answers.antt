@@ -1,16 +1,16 @@
 use Rattle.std.proofs.Common.{◌≡◌, ◌+◌, neg_ℤ, ◌-ℤ◌, ◌*ℤ◌, pos, to_z, of_z, sym, ap, ◌∙◌, arith}
 use mir.Syntax.{w128}
-use Rattle.gs_simplex.specs.{Numbers.{cell}, Table.{table_aim}}
+use Rattle.gs_simplex.specs.Table.{grid_of, table_aim}
 use Rattle.gs_simplex.proofs.{Fits.{widened, negated}, Tables.{flipped_at, flipped_other}}
 use Rattle.gs_simplex.proofs.tracing.aim_value.Goals as goal
 
 pub returns : goal.returns
 returns c =
-    let p = c.args.p.now in let xs = c.args.numbers.now in let n = p.cols in let f = c.new.result in let X = cell xs (n + 2) p.rows in
-    let m : to_z w128 (of_z w128 c.from-2.result) ≡ table_aim p xs (n + 1) =
+    let p = c.args.p.now in let grid = grid_of p c.args.table.now in let n = p.cols in let f = c.new.result in let X = grid p.rows in
+    let m : to_z w128 (of_z w128 c.from-2.result) ≡ table_aim p grid (n + 1) =
     widened c.number_at-multiple.result c.from-2.result c.number_at-multiple.ensures.narrow c.from-2.ensures ∙ c.number_at-multiple.ensures.value
     ∙ sym (flipped_other n X (n + 1) (λ e. omega arith)) in
-    let g : to_z w128 (of_z w128 (pos 0 -ℤ to_z w128 (of_z w128 c.from.result))) ≡ table_aim p xs n =
+    let g : to_z w128 (of_z w128 (pos 0 -ℤ to_z w128 (of_z w128 c.from.result))) ≡ table_aim p grid n =
     negated c.number_at-last.result c.from.result c.number_at-last.ensures.narrow c.from.ensures ∙ ap neg_ℤ c.number_at-last.ensures.value
     ∙ sym (flipped_at n X) in
     ap (λ t. f.num *ℤ t) (sym m) ∙ c.new.ensures ∙ ap (λ t. t *ℤ f.den) g

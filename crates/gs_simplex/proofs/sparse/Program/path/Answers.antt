@@ -1,6 +1,6 @@
-use Rattle.std.proofs.Common.{Result, Ok, Err, ◌≡◌, ℕ, ◌+◌, List, ℤ, pos, ◌<ℤ◌, length, refl, sym, subst, arith}
-use Rattle.gs_simplex.specs.{declared.program.Program.{Program}, Program.{Listing}, Path.{NoneEnters}, declared.answer.Path.{Path}}
-use Rattle.gs_simplex.specs.{declared.answer.Stop.{Stop}, Table.{table_aim, IsTable}, State.{IsSoFar}, Answer.{IsStop}}
+use Rattle.std.proofs.Common.{Result, Ok, Err, ◌≡◌, ℕ, ◌+◌, ℤ, pos, ◌<ℤ◌, length, refl, sym, subst, arith}
+use Rattle.gs_simplex.specs.{declared.program.Program.{Program}, Program.{Listing}, declared.answer.Path.{Path}}
+use Rattle.gs_simplex.specs.{declared.answer.Stop.{Stop}, Table.{grid_of, table_aim}, State.{IsSoFar}, Answer.{IsStop}}
 use Rattle.gs_simplex.specs.{Trace.{IsPathAnswer}}
 use Rattle.std.specs.Result.{IsErrAnd}
 use Rattle.gs_simplex.proofs.{Paths.{rows_at}, Kept.{multiple_kept}, Traces.{shown_of}}
@@ -11,12 +11,8 @@ err_answer : (p : Program) (o : Listing) (limit : ℕ) (r : Result Path Stop) (s
 err_answer p o limit (Ok t) s e h = absurd e
 err_answer p o limit (Err x) s e h = let P : Stop → Type 0 = λ y. IsStop p o limit y in subst P (sym e) h
 
-multiple_of : (p : Program) (o : Listing) (t : ℕ) (l : Listing) (xs : List ℤ) → IsSoFar p o t l xs → pos 0 <ℤ table_aim p xs (p.cols + 1)
-multiple_of p o t l xs u =
-    multiple_kept u.states.3 (rows_at u).aim_row.2.multiple
-
-same_so_far : (p : Program) (o : Listing) (t : ℕ) (l : Listing) (xs ys : List ℤ) → ys ≡ xs → IsSoFar p o t l xs → IsSoFar p o t l ys
-same_so_far p o t l xs ys e u = let P : List ℤ → Type 0 = λ x. IsSoFar p o t l x in subst P (sym e) u
+multiple_of : (p : Program) (o : Listing) (t : ℕ) (l : Listing) (grid : ℕ → ℕ → ℤ) → IsSoFar p o t l grid → pos 0 <ℤ table_aim p grid (p.cols + 1)
+multiple_of p o t l grid u = multiple_kept u.states.3 (rows_at u).aim_row.2.multiple
 
 pub returns-in_err-basis : goal.returns-in_err-basis
 returns-in_err-basis c =
@@ -25,29 +21,22 @@ returns-in_err-basis c =
 
 pub aim_value-start-requires-clause-multiple : goal.aim_value-start-requires-clause-multiple
 aim_value-start-requires-clause-multiple c =
-    let p = c.args.self.now in let o = c.args.opening.now in let at = c.in_ok-basis.field-0 in let xs = c.deref.result.now in
-    multiple_of p o (length o) o xs (same_so_far p o (length o) o at.table.numbers.items xs c.deref.ensures.value c.in_ok-basis.ensures.state.so_far)
+    let p = c.args.self.now in let o = c.args.opening.now in let at = c.in_ok-basis.field-0 in
+    multiple_of p o (length o) o (grid_of p at.table) c.in_ok-basis.ensures.state.so_far
 
 pub aim_value-aim-requires-clause-multiple : goal.aim_value-aim-requires-clause-multiple
 aim_value-aim-requires-clause-multiple c =
     let p = c.args.self.now in let o = c.args.opening.now in let n = length c.follow_noting.new.turns.items in let l = c.follow_noting.new.basis in
-    let xs = c.deref-2.result.now in
-    multiple_of p o (length o + n) l xs (same_so_far p o (length o + n) l c.follow_noting.new.table.numbers.items xs c.deref-2.ensures.value
-    c.in_ok-follow_noting.ensures.0.state.so_far)
+    multiple_of p o (length o + n) l (grid_of p c.follow_noting.new.table) c.in_ok-follow_noting.ensures.0.state.so_far
 
 pub returns : goal.returns
 returns c =
     let p = c.args.self.now in let o = c.args.opening.now in let turns = c.follow_noting.new.turns in let n = length turns.items in
     let l = c.follow_noting.new.basis in
-    let at = c.in_ok-basis.field-0 in let held = c.follow_noting.new.table in let end = c.in_ok-follow_noting.ensures.0 in
-    let xs0 = c.deref.result.now in let xs = c.deref-2.result.now in
-    let T : List ℤ → Type 0 = λ x. IsTable p x in let N : List ℤ → Type 0 = λ x. NoneEnters p l (table_aim p x) in
-    shown_of p o c.args.limit n (record { start = c.aim_value-start.result; turns = turns; aim = c.aim_value-aim.result }) o l xs0 xs
-    c.in_ok-basis.ensures.small c.requires.opens (same_so_far p o (length o) o at.table.numbers.items xs0 c.deref.ensures.value
-    c.in_ok-basis.ensures.state.so_far) c.aim_value-start.ensures
-    (same_so_far p o (length o + n) l held.numbers.items xs c.deref-2.ensures.value end.state.so_far) (subst T (sym c.deref-2.ensures.value) end.state.table)
-    end.within (subst N (sym c.deref-2.ensures.value) end.none)
-    c.aim_value-aim.ensures refl c.in_ok-follow_noting.ensures.1
+    let at = c.in_ok-basis.field-0 in let end = c.in_ok-follow_noting.ensures.0 in
+    shown_of p o c.args.limit n (record { start = c.aim_value-start.result; turns = turns; aim = c.aim_value-aim.result }) o l (grid_of p at.table)
+    (grid_of p c.follow_noting.new.table) c.in_ok-basis.ensures.small c.requires.opens c.in_ok-basis.ensures.state.so_far c.aim_value-start.ensures
+    end.state.so_far end.state.table end.within end.none c.aim_value-aim.ensures refl c.in_ok-follow_noting.ensures.1
 
 pub follow_noting-requires-clause-ready : goal.follow_noting-requires-clause-ready
 follow_noting-requires-clause-ready c = grind arith

@@ -1,7 +1,7 @@
 use Rattle.std.proofs.lemmas.Grind.{common_steps}
-use Rattle.std.proofs.{Common.{Result, Ok, Err, ◌≡◌, ℕ, List, ◌++◌, ℤ, length, take, drop, sym, subst, ◌∙◌, arith}, lemmas.List.{take_at}}
+use Rattle.std.proofs.{Common.{Result, Ok, Err, ◌≡◌, ℕ, ◌++◌, length, take, drop, sym, subst, ◌∙◌, arith}, lemmas.List.{take_at}}
 use Rattle.gs_simplex.specs.{declared.program.Program.{Program}, Program.{Listing}, Path.{PathStops, ends}, declared.answer.Best.{Best}}
-use Rattle.gs_simplex.specs.{declared.table.Table.{Table}, Table.{IsTableOf}, State.{IsEnd}}
+use Rattle.gs_simplex.specs.{declared.table.Table.{Table}, Table.{grid_of, IsTableOf}, State.{IsEnd}}
 use Rattle.gs_simplex.specs.{Answer.{IsSmallTable, IsStop, IsAnswer, IsBest, IsBestAt, IsBestTable}, declared.answer.Stop.{Stop}}
 use Rattle.std.specs.Result.{IsErrAnd}
 use Rattle.gs_simplex.proofs.Paths.{rows_of_so_far, ends_stops}
@@ -10,11 +10,8 @@ use Rattle.gs_simplex.proofs.sparse.Program.run.Goals as goal
 taken : (n : ℕ) (xs ys : Listing) → length xs ≡ n → take n (xs ++ ys) ≡ xs
 taken n xs ys e = take_at xs ys n e
 
-end_rows : (p : Program) (o : Listing) (limit n : ℕ) (l l' : Listing) (t : Table) (xs : List ℤ) → IsEnd p o limit n l t → l' ≡ l → xs ≡ t.numbers.items
-    → IsTableOf p l' xs
-end_rows p o limit n l l' t xs u el ex =
-    let P : Listing → Type 0 = λ x. IsTableOf p x xs in let Q : List ℤ → Type 0 = λ x. IsTableOf p l x in
-    subst P (sym el) (subst Q (sym ex) (rows_of_so_far u.state.so_far))
+end_rows : (p : Program) (o : Listing) (limit n : ℕ) (l l' : Listing) (t : Table) → IsEnd p o limit n l t → l' ≡ l → IsTableOf p l' (grid_of p t)
+end_rows p o limit n l l' t u el = let P : Listing → Type 0 = λ x. IsTableOf p x (grid_of p t) in subst P (sym el) (rows_of_so_far u.state.so_far)
 
 best_of : (p : Program) (o : Listing) (limit n : ℕ) (l l' : Listing) (t : Table) (b : Best) → IsSmallTable p → IsEnd p o limit n l t → l' ≡ l
     → IsBestTable p l' n b → IsBest p o limit b
@@ -43,8 +40,7 @@ pub best-requires-clause-rows : goal.best-requires-clause-rows
 best-requires-clause-rows c =
     let l = c.follow.new.basis in let b = c.in_ok-basis.field-0.basis in
     end_rows c.args.self.now c.args.opening.now c.args.limit c.in_ok-pivots.pivots l (take b.len (l ++ drop (length l) b.items)) c.follow.new.table
-    c.deref.result.now c.in_ok-pivots.ensures
-    (taken b.len l (drop (length l) b.items) (omega (arith, c.follow.auto.basis, c.deref_mut.ensures.len))) c.deref.ensures.value
+    c.in_ok-pivots.ensures (taken b.len l (drop (length l) b.items) (omega (arith, c.follow.auto.basis, c.deref_mut.ensures.len)))
 
 pub returns : goal.returns
 returns c =

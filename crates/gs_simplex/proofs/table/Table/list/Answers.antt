@@ -1,238 +1,218 @@
-use Rattle.std.proofs.Common.{◌≡◌, ◌≢◌, IfNone, MatchOption, Option, Some, None, ◌⊎◌, inl, inr, ℕ, ◌+◌, ◌-◌, ◌*◌, ◌<◌, ◌≤◌, ℤ, pos, ◌<ℤ◌, List, ◌++◌, length}
-use Rattle.std.proofs.lemmas.Grind.{common_steps, elements}
-use Rattle.std.proofs.Common.{slice_index, take, drop, sym, ap, subst, ◌∙◌, arith}
-use Rattle.std.proofs.{lemmas.List.{take_at}, lemmas.Bool.{cases_lt}}
-use Rattle.gs_simplex.specs.{declared.program.Program.{Program}, Rows.{IsNarrow}, Program.{Listing, IsPairList}, declared.table.WideCell.{WideCell}}
-use Rattle.gs_simplex.specs.Numbers.{at, cell, AreNarrowNumbers, IsAtMost, AreTops, IsLeadOf, IsCleared, IsClearedTo}
-use Rattle.gs_simplex.specs.{Table.{table_rows, IsTable, IsTableOf, HasTops, IsTableAfter, IsWideAfter}, Live.{AreFoundPlaces, IsSupport, IsLive}}
-use Rattle.gs_simplex.proofs.{Places.{row_apart, at_most_same}, Tables.{own, zero_lead, table_after, wide_from}, Lives.{live_of}}
-use Rattle.gs_simplex.proofs.table.Table.list.Goals.{After-deref, After-deref-numbers, After-deref_mut-3, After-take_lead-count}
+use Rattle.std.proofs.Common.{◌≡◌, ℕ, ◌+◌, List, ◌++◌, length, take, drop, slice_index, vec_len, ℤ, sym, ap, subst, ◌∙◌, arith}
+use Rattle.std.proofs.lemmas.List.{take_at, get_or_default}
+use Rattle.std.specs.Vec.{with_items}
+use Rattle.gs_simplex.specs.{Numbers.{AreTops}}
+use Rattle.gs_simplex.specs.Columns.{place_in, in_columns, AreStands, AreStandsAfter, AreLivePlaces, IsLive, IsTimes, IsFirstWideOf, HasWideColumn}
+use Rattle.gs_simplex.specs.Columns.{IsPivotDone, IsPivotWide}
+use Rattle.gs_simplex.specs.Table.{IsHeld, IsWideAfter}
+use Rattle.gs_simplex.proofs.Relisting.{stands_next, live_next, laid_next, table_next, has_wide, wide_next}
+use Rattle.gs_simplex.proofs.table.Table.list.Goals.{After-make_own, After-place_of-q, After-deref, After-live_places-found, After-clear, After-deref_mut-4}
+use Rattle.gs_simplex.proofs.table.Table.list.Goals.{After-deref-in-Some, After-deref-in-Some-2}
 use Rattle.gs_simplex.proofs.table.Table.list.Goals as goal
 
--- what take_lead leaves
-record IsTaken (p : Program) (old mid lead : List ℤ) (r c : ℕ) : Type 0 where
-  long : length mid ≡ length old
-  wide : length lead ≡ p.cols + 2
-  same : (j : ℕ) → j < length lead → at lead j ≡ at mid (r * (p.cols + 2) + j)
-  taken : IsLeadOf (λ j. at old (r * (p.cols + 2) + j)) (at lead) c (length lead)
-  narrow : AreNarrowNumbers lead
-  others : (k : ℕ) → (k < r * (p.cols + 2)) ⊎ (r * (p.cols + 2) + length lead ≤ k) → at mid k ≡ at old k
+-- the place of column c in row r
+place_is : (c : After-place_of-q) → c.place_of-q.result
+    ≡ place_in c.args.p.now.rows (vec_len c.args.self.now.room.lead) (slice_index c.args.self.now.stands.items c.args.c) c.args.r
+place_is c =
+    let s = c.args.self.now.stands.items in let rows = c.args.p.now.rows in
+    let e : c.index.result.now ≡ slice_index s c.args.c = c.index.ensures
+    ∙ get_or_default s c.args.c c.index.result.now 0 (omega (arith, c.requires.laid.stands_long, c.requires.column)) in
+    c.place_of-q.ensures ∙ ap (λ w. place_in rows w c.index.result.now c.args.r) c.len.ensures
+    ∙ ap (λ x. place_in rows (vec_len c.args.self.now.room.lead) x c.args.r) e
 
--- what is known of the rows and of the lead, in rows of `width` numbers, where the lead's column is to be cleared
-record IsLed (p : Program) (old mid lead : List ℤ) (width r c : ℕ) : Type 0 where
-  own : pos 0 <ℤ at lead c
-  narrow_lead : AreNarrowNumbers lead
-  narrow : AreNarrowNumbers mid
-  lead_row : (j : ℕ) → j < width → cell mid width r j ≡ at lead j
-  tops : (tops : List ℕ) → HasTops p old tops → (i : ℕ) → i < p.rows + 1 → i ≢ r → IsAtMost width (cell mid width i) (slice_index tops i)
-  live : (l : Listing) (places owns : List ℕ) (found : ℕ) → IsPairList p l → IsTableOf p l old → AreFoundPlaces p l r places owns found
-      → IsLive places owns found (p.rows + 1) r width (cell mid width) (at lead)
-  answer : (new : List ℤ) (res : Option WideCell) → length new ≡ length mid
-      → MatchOption res (IsCleared mid new (p.rows + 1) width r c (at lead)) (λ w. IsClearedTo mid (p.rows + 1) width r c (at lead) w.row w.column w.number)
-      → MatchOption res (IsTableAfter p old new r c) (λ w. IsWideAfter p old r c w.row w.column w.number)
+-- where the columns stand after the pivot
+moves : (c : After-make_own) → AreStandsAfter (length c.args.self.now.stands.items) (slice_index c.args.self.now.stands.items)
+    (slice_index c.make_own.new.stands) c.args.r c.args.c
+moves c = let P : List ℕ → Type 0 = λ x. AreStandsAfter (length x) (slice_index x) (slice_index c.make_own.new.stands) c.args.r c.args.c in
+    subst P c.deref_mut.ensures.value c.make_own.ensures
 
-module _ (p : Program) (old mid lead : List ℤ) (r c : ℕ) (rows : r < p.rows) (cols : c < p.cols) (table : IsTable p old)
-    (nonzero : table_rows p old r c ≢ pos 0) (u : IsTaken p old mid lead r c) where
-  same_at : (j : ℕ) → j < p.cols + 2 → at lead j ≡ at mid (r * (p.cols + 2) + j)
-  same_at j h = u.same j (omega (arith, u.wide))
+stands_long : (c : After-make_own) → length c.make_own.new.stands ≡ c.args.p.now.cols + 2
+stands_long c = c.make_own.auto.stands ∙ ap (λ (x : List ℕ). length x) c.deref_mut.ensures.value ∙ c.requires.laid.stands_long
 
-  taken_at : IsLeadOf (λ j. at old (r * (p.cols + 2) + j)) (at lead) c (p.cols + 2)
-  taken_at = let P : ℕ → Type 0 = λ k. IsLeadOf (λ j. at old (r * (p.cols + 2) + j)) (at lead) c k in subst P u.wide u.taken
+stands_len : (c : After-make_own) → length c.make_own.new.stands ≡ c.args.self.now.stands.len
+stands_len c = c.make_own.auto.stands ∙ c.deref_mut.ensures.len
 
-  others_at : (k : ℕ) → (k < r * (p.cols + 2)) ⊎ (r * (p.cols + 2) + (p.cols + 2) ≤ k) → at mid k ≡ at old k
-  others_at k s = elim s [ inl l ↦ u.others k (inl l) | inr l ↦ u.others k (inr (omega (arith, u.wide))) ]
+same_stands : (c : After-deref) → c.deref.result.now ≡ c.make_own.new.stands
+same_stands c =
+    let g = (goal.at.After-deref c).After-make_own in let s = c.make_own.new.stands in let v = c.args.self.now.stands in
+    c.deref.ensures.value ∙ take_at s (drop (length s) v.items) v.len (stands_len g)
 
-  own_at : pos 0 <ℤ at lead c
-  own_at = own p old mid (at lead) r c rows cols table others_at same_at taken_at nonzero
+pub live_places-found-requires-clause-stands : goal.live_places-found-requires-clause-stands
+live_places-found-requires-clause-stands c =
+    let g = goal.at.live_places-found-requires-clause-stands c in let p = c.args.p.now in let s = c.make_own.new.stands in
+    let W : ℕ → Type 0 = λ w. AreStands p.rows w (length c.deref.result.now) (slice_index c.deref.result.now) in
+    let S : List ℕ → Type 0 = λ x. AreStands p.rows (vec_len c.args.self.now.room.lead) (length x) (slice_index x) in
+    let N : ℕ → Type 0 = λ n. AreStands p.rows (vec_len c.args.self.now.room.lead) n (slice_index s) in
+    subst W (sym c.len-2.ensures) (subst S (sym (same_stands g.After-deref)) (subst N (sym (stands_long g.After-make_own))
+    (stands_next c.requires.laid c.args.r c.args.c c.requires.row c.requires.column c.requires.nonzero s (moves g.After-make_own))))
 
-  narrow_lead : (k : ℕ) → k < p.cols + 2 → IsNarrow (at lead k)
-  narrow_lead k h = u.narrow k (omega (arith, u.wide))
+-- the places that have columns
+live_here : (c : After-live_places-found) → AreLivePlaces c.args.p.now.rows (vec_len c.args.self.now.room.lead) (c.args.p.now.cols + 2)
+    (slice_index c.make_own.new.stands) c.live_places-found.new.live c.live_places-found.result
+live_here c =
+    let g = goal.at.After-live_places-found c in let p = c.args.p.now in let s = c.make_own.new.stands in
+    let live = c.live_places-found.new.live in let found = c.live_places-found.result in
+    let W : ℕ → Type 0 = λ w. AreLivePlaces p.rows w (length c.deref.result.now) (slice_index c.deref.result.now) live found in
+    let S : List ℕ → Type 0 = λ x. AreLivePlaces p.rows (vec_len c.args.self.now.room.lead) (length x) (slice_index x) live found in
+    let N : ℕ → Type 0 = λ n. AreLivePlaces p.rows (vec_len c.args.self.now.room.lead) n (slice_index s) live found in
+    subst N (stands_long g.After-make_own) (subst S (same_stands g.After-deref) (subst W c.len-2.ensures c.live_places-found.ensures))
 
-  narrow_mid : AreNarrowNumbers mid
-  narrow_mid k h =
-      let P : ℤ → Type 0 = λ t. IsNarrow t in
-      let s = r * (p.cols + 2) in
-      elim (cases_lt k s) [
-        | inl l ↦ subst P (sym (others_at k (inl l))) (table.narrow k (omega (arith, u.long)))
-        | inr m ↦ elim (cases_lt k (s + (p.cols + 2))) [
-          | inl l ↦ (let q : s + (k - s) ≡ k = omega arith in let Q : ℕ
-              → Type 0 = λ t. IsNarrow (at mid t) in subst Q q (subst P (same_at (k - s) (omega arith)) (narrow_lead (k - s) (omega arith))))
-          | inr g ↦ subst P (sym (others_at k (inr g))) (table.narrow k (omega (arith, u.long)))
-        ]
-      ]
+live_len : (c : After-live_places-found) → length c.live_places-found.new.live ≡ c.args.self.now.live.len
+live_len c = c.live_places-found.auto.live ∙ c.deref_mut-2.ensures.len
 
-  answer : (new : List ℤ) (res : Option WideCell) → length new ≡ length mid
-      → MatchOption res (IsCleared mid new (p.rows + 1) (p.cols + 2) r c (at lead))
-      (λ w. IsClearedTo mid (p.rows + 1) (p.cols + 2) r c (at lead) w.row w.column w.number)
-      → MatchOption res (IsTableAfter p old new r c) (λ w. IsWideAfter p old r c w.row w.column w.number)
-  answer new None e h = table_after p old mid (at lead) r c rows cols table others_at same_at taken_at nonzero new (e ∙ u.long) h
-  answer new (Some w) e h = wide_from p old mid (at lead) r c rows cols table others_at same_at taken_at nonzero w.row w.column w.number h narrow_lead
+pub clear-requires-clause-live : goal.clear-requires-clause-live
+clear-requires-clause-live c =
+    let g = goal.at.clear-requires-clause-live c in let p = c.args.p.now in let t = c.args.self.now in let w = vec_len t.room.lead in let r = c.args.r in
+    let live = c.live_places-found.new.live in let found = c.live_places-found.result in let q = c.place_of-q.result in
+    let el : c.deref-2.result.now ≡ live = c.deref-2.ensures.value ∙ take_at live (drop (length live) t.live.items) t.live.len
+    (live_len g.After-live_places-found) in
+    let ec : length c.deref_mut-4.result.now ≡ p.rows + 1 = ap (λ (x : List ℕ). length x) c.deref_mut-4.ensures.value ∙ c.requires.laid.tops_long in
+    let L : List ℕ → Type 0 = λ x. IsLive (take found x) c.deref_mut-3.result.now (length c.deref_mut-4.result.now) w r q in
+    let C : ℕ → Type 0 = λ n. IsLive (take found live) c.deref_mut-3.result.now n w r q in
+    let Q : ℕ → Type 0 = λ x. IsLive (take found live) c.deref_mut-3.result.now (p.rows + 1) w r x in
+    let X : List ℤ → Type 0 = λ x. IsLive (take found live) x (p.rows + 1) w r
+    (place_in p.rows w (slice_index t.stands.items c.args.c) r) in
+    subst L (sym el) (subst C (sym ec) (subst Q (sym (place_is g.After-place_of-q)) (subst X (sym c.deref_mut-3.ensures.value)
+    (live_next c.requires.laid r c.args.c c.requires.row c.requires.column c.requires.nonzero c.make_own.new.stands (moves g.After-make_own) live found
+    (live_here g.After-live_places-found)))))
 
-  kept_row : (i : ℕ) → i ≢ r → (j : ℕ) → j < p.cols + 2 → cell mid (p.cols + 2) i j ≡ cell old (p.cols + 2) i j
-  kept_row i ne j h = others_at (i * (p.cols + 2) + j) (row_apart (p.cols + 2) i r j h ne)
+-- the rows that clear was given, and how many they are
+same_rows : (c : After-deref_mut-4) → (c.deref_mut-3.result.now ≡ c.args.self.now.numbers.items) × (length c.deref_mut-4.result.now ≡ c.args.p.now.rows + 1)
+same_rows c = (
+  c.deref_mut-3.ensures.value,
+  ap (λ (x : List ℕ). length x) c.deref_mut-4.ensures.value ∙ c.requires.laid.tops_long,
+)
 
-  led : IsLed p old mid lead (p.cols + 2) r c
-  led = record {
-    own = own_at;
-    narrow_lead = u.narrow;
-    narrow = narrow_mid;
-    lead_row = λ j h. sym (same_at j h);
-    tops = λ tops has i h ne. at_most_same (p.cols + 2) (slice_index tops i) (cell old (p.cols + 2) i) (cell mid (p.cols + 2) i)
-        (λ j l. sym (kept_row i ne j l)) (has i h);
-    live = λ l places owns found pairs of f. live_of p l r found places owns old mid (at lead) pairs table of.rows_of.0 of.rows_of.1 of.rows_of.2 of.rows_of.3
-        rows f kept_row (zero_lead p old mid (at lead) r c rows cols table others_at same_at taken_at nonzero);
-    answer = answer;
-  }
+-- what holds by the place, the rows and the number of rows of the table
+given : (P : List ℤ → ℕ → ℕ → Type 0) (xs xs' : List ℤ) (n n' q q' : ℕ) → xs' ≡ xs → n' ≡ n → q' ≡ q → P xs' n' q' → P xs n q
+given P xs xs' n n' q q' ex en eq h =
+    let A : List ℤ → Type 0 = λ x. P x n' q' in let B : ℕ → Type 0 = λ x. P xs x q' in let C : ℕ → Type 0 = λ x. P xs n x in
+    subst C eq (subst B en (subst A ex h))
 
--- what take_lead left, in the table and in the lead
-taken_lead : (c : After-take_lead-count) → IsTaken c.args.p.now c.args.self.now.numbers.items c.take_lead-count.new.numbers c.take_lead-count.new.lead
-    c.args.r c.args.c
-taken_lead c =
-    let P : List ℤ → Type 0 = λ x. IsTaken c.args.p.now x c.take_lead-count.new.numbers c.take_lead-count.new.lead c.args.r c.args.c in
-    subst P c.deref_mut.ensures.value (record {
-      long = c.take_lead-count.auto.numbers;
-      wide = omega (arith, c.take_lead-count.auto.lead, c.deref_mut-2.ensures.len, c.requires.room.lead);
-      same = c.take_lead-count.ensures.same;
-      taken = c.take_lead-count.ensures.taken;
-      narrow = c.take_lead-count.ensures.narrow;
-      others = c.take_lead-count.ensures.others;
-    })
+-- the numbers times the divisor, as they are passed
+wide_pivot : (c : After-deref-in-Some-2) → IsPivotWide c.args.self.now.numbers.items c.deref-in-Some-2.result.now (c.args.p.now.rows + 1)
+    (vec_len c.args.self.now.room.lead) c.args.r
+    (place_in c.args.p.now.rows (vec_len c.args.self.now.room.lead) (slice_index c.args.self.now.stands.items c.args.c) c.args.r) c.in-Some.wide.row
+    c.in-Some.wide.by
+wide_pivot c =
+    let g = goal.at.After-deref-in-Some-2 c in let e = same_rows g.After-deref_mut-4 in let t = c.args.self.now in let w = vec_len t.room.lead in
+    let k = place_in c.args.p.now.rows w (slice_index t.stands.items c.args.c) c.args.r in
+    let M : List ℤ → Type 0 = λ x. IsPivotWide t.numbers.items x (c.args.p.now.rows + 1) w c.args.r k c.in-Some.wide.row c.in-Some.wide.by in
+    subst M (sym c.deref-in-Some-2.ensures.value)
+    (given (λ x n q. IsPivotWide x c.clear.new.room.mixed.items n w c.args.r q c.in-Some.wide.row c.in-Some.wide.by) t.numbers.items c.deref_mut-3.result.now
+    (c.args.p.now.rows + 1) (length c.deref_mut-4.result.now) k c.place_of-q.result e.0 e.1 (place_is g.After-place_of-q) c.in-Some.ensures.pivoted)
 
-same_numbers : (c : After-deref_mut-3) → c.deref_mut-3.result.now ≡ c.take_lead-count.new.numbers
-same_numbers c = c.deref_mut-3.ensures.value ∙ take_at c.take_lead-count.new.numbers (drop (length c.take_lead-count.new.numbers) c.args.self.now.numbers.items)
-    c.args.self.now.numbers.len (omega (arith, c.take_lead-count.auto.numbers, c.deref_mut.ensures.len))
+mixed_long : (c : After-deref-in-Some-2) → length c.deref-in-Some-2.result.now ≡ vec_len c.args.self.now.room.lead
+mixed_long c = c.deref-in-Some-2.ensures.len ∙ c.in-Some.ensures.room.mixed
 
-same_lead : (c : After-deref-numbers) → c.deref-numbers.result.now ≡ c.take_lead-count.new.lead
-same_lead c = c.deref-numbers.ensures.value ∙ take_at c.take_lead-count.new.lead (drop (length c.take_lead-count.new.lead) c.args.self.now.lead.items)
-    c.args.self.now.lead.len (omega (arith, c.take_lead-count.auto.lead, c.deref_mut-2.ensures.len))
+stands_passed : (c : After-deref-in-Some) → c.deref-in-Some.result.now ≡ c.make_own.new.stands
+stands_passed c =
+    let g = (goal.at.After-deref-in-Some c).After-make_own in let s = c.make_own.new.stands in let v = c.args.self.now.stands in
+    c.deref-in-Some.ensures.value ∙ take_at s (drop (length s) v.items) v.len (stands_len g)
 
--- what is known of the rows and of the lead as they are passed
-led_here : (c : After-deref_mut-3) → IsLed c.args.p.now c.args.self.now.numbers.items c.deref_mut-3.result.now c.deref-numbers.result.now
-    (length c.deref-numbers.result.now) c.args.r c.args.c
-led_here c =
-    let w = goal.at.After-deref_mut-3 c in
-    let p = c.args.p.now in let r = c.args.r in let k = c.args.c in let items = c.args.self.now.numbers.items in let now =
-    c.deref_mut-3.result.now in let lead = c.deref-numbers.result.now in
-    let taken = taken_lead w.After-take_lead-count in let same = same_lead w.After-deref-numbers in
-    let W : ℕ → Type 0 = λ n. IsLed p items now lead n r k in
-    let M : List ℤ → Type 0 = λ x. IsLed p items x lead (p.cols + 2) r k in
-    let L : List ℤ → Type 0 = λ x. IsLed p items c.take_lead-count.new.numbers x (p.cols + 2) r k in
-    subst W (sym (ap length same ∙ taken.wide)) (subst M (sym (same_numbers c)) (subst L (sym same)
-    (led p items c.take_lead-count.new.numbers c.take_lead-count.new.lead r k c.requires.row c.requires.column c.requires.table c.requires.nonzero taken)))
+pub first_wide-requires-clause-wide : goal.first_wide-requires-clause-wide
+first_wide-requires-clause-wide c =
+    let g = goal.at.first_wide-requires-clause-wide c in let a = g.After-deref-in-Some-2 in let p = c.args.p.now in
+    let S : List ℕ → Type 0 = λ x. HasWideColumn p.rows x c.in-Some.wide.row c.in-Some.wide.by c.deref-in-Some-2.result.now in
+    subst S (sym (stands_passed g.After-deref-in-Some))
+    (has_wide c.requires.laid c.args.r c.args.c c.requires.row c.requires.column c.requires.nonzero c.make_own.new.stands (moves g.After-make_own)
+    c.deref-in-Some-2.result.now c.in-Some.wide.row c.in-Some.wide.by (wide_pivot a) (mixed_long a) (stands_long g.After-make_own))
 
-owns_long : (c : After-deref) → length c.deref.result.now ≡ c.args.p.now.rows + 1
-owns_long c = ap (λ (l : List ℕ). length l) c.deref.ensures.value ∙ c.find-found.ensures.found.owns_long
+pub returns-in-Some-clause-listed : goal.returns-in-Some-clause-listed
+returns-in-Some-clause-listed c =
+    let g = goal.at.returns-in-Some-clause-listed c in let a = g.After-deref-in-Some-2 in let p = c.args.p.now in let f = c.first_wide.ensures in
+    let S : List ℕ → Type 0 = λ x. (row : ℕ → ℤ) → IsTimes c.in-Some.wide.by c.deref-in-Some-2.result.now row
+    → IsFirstWideOf (length x) (in_columns p.rows (length c.deref-in-Some-2.result.now) (slice_index x) c.in-Some.wide.row row)
+    c.first_wide.result.column c.first_wide.result.number in
+    let W : ℕ → Type 0 = λ i. IsWideAfter p (Rattle.gs_simplex.specs.Table.grid_of p c.args.self.now) c.args.r c.args.c i c.first_wide.result.column
+    c.first_wide.result.number in
+    subst W (sym f.row)
+    (wide_next c.requires.laid c.args.r c.args.c c.requires.row c.requires.column c.requires.nonzero c.make_own.new.stands (moves g.After-make_own)
+    c.deref-in-Some-2.result.now c.in-Some.wide.row c.in-Some.wide.by (wide_pivot a) (mixed_long a) c.requires.table (stands_long g.After-make_own)
+    c.first_wide.result.column c.first_wide.result.number (subst S (stands_passed g.After-deref-in-Some) f.first))
 
-pub invariant_of-lead-clause-narrow : goal.invariant_of-lead-clause-narrow
-invariant_of-lead-clause-narrow c = (led_here (goal.at.invariant_of-lead-clause-narrow c).After-deref_mut-3).narrow_lead
+-- the lists of the table after the pivot
+record IsAfter (c : After-clear) : Type 0 where
+  numbers : take c.args.self.now.numbers.len (c.clear.new.numbers ++ drop (length c.clear.new.numbers) c.args.self.now.numbers.items) ≡ c.clear.new.numbers
+  stands : take c.args.self.now.stands.len (c.make_own.new.stands ++ drop (length c.make_own.new.stands) c.args.self.now.stands.items)
+      ≡ c.make_own.new.stands
+  tops : take c.args.self.now.tops.len (c.clear.new.tops ++ drop (length c.clear.new.tops) c.args.self.now.tops.items) ≡ c.clear.new.tops
+  live : take c.args.self.now.live.len (c.live_places-found.new.live ++ drop (length c.live_places-found.new.live) c.args.self.now.live.items)
+      ≡ c.live_places-found.new.live
 
-pub invariant_of-lead-clause-own : goal.invariant_of-lead-clause-own
-invariant_of-lead-clause-own c = (led_here (goal.at.invariant_of-lead-clause-own c).After-deref_mut-3).own
+after_here : (c : After-clear) → IsAfter c
+after_here c =
+    let g = goal.at.After-clear c in let t = c.args.self.now in let new = c.clear.new.numbers in let s = c.make_own.new.stands in let tops = c.clear.new.tops in
+    let live = c.live_places-found.new.live in
+    record {
+      numbers = take_at new (drop (length new) t.numbers.items) t.numbers.len (c.clear.auto.numbers ∙ c.deref_mut-3.ensures.len);
+      stands = take_at s (drop (length s) t.stands.items) t.stands.len (stands_len g.After-make_own);
+      tops = take_at tops (drop (length tops) t.tops.items) t.tops.len (c.clear.auto.tops ∙ c.deref_mut-4.ensures.len);
+      live = take_at live (drop (length live) t.live.items) t.live.len (live_len g.After-live_places-found);
+    }
 
-pub invariant_of-lead-clause-support : goal.invariant_of-lead-clause-support
-invariant_of-lead-clause-support c =
-    let P : List ℤ → Type 0 = λ x. IsSupport c.take_lead-count.new.filled c.take_lead-count.result (length x) (at x) (at x) in
-    subst P (sym (same_lead (goal.at.invariant_of-lead-clause-support c).After-deref-numbers)) c.take_lead-count.ensures.support
+numbers_long : (c : After-clear) → take c.args.self.now.numbers.len (c.clear.new.numbers ++ drop (length c.clear.new.numbers) c.args.self.now.numbers.items)
+    ≡ c.clear.new.numbers
+    → length (take c.args.self.now.numbers.len (c.clear.new.numbers ++ drop (length c.clear.new.numbers) c.args.self.now.numbers.items))
+    ≡ length c.args.self.now.numbers.items
+numbers_long c e = ap length e ∙ c.clear.auto.numbers ∙ ap length c.deref_mut-3.ensures.value
 
-pub clear_column-requires-clause-live : goal.clear_column-requires-clause-live
-clear_column-requires-clause-live c =
-    let w = goal.at.clear_column-requires-clause-live c in
-    let p = c.args.p.now in let r = c.args.r in let found = c.find-found.result in let places = c.deref_mut-5.result.now in let owns = c.deref.result.now in
-    let width = length c.deref-numbers.result.now in let rows = cell c.deref_mut-3.result.now width in let lead = at c.deref-numbers.result.now in
-    let F : List ℕ → Type 0 = λ x. AreFoundPlaces p c.args.basis.now r x owns found in
-    let O : List ℕ → Type 0 = λ x. AreFoundPlaces p c.args.basis.now r c.find-found.new.self.places.items x found in
-    subst (λ n. IsLive places owns found n r width rows lead) (sym (owns_long w.After-deref))
-    ((led_here w.After-deref_mut-3).live c.args.basis.now places owns found c.requires.pairs c.requires.rows
-    (subst F (sym c.deref_mut-5.ensures.value) (subst O (sym c.deref.ensures.value) c.find-found.ensures.found)))
+tops_long : (c : After-clear) → length (take c.args.self.now.tops.len (c.clear.new.tops ++ drop (length c.clear.new.tops) c.args.self.now.tops.items))
+    ≡ length c.args.self.now.tops.items
+tops_long c = ap (λ (x : List ℕ). length x) (after_here c).tops ∙ c.clear.auto.tops ∙ ap (λ (x : List ℕ). length x) c.deref_mut-4.ensures.value
 
-pub clear_column-requires-clause-narrow : goal.clear_column-requires-clause-narrow
-clear_column-requires-clause-narrow c = (led_here (goal.at.clear_column-requires-clause-narrow c).After-deref_mut-3).narrow
+live_long : (c : After-clear) → length (take c.args.self.now.live.len (c.live_places-found.new.live ++ drop (length c.live_places-found.new.live)
+    c.args.self.now.live.items)) ≡ length c.args.self.now.live.items
+live_long c = ap (λ (x : List ℕ). length x) (after_here c).live ∙ c.live_places-found.auto.live ∙ ap (λ (x : List ℕ). length x) c.deref_mut-2.ensures.value
 
-pub clear_column-requires-clause-tops : goal.clear_column-requires-clause-tops
-clear_column-requires-clause-tops c = λ i h ne.
-    let w = goal.at.clear_column-requires-clause-tops c in
-    let width = length c.deref-numbers.result.now in
-    let P : List ℕ → Type 0 = λ x. IsAtMost width (cell c.deref_mut-3.result.now width i) (slice_index x i) in
-    subst P (sym c.deref_mut-6.ensures.value) ((led_here w.After-deref_mut-3).tops c.args.self.now.tops.items c.requires.tops i
-    (omega (arith, h, owns_long w.After-deref)) ne)
+-- the pivot by places, in the rows of the table after it
+done_here : (c : After-clear) → IsPivotDone c.deref_mut-3.result.now c.clear.new.numbers (length c.deref_mut-4.result.now) (vec_len c.args.self.now.room.lead)
+    c.args.r c.place_of-q.result
+    → IsPivotDone c.args.self.now.numbers.items (take c.args.self.now.numbers.len (c.clear.new.numbers ++ drop (length c.clear.new.numbers)
+    c.args.self.now.numbers.items)) (c.args.p.now.rows + 1) (vec_len c.args.self.now.room.lead) c.args.r
+    (place_in c.args.p.now.rows (vec_len c.args.self.now.room.lead) (slice_index c.args.self.now.stands.items c.args.c) c.args.r)
+done_here c h =
+    let g = goal.at.After-clear c in let e = same_rows g.After-deref_mut-4 in let t = c.args.self.now in let w = vec_len t.room.lead in
+    let k = place_in c.args.p.now.rows w (slice_index t.stands.items c.args.c) c.args.r in
+    let N : List ℤ → Type 0 = λ x. IsPivotDone t.numbers.items x (c.args.p.now.rows + 1) w c.args.r k in
+    subst N (sym (after_here c).numbers)
+    (given (λ x n q. IsPivotDone x c.clear.new.numbers n w c.args.r q) t.numbers.items c.deref_mut-3.result.now (c.args.p.now.rows + 1)
+    (length c.deref_mut-4.result.now) k c.place_of-q.result e.0 e.1 (place_is g.After-place_of-q) h)
 
-pub returns-clause-listed : goal.returns-clause-listed
-returns-clause-listed c =
-    let w = goal.at.returns-clause-listed c in
-    let p = c.args.p.now in let r = c.args.r in let k = c.args.c in let items = c.args.self.now.numbers.items in let n = c.args.self.now.numbers.len in
-    let mid = c.take_lead-count.new.numbers in let now = c.deref_mut-3.result.now in let new = c.clear_column.new.numbers in
-    let width = length c.deref-numbers.result.now in let lead = at c.deref-numbers.result.now in let res = c.clear_column.result in
-    let rest = drop (length new) (take n (mid ++ drop (length mid) items)) in
-    let long : length new ≡ n = omega (
-      arith,
-      c.clear_column.auto.numbers,
-      c.take_lead-count.auto.numbers,
-      c.deref_mut.ensures.len,
-      ap length (same_numbers
-          w.After-deref_mut-3),
-    ) in
-    let N : List ℤ → Type 0 = λ x. MatchOption res (IsTableAfter p items x r k) (λ y. IsWideAfter p items r k y.row y.column y.number) in
-    let C : ℕ → Type 0 = λ count. MatchOption res (IsCleared now new count width r k lead)
-    (λ y. IsClearedTo now count width r k lead y.row y.column y.number) in
-    subst N (sym (take_at new rest n long)) ((led_here w.After-deref_mut-3).answer new res c.clear_column.auto.numbers
-    (subst C (owns_long w.After-deref) c.clear_column.ensures.cleared))
+tops_here : (c : After-clear) → AreTops (length c.deref_mut-4.result.now) (vec_len c.args.self.now.room.lead) c.clear.new.numbers c.clear.new.tops
+    → AreTops (c.args.p.now.rows + 1) (vec_len c.args.self.now.room.lead)
+    (take c.args.self.now.numbers.len (c.clear.new.numbers ++ drop (length c.clear.new.numbers) c.args.self.now.numbers.items))
+    (take c.args.self.now.tops.len (c.clear.new.tops ++ drop (length c.clear.new.tops) c.args.self.now.tops.items))
+tops_here c h =
+    let g = goal.at.After-clear c in let e = same_rows g.After-deref_mut-4 in let w = vec_len c.args.self.now.room.lead in
+    let C : ℕ → Type 0 = λ n. AreTops n w c.clear.new.numbers c.clear.new.tops in
+    let N : List ℤ → Type 0 = λ x. AreTops (c.args.p.now.rows + 1) w x c.clear.new.tops in
+    let T : List ℕ → Type 0 = λ x. AreTops (c.args.p.now.rows + 1) w
+    (take c.args.self.now.numbers.len (c.clear.new.numbers ++ drop (length c.clear.new.numbers) c.args.self.now.numbers.items)) x in
+    subst T (sym (after_here c).tops) (subst N (sym (after_here c).numbers) (subst C e.1 h))
 
--- a fact where there is no answer, of equal lists
-tops_of : (p : Program) (res : Option WideCell) (new new' : List ℤ) (tops tops' : List ℕ) (count width : ℕ) → new' ≡ new → tops' ≡ tops → count ≡ p.rows + 1
-    → width ≡ p.cols + 2
-    → IfNone res (AreTops count width new tops) → IfNone res (HasTops p new' tops')
-tops_of p None new new' tops tops' count width en et ec ew u =
-    let C : ℕ → Type 0 = λ k. AreTops k width new tops in let W : ℕ → Type 0 = λ k. AreTops (p.rows + 1) k new tops in
-    let N : List ℤ → Type 0 = λ x. AreTops (p.rows + 1) (p.cols + 2) x tops in let T : List ℕ → Type 0 = λ x. AreTops (p.rows + 1) (p.cols + 2) new' x in
-    subst T (sym et) (subst N (sym en) (subst W ew (subst C ec u)))
-tops_of p (Some w) new new' tops tops' count width en et ec ew u = u
+pub returns-in-None-clause-laid : goal.returns-in-None-clause-laid
+returns-in-None-clause-laid c =
+    let g = goal.at.returns-in-None-clause-laid c in let a = g.After-clear in let t = c.args.self.now in
+    laid_next c.requires.laid c.args.r c.args.c c.requires.row c.requires.column c.requires.nonzero c.make_own.new.stands (moves g.After-make_own)
+    (record {
+      numbers = with_items t.numbers c.clear.new.numbers;
+      stands = with_items t.stands c.make_own.new.stands;
+      tops = with_items t.tops c.clear.new.tops;
+      room = c.clear.new.room;
+      live = with_items t.live c.live_places-found.new.live;
+    }) (after_here a).stands c.in-None.ensures.room (numbers_long a (after_here a).numbers) (live_long a) (tops_long a) (done_here a c.in-None.ensures.pivoted)
+    (tops_here a c.in-None.ensures.tops) (stands_long g.After-make_own)
 
-pub returns-clause-tops : goal.returns-clause-tops
-returns-clause-tops c =
-    let w = goal.at.returns-clause-tops c in
-    let items = c.args.self.now.numbers.items in let n = c.args.self.now.numbers.len in let mid = c.take_lead-count.new.numbers in
-    let new = c.clear_column.new.numbers in let tops = c.clear_column.new.tops in let old = c.args.self.now.tops in
-    let long : length new ≡ n = omega (
-      arith,
-      c.clear_column.auto.numbers,
-      c.take_lead-count.auto.numbers,
-      c.deref_mut.ensures.len,
-      ap length (same_numbers
-          w.After-deref_mut-3),
-    ) in
-    let same = same_lead w.After-deref-numbers in
-    tops_of c.args.p.now c.clear_column.result new (take n (new ++ drop (length new) (take n (mid ++ drop (length mid) items)))) tops
-    (take old.len (tops ++ drop (length tops) old.items)) (length c.deref.result.now) (length c.deref-numbers.result.now)
-    (take_at new (drop (length new) (take n (mid ++ drop (length mid) items))) n long)
-    (take_at tops (drop (length tops) old.items) old.len (omega (arith, c.clear_column.auto.tops, c.deref_mut-6.ensures.len)))
-    (owns_long w.After-deref) (ap length same ∙ (taken_lead w.After-take_lead-count).wide) c.clear_column.ensures.tops
-
-pub greatest-requires : goal.greatest-requires
-greatest-requires c = grind (arith, common_steps)
-
-pub take_lead-count-requires-clause-inside : goal.take_lead-count-requires-clause-inside
-take_lead-count-requires-clause-inside c = grind (arith, common_steps)
-
-pub clear_column-requires-clause-long : goal.clear_column-requires-clause-long
-clear_column-requires-clause-long c = grind (arith, common_steps)
-
-pub returns-clause-room : goal.returns-clause-room
-returns-clause-room c = grind (arith, common_steps)
-
-pub clear_column-requires-clause-few_tops : goal.clear_column-requires-clause-few_tops
-clear_column-requires-clause-few_tops c = grind (arith, common_steps)
-
-pub take_lead-count-requires-clause-narrow : goal.take_lead-count-requires-clause-narrow
-take_lead-count-requires-clause-narrow c = grind (arith, common_steps)
-
-pub invariant_of-lead-clause-bound : goal.invariant_of-lead-clause-bound
-invariant_of-lead-clause-bound c = grind (arith, common_steps)
-
-pub clear_column-requires-clause-room : goal.clear_column-requires-clause-room
-clear_column-requires-clause-room c = grind (arith, common_steps)
-
-pub way_back_following-self : goal.way_back_following-self
-way_back_following-self c = grind (arith, common_steps)
-
-pub clear_column-requires-clause-lead : goal.clear_column-requires-clause-lead
-clear_column-requires-clause-lead c = grind (arith, elements)
+pub returns-in-None-clause-listed : goal.returns-in-None-clause-listed
+returns-in-None-clause-listed c =
+    let g = goal.at.returns-in-None-clause-listed c in let a = g.After-clear in let t = c.args.self.now in
+    table_next c.requires.laid c.args.r c.args.c c.requires.row c.requires.column c.requires.nonzero c.make_own.new.stands (moves g.After-make_own)
+    (record {
+      numbers = with_items t.numbers c.clear.new.numbers;
+      stands = with_items t.stands c.make_own.new.stands;
+      tops = with_items t.tops c.clear.new.tops;
+      room = c.clear.new.room;
+      live = with_items t.live c.live_places-found.new.live;
+    }) (after_here a).stands c.in-None.ensures.room (numbers_long a (after_here a).numbers) (live_long a) (tops_long a) (done_here a c.in-None.ensures.pivoted)
+    (tops_here a c.in-None.ensures.tops) c.requires.table

@@ -1,56 +1,51 @@
-use Rattle.std.proofs.Common.{◌≡◌, ℕ, ◌+◌, ◌<◌, List, [], ◌++◌, ◌^◌, ℤ, length, slice_index, take, drop, refl, sym, ap, subst, ◌∙◌, arith}
-use Rattle.std.proofs.lemmas.Grind.{common_steps}
-use Rattle.std.proofs.lemmas.List.{take_at, get_or-replicate}
-use Rattle.gs_simplex.specs.{declared.program.Program.{Program}, Program.{IsShaped}, Numbers.{cell, AreNarrowNumbers, IsDivided}, Table.{IsTable, IsTableOf}}
-use Rattle.gs_simplex.specs.State.{IsRaw}
-use Rattle.gs_simplex.proofs.{Starts.{raw_narrow, start_table, start_rows, wide_tops}, Kept.{kept_self}}
+use Rattle.std.proofs.Common.{◌≡◌, ℕ, ◌+◌, ◌*◌, ◌≤◌, List, ◌^◌, ℤ, length, slice_index, drop, sym, ap, subst, ◌∙◌, arith}
+use Rattle.std.proofs.{lemmas.List.{take_at, get_or-replicate, length-replicate}, Math.Nat.{le-mul_of_pos_right}}
+use Rattle.gs_simplex.specs.{State.{AreRaw}, Columns.{AreStands, AreSlots}}
+use Rattle.gs_simplex.proofs.{Starts.{start_of}, Slots.{stands_given}}
+use Rattle.gs_simplex.proofs.table.Table.start.Goals.{After-give_slots-width, After-deref-3}
 use Rattle.gs_simplex.proofs.table.Table.start.Goals as goal
 
-pub divide_rows-requires-clause-narrow : goal.divide_rows-requires-clause-narrow
-divide_rows-requires-clause-narrow c =
-    let P : List ℤ → Type 0 = λ x. AreNarrowNumbers x in subst P (sym c.deref_mut.ensures.value)
-    (raw_narrow c.args.p.now c.in_ok-numbers.numbers.items c.requires.shaped c.in_ok-numbers.ensures)
+-- where the columns stand
+slots_here : (c : After-give_slots-width) → AreSlots c.args.p.now.rows (c.args.p.now.cols + 2) c.deref-2.result.now (slice_index c.in_ok-stands.stands.items)
+    (slice_index c.give_slots-width.new.stands) c.give_slots-width.result
+slots_here c =
+    let p = c.args.p.now in let new = c.give_slots-width.new.stands in let owns = c.deref-2.result.now in
+    let S : List ℕ → Type 0 = λ x. AreSlots p.rows (length x) owns (slice_index x) (slice_index new) c.give_slots-width.result in
+    let N : ℕ → Type 0 = λ n. AreSlots p.rows n owns (slice_index c.in_ok-stands.stands.items) (slice_index new) c.give_slots-width.result in
+    subst N c.in_ok-stands.ensures.long (subst S c.deref_mut.ensures.value c.give_slots-width.ensures)
 
--- the same facts of lists that are equal
-from_lists : (p : Program) (raw raw' new new' : List ℤ) (w : ℕ) → IsShaped p → IsRaw p raw → raw' ≡ raw → new' ≡ new → w ≡ p.cols + 2 → length new ≡ length raw'
-    → ((i : ℕ) → i < p.rows → IsDivided w (cell raw' w i) (cell new w i)) → ((j : ℕ) → j < w → cell new w p.rows j ≡ cell raw' w p.rows j)
-    → AreNarrowNumbers new
-    → IsTable p new' × IsTableOf p [] new'
-from_lists p raw raw' new new' w shaped u er en ew long divided last narrow =
-    let P : List ℤ → Type 0 = λ x. IsTable p x × IsTableOf p [] x in
-    let R : List ℤ → Type 0 = λ x. IsRaw p x in
-    let u' : IsRaw p raw' = subst R (sym er) u in
-    let D : ℕ → Type 0 = λ k. (i : ℕ) → i < p.rows → IsDivided k (cell raw' k i) (cell new k i) in
-    let L : ℕ → Type 0 = λ k. (j : ℕ) → j < k → cell new k p.rows j ≡ cell raw' k p.rows j in
-    subst P (sym en) (
-      start_table p raw' new shaped u' long (subst D ew divided) (subst L ew last) narrow,
-      kept_self p [] new
-          (start_rows p raw' new shaped u' long (subst D ew divided) (subst L ew last) narrow),
-    )
+slots_len : (c : After-give_slots-width) → length c.give_slots-width.new.stands ≡ c.in_ok-stands.stands.len
+slots_len c = c.give_slots-width.auto.stands ∙ c.deref_mut.ensures.len
+
+slots_long : (c : After-give_slots-width) → length c.give_slots-width.new.stands ≡ c.args.p.now.cols + 2
+slots_long c = c.give_slots-width.auto.stands ∙ ap (λ (x : List ℕ). length x) c.deref_mut.ensures.value ∙ c.in_ok-stands.ensures.long
+
+stands_here : (c : After-give_slots-width) → AreStands c.args.p.now.rows (c.give_slots-width.result + 1) (c.args.p.now.cols + 2)
+    (slice_index c.give_slots-width.new.stands)
+stands_here c =
+    let p = c.args.p.now in
+    stands_given p.rows (p.cols + 2) c.deref-2.result.now (slice_index c.in_ok-stands.stands.items) (slice_index c.give_slots-width.new.stands)
+    c.give_slots-width.result (slots_here c)
+
+same_stands : (c : After-deref-3) → c.deref-3.result.now ≡ c.give_slots-width.new.stands
+same_stands c =
+    let g = (goal.at.After-deref-3 c).After-give_slots-width in let s = c.give_slots-width.new.stands in let v = c.in_ok-stands.stands in
+    c.deref-3.ensures.value ∙ take_at s (drop (length s) v.items) v.len (slots_len g)
 
 pub returns : goal.returns
 returns c =
-    let p = c.args.p.now in let new = c.divide_rows.new.numbers in let n = c.in_ok-numbers.numbers.len in
-    let v = c.in_ok-live.ensures in
-    let long : length new ≡ n = omega (arith, c.divide_rows.auto.numbers, c.deref_mut.ensures.len) in
-    let f = from_lists p c.in_ok-numbers.numbers.items c.deref_mut.result.now new (take n (new ++ drop (length new) c.in_ok-numbers.numbers.items))
-    (p.cols + 2) c.requires.shaped c.in_ok-numbers.ensures c.deref_mut.ensures.value
-    (take_at new (drop (length new) c.in_ok-numbers.numbers.items) n long) refl c.divide_rows.auto.numbers c.divide_rows.ensures.divided
-    c.divide_rows.ensures.last c.divide_rows.ensures.narrow in
-    record {
-      room = record {
-        lead = c.in_ok-lead.ensures.len;
-        mixed = c.in_ok-mixed.ensures.len;
-        tops = c.in_ok-tops.ensures.len;
-        live =
-            record { rows = v.rows; places = v.places; owns = v.owns; filled = v.filled };
-      };
-      table = f.0;
-      rows = f.1;
-      tops = wide_tops p (take n (new ++ drop (length new) c.in_ok-numbers.numbers.items)) c.in_ok-tops.tops.items f.0
-          (λ i h. ap (λ (xs : List ℕ). slice_index xs i) (c.in_ok-tops.ensures.items_if_clones_equal (λ y e. e))
-          ∙ get_or-replicate (p.rows + 1) i (2 ^ 62) 0 h);
-    }
-
-pub divide_rows-requires-clause-long : goal.divide_rows-requires-clause-long
-divide_rows-requires-clause-long c = grind (arith, common_steps)
+    let g = goal.at.returns c in let p = c.args.p.now in let s = c.give_slots-width.new.stands in let v = c.in_ok-stands.stands in
+    let w = c.give_slots-width.result + 1 in let old = c.deref_mut-2.result.now in let new = c.divide_rows.new.numbers in
+    let own = c.in_ok-numbers.numbers in let slots = slots_here g.After-give_slots-width in
+    let small : p.rows + 1 ≤ (p.rows + 1) * (p.cols + 1) = le-mul_of_pos_right (p.rows + 1) (omega arith) in
+    let S : List ℕ → Type 0 = λ x. AreRaw p w (slice_index x) own.items in let O : List ℤ → Type 0 = λ x. AreRaw p w (slice_index s) x in
+    start_of p _ w s old new (omega (arith, slots.some)) (omega (arith, slots.few, small, c.requires.small, c.requires.small_cols))
+    (record { lead = c.in_ok-vec.ensures.len; mixed = c.in_ok-vec-2.ensures.len; filled = c.in_ok-vec-3.ensures.len })
+    (take_at new (drop (length new) own.items) own.len (c.divide_rows.auto.numbers ∙ c.deref_mut-2.ensures.len))
+    (take_at s (drop (length s) v.items) v.len (slots_len g.After-give_slots-width)) (slots_long g.After-give_slots-width) (stands_here g.After-give_slots-width)
+    (ap (λ (xs : List ℕ). length xs) (c.in_ok-live.ensures.items_if_clones_equal (λ y e. e)) ∙ length-replicate (p.cols + 4) 0)
+    (ap (λ (xs : List ℕ). length xs) (c.in_ok-tops.ensures.items_if_clones_equal (λ y e. e)) ∙ length-replicate (p.rows + 1) (2 ^ 62))
+    (λ i h. ap (λ (xs : List ℕ). slice_index xs i) (c.in_ok-tops.ensures.items_if_clones_equal (λ y e. e))
+    ∙ get_or-replicate (p.rows + 1) i (2 ^ 62) 0 h)
+    (subst O (sym c.deref_mut-2.ensures.value) (subst S (same_stands g.After-deref-3) c.in_ok-numbers.ensures))
+    c.divide_rows.auto.numbers c.divide_rows.ensures.divided c.divide_rows.ensures.last c.divide_rows.ensures.narrow
