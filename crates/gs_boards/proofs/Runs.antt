@@ -38,7 +38,8 @@ off_board worth qs board h = none_add (λ q. cond (q.board == board) (worth q) 0
 -- where no place of a board has a strength, all that is passed there has another one
 all_others : (worth : Place → ℕ) (qs : List Place) (board strength : ℕ) → All (λ q. q.board ≡ board → q.strength ≡ strength → ⊥) qs
     → board_sum worth board qs ≡ other_sum worth board strength qs
-all_others worth qs board strength h = same_add (λ q. cond (q.board == board) (worth q) 0) (λ q. cond (q.board == board) (cond (q.strength == strength) 0 (worth q)) 0)
+all_others worth qs board strength h =
+    same_add (λ q. cond (q.board == board) (worth q) 0) (λ q. cond (q.board == board) (cond (q.strength == strength) 0 (worth q)) 0)
     qs (λ i d l. one (get_or qs i d) (h i d l))
   where
     one : (q : Place) → (q.board ≡ board → q.strength ≡ strength → ⊥)

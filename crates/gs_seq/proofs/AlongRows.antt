@@ -1,6 +1,7 @@
 -- Sums along a row, each pair times the number of its class: that they are small, and what an end pays there.
 use Rattle.std.proofs.Common.{◌≡◌, ℕ, ℤ, pos, ◌+◌, ◌-◌, ◌*◌, ◌<◌, ◌≤◌, ◌^◌, List, length, get_or, ap, sym, ◌∙◌, arith, take, of_z, to_z, to_z-of_z}
-use Rattle.std.proofs.{Math.Nat.{mul-le-mul_left}, Math.IntN.{*ℤ_comm}, lemmas.Int.{fits_signed_from_abs, unsigned_abs-mul}, lemmas.List.Elements.{All-take}, lemmas.List.Sums.{get_or-le-sum_by, sum_by-take-le}}
+use Rattle.std.proofs.{Math.Nat.{mul-le-mul_left}, Math.IntN.{*ℤ_comm}, lemmas.Int.{fits_signed_from_abs, unsigned_abs-mul}}
+use Rattle.std.proofs.{lemmas.List.Elements.{All-take}, lemmas.List.Sums.{get_or-le-sum_by, sum_by-take-le}}
 use Rattle.std.specs.{Int.{w64}, Prelude.{◌+ℤ◌, ◌*ℤ◌, All, unsigned_abs}}
 use borrow.Author.Differences.{abs_is}
 use Rattle.gs_model.specs.{Frame.{end_at, round_of}, FrameFacts.{IsWalked}, Positions.{at_end}, Sums.{sum_z}}
@@ -100,8 +101,9 @@ pays_shown put numbers row =
 
 -- ---- the row of a class at an end
 
-module _ (a : Abstract) (player z c : ℕ) (row : List Pair) (u : IsAlong a player z c row) (numbers : List ℕ) (wide : end_classes (abstract_frame a) (lists_of a) z
-    ≤ length numbers) (few : AreFew (end_classes (abstract_frame a) (lists_of a) z) numbers) where
+module _ (a : Abstract) (player z c : ℕ) (row : List Pair) (u : IsAlong a player z c row) (numbers : List ℕ)
+    (wide : end_classes (abstract_frame a) (lists_of a) z ≤ length numbers)
+    (few : AreFew (end_classes (abstract_frame a) (lists_of a) z) numbers) where
   g : AreGiven (abstract_frame a) (lists_of a)
   g = given_in a
 
@@ -116,9 +118,10 @@ module _ (a : Abstract) (player z c : ℕ) (row : List Pair) (u : IsAlong a play
 
   pub row_numbers : HasNumbers numbers row
   row_numbers i d l =
-      let class = row_class (abstract_frame a) (is_table (abstract_frame a) g.in_range) (lists_of a) g.classes (round_of (abstract_frame a) (at_end z)) (w.end_round z u.inside) (w.end_in z u.inside) c row u.is_row
-      i d l in
+      let class = row_class (abstract_frame a) (is_table (abstract_frame a) g.in_range) (lists_of a) g.classes (round_of (abstract_frame a) (at_end z))
+      (w.end_round z u.inside) (w.end_in z u.inside) c row u.is_row i d l in
       (class.0, omega (arith, class.1, wide), few ((get_or row i d).two - 1) (omega (arith, class.0, class.1)))
 
   pub row_total : row_pays player (end_at (abstract_frame a) z) numbers row ≡ number_sum (abstract_frame a) (lists_of a) player numbers z c
-  row_total = row_sum (abstract_frame a) (lists_of a) player (one_or_two player u.some u.two) w z u.inside c row u.is_row g.in_range g.classes (λ e. get_or numbers (e - 1) 0)
+  row_total = row_sum (abstract_frame a) (lists_of a) player (one_or_two player u.some u.two) w z u.inside c row u.is_row g.in_range g.classes
+      (λ e. get_or numbers (e - 1) 0)

@@ -89,7 +89,8 @@ module _ (f : Frame) (r : InRange f) (lists : ClassLists) (k : IsClasses f.paren
       let in_all : p < e = omega arith in
       ⊎_elim
       (λ (is : m ≡ 0). subst (λ j. get_or xs (slot_of f lists p c j) 0 ≡ get_or xs (slot_of f lists p 1 j) 0) (sym is)
-      ((firsts p c in_all own h).came ∙ by one (λ p c m a b o h l. level n p c m a b o h l) (last_step f player (at_point p)) refl ∙ sym (firsts p 1 in_all own one).came))
+      ((firsts p c in_all own h).came ∙ by one (λ p c m a b o h l. level n p c m a b o h l) (last_step f player (at_point p)) refl
+      ∙ sym (firsts p 1 in_all own one).came))
       (λ (other : m ≡ 0 → ⊥). (firsts p c in_all own h).others m (omega arith) lm ∙ sym ((firsts p 1 in_all own one).others m (omega arith) lm))
       (cases_eq m 0)
     where

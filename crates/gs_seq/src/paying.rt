@@ -83,7 +83,8 @@ impl<'a> Abstract<'a> {
         requires wide { end_classes (abstract_frame self.now) (lists_of self.now) end ≤ length numbers.old }
         requires room { end_classes (abstract_frame self.now) (lists_of self.now) end ≤ length sums.old }
         ensures here { let f = abstract_frame self.now in let lists = lists_of self.now in
-            (c : ℕ) → IsClass lists (round_of f (at_end end)) c → get_or sums.new (c - 1) (pos 0) ≡ end_sum f lists player (class_plan f lists other.now) end c }
+            (c : ℕ) → IsClass lists (round_of f (at_end end)) c
+            → get_or sums.new (c - 1) (pos 0) ≡ end_sum f lists player (class_plan f lists other.now) end c }
         ensures behind { (i : ℕ) → end_classes (abstract_frame self.now) (lists_of self.now) end ≤ i → get_or sums.new i (pos 0) ≡ get_or sums.old i (pos 0) }
         ensures numbers { let f = abstract_frame self.now in let lists = lists_of self.now in
             AreNumbersAt f lists (other_player player) (class_plan f lists other.now) end numbers.new }

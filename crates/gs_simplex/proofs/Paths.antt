@@ -162,8 +162,8 @@ module _ {p : Program} {o l : Listing} {grid : ℕ → ℕ → ℤ} where
         );
       }
 
-  pub unbounded_stops : {e limit : ℕ} (n : ℕ) → IsPairList p l → IsSoFar p o (length o + n) l grid → IsTable p grid → n ≤ limit → Enters p l (table_aim p grid) e
-      → NoneLeaves p l (grid) e → PathStops p o limit (unbounded (e + 1))
+  pub unbounded_stops : {e limit : ℕ} (n : ℕ) → IsPairList p l → IsSoFar p o (length o + n) l grid → IsTable p grid → n ≤ limit
+      → Enters p l (table_aim p grid) e → NoneLeaves p l (grid) e → PathStops p o limit (unbounded (e + 1))
   unbounded_stops {e} {limit} n pairs u table h en none =
       let s = u.states.0 in let t = length o + n in
       let Q : Listing → Type 0 = λ x. NoneLeaves p x (s.rows t) e in

@@ -201,7 +201,8 @@ with_bases p o limit t ok shown noted =
       small = shown.small;
       path = (n, l, s, stops, record { shown = u; bases_long = omega (arith, noted.long); bases = basis });
       bases_differ = λ k h kh hl x y e.
-          let hn : h ≤ n = omega (arith, noted.long) in bases_apart p o n s ok path k h kh hn (found k x) (found h y) (basis k (omega arith) x) (basis h hn y) e;
+          let hn : h ≤ n = omega (arith, noted.long) in
+          bases_apart p o n s ok path k h kh hn (found k x) (found h y) (basis k (omega arith) x) (basis h hn y) e;
     }
 
 -- ---- the list after each pivot, made anew

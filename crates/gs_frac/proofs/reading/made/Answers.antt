@@ -8,12 +8,18 @@ use Rattle.gs_frac.proofs.reading.made.Goals as goal
 
 pub returns-then-num-ge-LIMIT : goal.returns-then-num-ge-LIMIT
 returns-then-num-ge-LIMIT c = wide c.args.negative c.args.num c.args.den
-    (elim c.then-num-ge-LIMIT.branch [ then-num-ge-LIMIT-via-then-num-ge-LIMIT w ↦ inl w.if-num-ge-LIMIT.true | then-num-ge-LIMIT-via-else-num-ge-LIMIT+then-den-ge-LIMIT w ↦ inr w.if-den-ge-LIMIT.true ])
+    (elim c.then-num-ge-LIMIT.branch [
+      | then-num-ge-LIMIT-via-then-num-ge-LIMIT w ↦ inl w.if-num-ge-LIMIT.true
+      | then-num-ge-LIMIT-via-else-num-ge-LIMIT+then-den-ge-LIMIT w ↦ inr w.if-den-ge-LIMIT.true
+    ])
 
 pub returns-then-den-eq0 : goal.returns-then-den-eq0
 returns-then-den-eq0 c =
     unreduced c.args.negative c.args.num c.args.den c.if-num-ge-LIMIT.false c.if-den-ge-LIMIT.false
-    (elim c.then-den-eq0.branch [ then-den-eq0-via-then-den-eq0 w ↦ inl w.if-den-eq0.true | then-den-eq0-via-else-den-eq0+then-gcd-ne1 w ↦ inr (λ e. w.if-gcd-ne1.true (w.gcd.ensures.value ∙ e)) ])
+    (elim c.then-den-eq0.branch [
+      | then-den-eq0-via-then-den-eq0 w ↦ inl w.if-den-eq0.true
+      | then-den-eq0-via-else-den-eq0+then-gcd-ne1 w ↦ inr (λ e. w.if-gcd-ne1.true (w.gcd.ensures.value ∙ e))
+    ])
 
 pub invariant_of-result : goal.invariant_of-result
 invariant_of-result c =

@@ -74,6 +74,7 @@ returns-in-Some c =
     let at = goal.at.returns-in-Some c in
     let is = made at.In-Some in
     let above = up at.After-index-up (there at.Start) (here at.Start) is in
-    subst (λ o. IsTrue (get_or c.args.taken.now c.index-up.result.now 0 == c.in-Some.step.choice) ↔ IsReached f lists (moves_of f lists c.args.taken.now) o (round_of f (at_point q)) c.args.class) (sym is)
+    subst (λ o. IsTrue (get_or c.args.taken.now c.index-up.result.now 0 == c.in-Some.step.choice)
+    ↔ IsReached f lists (moves_of f lists c.args.taken.now) o (round_of f (at_point q)) c.args.class) (sym is)
     (let d = Decides-eqb (get_or c.args.taken.now c.index-up.result.now 0) c.in-Some.step.choice in
     let e = ap (λ i. get_or c.args.taken.now i 0) above in (λ h. sym e ∙ d.0 h, λ h. d.1 (e ∙ h)))

@@ -2,7 +2,8 @@ use Rattle.gs_seq.proofs.Points.{length-points}
 use Rattle.std.proofs.Common.{◌≡◌, ◌+◌, ◌-◌, ◌*◌, ◌<◌, ◌≤◌, ◌^◌, length, get_or, set, ap, sym, ◌∙◌, subst, arith, ⊎_elim, get_or-set_other}
 use Rattle.std.proofs.{Math.Nat.{mul-le-mul_right}, lemmas.Bool.{cases_eq}}
 use Rattle.gs_game.specs.Games.{game_of}
-use Rattle.gs_model.specs.{Classes.{IsClass, class_count, first_member}, Frame.{last_step, move_count, round_of}, Plans.{lift, number_before}, Positions.{at_point}}
+use Rattle.gs_model.specs.{Classes.{IsClass, class_count, first_member}, Frame.{last_step, move_count, round_of}}
+use Rattle.gs_model.specs.{Plans.{lift, number_before}, Positions.{at_point}}
 use Rattle.gs_model.proofs.Ranges.{in_range}
 use Rattle.gs_seq.specs.{Firsts.{AgreeBefore, IsClear, IsFirstAt}, Games.{frame_in}, Slots.{plan_of, slots_before}, Sources.{MatchSource}}
 use Rattle.gs_seq.proofs.{Choices.{some_move}, Firsts.{first_came, first_kept, first_put, first_room, slots_own}, Leaks.{RowAt, row_at}}
@@ -48,7 +49,8 @@ classes-before-end-requires-clause-top c =
     omega (arith, r.1, (over (frame_in c.args.game.now) c.args.classes.now c.requires.parents).rounds)
 
 -- the player's last step before the point
-source : (c : In-loop-before) → MatchSource (frame_in c.args.game.now) c.args.classes.now.lists c.args.player (at_point c.args.point) c.point_source-source.result
+source : (c : In-loop-before)
+    → MatchSource (frame_in c.args.game.now) c.args.classes.now.lists c.args.player (at_point c.args.point) c.point_source-source.result
 source c = subst (λ p. MatchSource (frame_in c.args.game.now) c.args.classes.now.lists p (at_point c.args.point) c.point_source-source.result) c.requires.own
     (c.point_source-source.ensures c.args.classes.now.lists c.requires.offsets)
 

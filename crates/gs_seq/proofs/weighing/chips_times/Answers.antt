@@ -11,5 +11,10 @@ returns c =
     let both : to_z w128 (of_z w128 chips) *ℤ to_z w128 (of_z w128 sum) ≡ chips *ℤ sum =
     ap (λ z. z *ℤ to_z w128 (of_z w128 sum)) (read_back chips _ c.ranges.chips refl) ∙ ap (λ z. chips *ℤ z) (read_back sum _ c.ranges.sum refl) in
     let fits : FitsSigned w128 (chips *ℤ sum) = fits_signed_from_abs w128 (chips *ℤ sum)
-    (omega (arith, unsigned_abs-mul chips sum, c.requires.sum, mul-le (unsigned_abs chips) (unsigned_abs sum) 65535 (2 ^ 90) c.requires.chips (omega (arith, c.requires.sum)))) in
+    (omega (
+      arith,
+      unsigned_abs-mul chips sum,
+      c.requires.sum,
+      mul-le (unsigned_abs chips) (unsigned_abs sum) 65535 (2 ^ 90) c.requires.chips (omega (arith, c.requires.sum)),
+    )) in
     ap (λ z. to_z w128 (of_z w128 z)) both ∙ read_back (chips *ℤ sum) _ fits refl

@@ -23,8 +23,10 @@ returns-in-Folded2 c =
     ≡ stake c.args.player 2 c.args.end.put *ℤ sum_z (λ (p : Pair). pos (number_to c.args.numbers.now p) *ℤ pos p.weight) c.args.row.now =
     rw is (pays_folded (stake c.args.player 2 c.args.end.put) c.args.numbers.now c.args.row.now) in
     read_back c.chips_times-in-Folded2.result _ (search rules) (c.chips_times-in-Folded2.ensures
-    ∙ ap (λ z. z *ℤ to_z w128 (of_z w128 c.weights_along-in-Folded2.result)) (read_back c.stake_of-in-Folded2.result _ (search rules) c.stake_of-in-Folded2.ensures.value)
-    ∙ ap (λ z. stake c.args.player 2 c.args.end.put *ℤ z) (read_back c.weights_along-in-Folded2.result _ (search rules) c.weights_along-in-Folded2.ensures.value) ∙ sym all)
+    ∙ ap (λ z. z *ℤ to_z w128 (of_z w128 c.weights_along-in-Folded2.result))
+    (read_back c.stake_of-in-Folded2.result _ (search rules) c.stake_of-in-Folded2.ensures.value)
+    ∙ ap (λ z. stake c.args.player 2 c.args.end.put *ℤ z)
+    (read_back c.weights_along-in-Folded2.result _ (search rules) c.weights_along-in-Folded2.ensures.value) ∙ sym all)
 
 pub returns-in-Show : goal.returns-in-Show
 returns-in-Show c =

@@ -15,7 +15,8 @@ part : (c : After-times) → to_z w128 (of_z w128 c.times.result) ≡ (let p = g
     pos (number_to c.args.numbers.now p) *ℤ p.signed)
 part c =
     let p = get_or c.args.row.now c.loop-pair.pair-index no_pair in
-    read_back c.times.result _ (search rules) (c.times.ensures ∙ ap (λ z. pos c.number_of-number.result *ℤ z) (signed_kept c.args.row.now c.requires.slim c.loop-pair.pair-index no_pair c.loop-pair-test.true)
+    read_back c.times.result _ (search rules) (c.times.ensures
+    ∙ ap (λ z. pos c.number_of-number.result *ℤ z) (signed_kept c.args.row.now c.requires.slim c.loop-pair.pair-index no_pair c.loop-pair-test.true)
     ∙ ap (λ n. pos n *ℤ p.signed) c.number_of-number.ensures)
 
 pub number_of-number-requires-clause-some : goal.number_of-number-requires-clause-some
@@ -30,15 +31,16 @@ times-requires-clause-few c = omega (arith, c.number_of-number.ensures, (c.requi
 pub times-requires-clause-fits : goal.times-requires-clause-fits
 times-requires-clause-fits c =
     let p = get_or c.args.row.now c.loop-pair.pair-index no_pair in
-    subst (λ z. c.number_of-number.result * unsigned_abs z < 2 ^ 127) (sym (signed_kept c.args.row.now c.requires.slim c.loop-pair.pair-index no_pair c.loop-pair-test.true))
+    subst (λ z. c.number_of-number.result * unsigned_abs z < 2 ^ 127)
+    (sym (signed_kept c.args.row.now c.requires.slim c.loop-pair.pair-index no_pair c.loop-pair-test.true))
     (subst (λ n. n * unsigned_abs (p.signed) < 2 ^ 127) (sym c.number_of-number.ensures)
     (product_small c.args.row.now c.args.numbers.now (λ p. p.signed) c.requires.slim c.requires.numbers c.requires.slim.moderate c.loop-pair.pair-index no_pair
     c.loop-pair-test.true))
 
 pub plus-sum-requires : goal.plus-sum-requires
 plus-sum-requires c =
-    more_small c.args.row.now c.args.numbers.now (λ p. p.signed) c.requires.slim c.requires.numbers c.requires.slim.moderate c.loop-pair.pair-index no_pair c.loop-pair-test.true
-    _ _ c.loop-pair.invariant (part (goal.at.plus-sum-requires c).After-times)
+    more_small c.args.row.now c.args.numbers.now (λ p. p.signed) c.requires.slim c.requires.numbers c.requires.slim.moderate c.loop-pair.pair-index no_pair
+    c.loop-pair-test.true _ _ c.loop-pair.invariant (part (goal.at.plus-sum-requires c).After-times)
 
 pub loop-pair-preserved : goal.loop-pair-preserved
 loop-pair-preserved c = read_back c.plus-sum.result _ (search rules) (c.plus-sum.ensures

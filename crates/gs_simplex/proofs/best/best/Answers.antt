@@ -6,8 +6,8 @@ use Rattle.gs_simplex.specs.{Values.{IsRowIndex, IsColumnValue, CanValue}, Answe
 use Rattle.gs_simplex.proofs.{PairLists.{pair_list_is_list, column_decided}, Ring.{times_neg}, Multiples.{down_fraction}, Kept.{row_pos_kept, multiple_kept}}
 use Rattle.gs_simplex.proofs.best.best.Goals as goal
 
-module _ (p : Program) (l : Listing) (grid : ℕ → ℕ → ℤ) (rows rows' : List ℕ) (pairs : IsPairList p l) (held : IsTableOf p l grid) (index : IsRowIndex p l rows')
-    (same : rows ≡ rows') where
+module _ (p : Program) (l : Listing) (grid : ℕ → ℕ → ℤ) (rows rows' : List ℕ) (pairs : IsPairList p l) (held : IsTableOf p l grid)
+    (index : IsRowIndex p l rows') (same : rows ≡ rows') where
   abbrev R : ℕ → ℕ → ℤ
   R = held.rows_of.0
 

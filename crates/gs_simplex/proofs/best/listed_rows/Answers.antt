@@ -4,7 +4,10 @@ use Rattle.gs_simplex.specs.Values.{IsRowIndex}
 use Rattle.gs_simplex.proofs.best.listed_rows.Goals as goal
 
 all_zero : (n j : ℕ) → slice_index (replicate n 0) j ≡ 0
-all_zero n j = elim (cases_lt j n) [ inl h ↦ get_or-replicate n j 0 0 h | inr h ↦ get_or_past (replicate n 0) j 0 (omega (arith, length-replicate {A = ℕ} n 0)) ]
+all_zero n j = elim (cases_lt j n) [
+  | inl h ↦ get_or-replicate n j 0 0 h
+  | inr h ↦ get_or_past (replicate n 0) j 0 (omega (arith, length-replicate {A = ℕ} n 0))
+]
 
 pub returns : goal.returns
 returns c =

@@ -138,5 +138,6 @@ returns-clause-tops c =
     let new = c.clear_column-wide.new.numbers in let last = c.swap.new.self in let mixed = c.clear_column-wide.new.mixed in
     let count = length c.args.tops.now in let r = c.args.r in let q = c.args.q in let res = c.clear_column-wide.result in
     let T : ℕ → Type 0 = λ n. IfNone res (AreTops count n last c.clear_column-wide.new.tops) in
-    subst T e (tops_of old mid now new last c.clear_column-wide.new.tops count w r q res c.requires.row (omega (arith, e, c.requires.place)) u put.long put.lasts
-    put.swapped (λ x. AreRowsClearedTo mid mixed count w r q (w - 1) (at now) x.row x.by) c.clear_column-wide.ensures.cleared c.clear_column-wide.ensures.tops)
+    subst T e (tops_of old mid now new last c.clear_column-wide.new.tops count w r q res c.requires.row (omega (arith, e, c.requires.place)) u
+    put.long put.lasts put.swapped (λ x. AreRowsClearedTo mid mixed count w r q (w - 1) (at now) x.row x.by)
+    c.clear_column-wide.ensures.cleared c.clear_column-wide.ensures.tops)

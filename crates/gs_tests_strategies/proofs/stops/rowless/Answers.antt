@@ -5,7 +5,10 @@ use Rattle.gs_tests_strategies.proofs.stops.rowless.Goals as goal
 
 same_all : {X : Type 0} (xs : List X) (n : ℕ) (x : X) (j : ℕ) → xs ≡ replicate n x → slice_index_or xs j x ≡ x
 same_all xs n x j e =
-    ap (λ t. slice_index_or t j x) e ∙ elim (cases_lt j n) [ inl h ↦ get_or-replicate n j x x h | inr h ↦ get_or_past (replicate n x) j x (omega (arith, length-replicate n x)) ]
+    ap (λ t. slice_index_or t j x) e ∙ elim (cases_lt j n) [
+      | inl h ↦ get_or-replicate n j x x h
+      | inr h ↦ get_or_past (replicate n x) j x (omega (arith, length-replicate n x))
+    ]
 
 pub returns : goal.returns
 returns c =

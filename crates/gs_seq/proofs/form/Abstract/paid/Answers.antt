@@ -19,7 +19,8 @@ along c = record {
   some = c.requires.some;
   two = c.requires.two;
   inside = c.requires.end;
-  is_row = subst (λ r. IsRow (abstract_frame c.args.self.now) (lists_of c.args.self.now) r c.args.class c.row.result.now) c.end_in-at.ensures.round c.row.ensures;
+  is_row = subst (λ r. IsRow (abstract_frame c.args.self.now) (lists_of c.args.self.now) r c.args.class c.row.result.now) c.end_in-at.ensures.round
+      c.row.ensures;
 }
 
 pub row_paid-requires-clause-slim : goal.row_paid-requires-clause-slim
