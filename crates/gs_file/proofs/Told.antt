@@ -8,7 +8,7 @@ use Rattle.gs_json.specs.Steps.{◌>>=◌}
 use Rattle.gs_bet.proofs.LimitLaws.{limit_is}
 use Rattle.gs_bet.specs.Grammar.{is_tree}
 use Rattle.gs_card.proofs.DeckLaws.{sound}
-use Rattle.gs_card.specs.{DeckFaults.{fault_of as deck_fault_of}, Decks.{DeckValue, IsDeck, deck_of_texts}}
+use Rattle.gs_card.specs.{DeckFaults.{fault_of as deck_fault_of}, Decks.{IsDeck, deck_of_texts}}
 use Rattle.gs_model.specs.{Betting.{Bet}, Game.{Round as Rules, Ranking}, Outcome.{IsBonus, categories}}
 use Rattle.gs_file.specs.{Faults.{bad_version, range}, JsonLaws.{IsRoundTold, IsTold, TellsBonus}, JsonReading.{json_game_at, table_at}, Keys.{top}}
 use Rattle.gs_file.specs.Reading.{FileGame, Limit_of, Play, Round, Stated, Top, TopValues, Tree_text, bonus_at, bonus_numbers, bonus_value, copies_value}

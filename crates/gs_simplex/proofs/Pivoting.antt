@@ -5,7 +5,7 @@ use Rattle.std.proofs.Common.{ap, subst, ◌∙◌, arith}
 use Rattle.std.proofs.lemmas.{Bool.{cases_eq}, Int.{ints}, List.Edits.{Swapped}}
 use Rattle.gs_simplex.specs.{Rows.{IsNarrow}, Numbers.{at, cell, AreNarrowNumbers, IsAtMost, AreTops}}
 use Rattle.gs_simplex.specs.Columns.{IsSwapped, IsRowCleared, IsRowLed, IsLiveRow, IsLive, AreRowsCleared, AreRowsClearedTo, IsPivotDone, IsPivotWide}
-use Rattle.gs_simplex.proofs.{Ring.{times_zero}, Places.{at_most_same, row_apart, row_inside, lead_by}, Standing.{slot_freed_same, row_cleared_same}}
+use Rattle.gs_simplex.proofs.{Ring.{times_zero}, Places.{at_most_same, row_apart, lead_by}, Standing.{slot_freed_same, row_cleared_same}}
 
 -- the lead's number at the spare place is above 0 where the number that was moved there is other than 0
 pub led_own : (f lead : ℕ → ℤ) (q b w : ℕ) → b < w → IsRowLed f lead q b w → f q ≢ pos 0 → pos 0 <ℤ lead b

@@ -5,7 +5,7 @@ use Rattle.std.proofs.{lemmas.Bool.{cases_eq, cases_lt}, lemmas.List.{length-app
 use Rattle.gs_simplex.specs.{declared.program.Program.{Program}, Rows.{IsNarrow}, Program.{number, aim_of, IsShaped}, State.{raw, AreOnly}}
 use Rattle.gs_simplex.specs.Numbers.{at, cell, AreNarrowNumbers}
 use Rattle.gs_simplex.specs.Columns.{place_in, at_place, AreStands, AreSlots, IsSetRow}
-use Rattle.gs_simplex.proofs.{Places.{row_inside}, Standing.{placed, own_at, slot_at, number_inside, number_none, place_within}}
+use Rattle.gs_simplex.proofs.{Places.{row_inside}, Standing.{placed, number_inside}}
 
 -- ---- the program's rows
 module _ (p : Program) where

@@ -1,5 +1,5 @@
 -- What a turn of the refinement compares, round by round.
-use Rattle.std.specs.Prelude.{ℕ, ◌+◌, ◌-◌, ◌<◌, ◌≤◌, ◌≡◌, ◌↔◌, ℤ, Bool, true, false, List, get_or, length}
+use Rattle.std.specs.Prelude.{ℕ, ◌-◌, ◌<◌, ◌≤◌, ◌≡◌, ◌↔◌, ℤ, Bool, true, false, List, get_or, length}
 use Rattle.gs_model.specs.{Classes.{ClassLists, InOneClass, class_count, class_of, first_member, list_of}, Frame.{Frame, last_round, parents_of, signal_count}}
 use Rattle.gs_model.specs.{Lossless.{children_in, weight_with}, Numbering.{IsClassesOf}}
 use Rattle.gs_lossless.specs.{Amounts.{HaveEqualAmounts}, declared.sides.Side.{Side}}

@@ -1,5 +1,5 @@
-use Rattle.std.proofs.Common.{◌≡◌, ◌+◌, ◌<◌, ◌∙◌, ℕ, List, ap, arith, get_or, length, subst, sym}
-use Rattle.gs_model.specs.{Game.{Game, round_count}, Signals.{signals}}
+use Rattle.std.proofs.Common.{◌≡◌, ◌+◌, ◌<◌, ℕ, List, ap, arith, get_or, length, subst, sym}
+use Rattle.gs_model.specs.{Game.{Game}, Signals.{signals}}
 use Rattle.gs_tree.specs.{Trees.{rules_of}, Walk.{last_count}}
 use Rattle.gs_iso.proofs.Handed.{AreHanded, finds_more, hand_at, handed_all, handed_next}
 use Rattle.gs_iso.proofs.hands.stand_ins_by_hand.Goals as goal

@@ -1,4 +1,4 @@
-use Rattle.std.proofs.Common.{◌∙◌, List, ℕ, refl, subst, sym}
+use Rattle.std.proofs.Common.{◌∙◌, refl, subst, sym}
 use Rattle.gs_reply.specs.{Refusals.{line_of}, Replies.{Reply}}
 use Rattle.gs_words.specs.Tasks.{task_of}
 use Rattle.gs_run.proofs.Answered.{tells_refusal}

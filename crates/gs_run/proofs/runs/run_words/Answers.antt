@@ -1,4 +1,4 @@
-use Rattle.std.proofs.Common.{◌≡◌, List, ℕ, Some, map, string_bytes, rules}
+use Rattle.std.proofs.Common.{◌≡◌, Some, map, string_bytes, rules}
 use Rattle.gs_words.specs.{Requests.{request_of}, Tasks.{task_of}}
 use Rattle.gs_run.proofs.Answered.{inputs, run_of}
 use Rattle.gs_run.specs.{Asking.{reads}, Running.{Ends, ends}}

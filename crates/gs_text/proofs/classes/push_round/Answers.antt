@@ -1,4 +1,4 @@
-use Rattle.std.proofs.Common.{◌≡◌, ◌++◌, ℕ, List, [], ap, append_assoc, arith, length, string_bytes, sym, ◌∙◌}
+use Rattle.std.proofs.Common.{◌≡◌, ◌++◌, ℕ, List, ap, append_assoc, arith, length, string_bytes, sym, ◌∙◌}
 use Rattle.std.proofs.lemmas.List.{append-nil, length-map}
 use Rattle.std.specs.{Prelude.{flat_map}, List.{range_with_len, zip}}
 use Rattle.gs_model.specs.{Classes.{class_count, list_of}, Signals.{signals}}

@@ -4,7 +4,7 @@ use Rattle.std.specs.Vec.{with_items}
 use Rattle.gs_simplex.specs.{Numbers.{AreTops}}
 use Rattle.gs_simplex.specs.Columns.{place_in, in_columns, AreStands, AreStandsAfter, AreLivePlaces, IsLive, IsTimes, IsFirstWideOf, HasWideColumn}
 use Rattle.gs_simplex.specs.Columns.{IsPivotDone, IsPivotWide}
-use Rattle.gs_simplex.specs.Table.{IsHeld, IsWideAfter}
+use Rattle.gs_simplex.specs.Table.{IsWideAfter}
 use Rattle.gs_simplex.proofs.Relisting.{stands_next, live_next, laid_next, table_next, has_wide, wide_next}
 use Rattle.gs_simplex.proofs.table.Table.list.Goals.{After-make_own, After-place_of-q, After-deref, After-live_places-found, After-clear, After-deref_mut-4}
 use Rattle.gs_simplex.proofs.table.Table.list.Goals.{After-deref-in-Some, After-deref-in-Some-2}

@@ -1,6 +1,6 @@
 use Rattle.std.proofs.Common.{◌≡◌, ℕ, List, length, get_or, ap, ◌∙◌, arith}
 use Rattle.gs_game.specs.Games.{game_of}
-use Rattle.gs_model.specs.{Cards.{left_after}, Game.{Game}, Signals.{parents, signal_at, left_by}}
+use Rattle.gs_model.specs.{Cards.{left_after}, Game.{Game}, Signals.{parents, signal_at}}
 use Rattle.gs_model.proofs.Ranges.{length-parents}
 use Rattle.gs_tree.specs.{Layers.{last_seen}, Shown.{seen_of, cards_of}, declared.layer.Layer.{Layer}}
 use Rattle.gs_tree.proofs.Lookups.{layer_of, parents_of, is_child, left_step, parent_read}
