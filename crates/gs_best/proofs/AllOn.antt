@@ -1,7 +1,6 @@
 -- Weights of the plan that puts all on given moves, class by class.
 use Rattle.std.proofs.Common.{◌≡◌, ℕ, ◌+◌, ◌-◌, ◌*◌, ◌<◌, ◌≤◌, cond, List, length, get_or, set, refl, sym, ap, ◌∙◌, subst, arith, ⊎_elim, get_or-set_other}
-use Rattle.std.proofs.Common.{get_or-set_same}
-use Rattle.std.proofs.{Math.Nat.{mul-le-mul_right}, lemmas.Bool.{cases_eq}, lemmas.Bool.Decides.{Decides-eqb}}
+use Rattle.std.proofs.{Common.{get_or-set_same}, Math.Nat.{mul-le-mul_right}, lemmas.Bool.{cases_eq}, lemmas.Bool.Decides.{Decides-eqb}}
 use Rattle.std.specs.Prelude.{◌==◌}
 use Rattle.gs_model.specs.{BestAnswers.{IsBestValues, IsFirstBestPlan, Values}, Classes.{ClassLists, IsClass, IsClasses, first_member}}
 use Rattle.gs_model.specs.{Frame.{Frame, last_step, move_count, player_at, point_count, round_of}, FrameFacts.{InRange, IsWalked}}

@@ -1,9 +1,7 @@
 -- Class totals that are read from the part of a list behind a place: at later points they are those of the whole list.
-use Rattle.std.proofs.Common.{◌≡◌, ℕ, ◌+◌, ◌-◌, ◌^◌, ◌<◌, ◌≤◌, ◌++◌, List, length, get_or, refl, sym, ◌∙◌, subst, arith}
-use Rattle.std.proofs.lemmas.List.{get_or-append_right}
+use Rattle.std.proofs.{Common.{◌≡◌, ℕ, ◌+◌, ◌-◌, ◌^◌, ◌<◌, ◌≤◌, ◌++◌, List, length, get_or, refl, sym, ◌∙◌, subst, arith}, lemmas.List.{get_or-append_right}}
 use Rattle.std.specs.Prelude.{ℤ, pos, unsigned_abs, ◌≤ℤ◌, ◌<ℤ◌}
-use Rattle.gs_model.specs.{Classes.{IsClass}, Frame.{leads_to, move_count, point_count, round_of}, FrameFacts.{IsFrom}}
-use Rattle.gs_model.specs.Positions.{Target, at_end, at_point}
+use Rattle.gs_model.specs.{Classes.{IsClass}, Frame.{leads_to, move_count, point_count, round_of}, FrameFacts.{IsFrom}, Positions.{Target, at_end, at_point}}
 use Rattle.gs_seq.proofs.SlotLaws.{sum_range_le}
 use Rattle.gs_best.specs.{ClassTotals.{total_worth}, LaterRows.{AreModestFrom, later_totals}, Rows.{IsMerged}, Tables.{classes_at, start_of}}
 use Rattle.gs_best.specs.{Sides.{frame_at, lists_at, totals_at}, declared.side.Side.{Side}}

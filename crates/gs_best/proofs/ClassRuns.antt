@@ -3,9 +3,8 @@ use Rattle.std.proofs.Common.{◌≡◌, ℕ, ◌+◌, ◌-◌, ◌<◌, ◌≤�
 use Rattle.std.proofs.{lemmas.Bool.{cases_eq, cases_lt}, lemmas.Bool.Decides.{Decides-eqb}, lemmas.List.FromFn.{get_or-range_with_len, length-range_with_len}}
 use Rattle.std.proofs.lemmas.List.Sums.{get_or-le-sum_by, sum_by-le}
 use Rattle.std.specs.{Prelude.{◌==◌, All, sum_by}, List.{position_or_len}}
-use Rattle.gs_model.specs.Classes.{ClassLists, IsClass, IsClasses, class_count, class_of, first_member, list_of}
+use Rattle.gs_model.specs.{Classes.{ClassLists, IsClass, IsClasses, class_count, class_of, first_member, list_of}, Numbering.{IsNumbered, greatest}}
 use Rattle.gs_model.specs.{Frame.{Frame, ancestor, last_round, signal_count, signals_in}, FrameFacts.{InRange}, Lossless.{IsLossless}}
-use Rattle.gs_model.specs.Numbering.{IsNumbered, greatest}
 use Rattle.gs_model.proofs.{Alike.{descend_alike, keeps_from, kin_above}, Gather.{class_in, member_in}, Numbered.{occurs}, Tables.{is_table}}
 use Rattle.gs_filter.proofs.TallyLaws.{first_before, first_in, first_member_of}
 use Rattle.gs_lossless.specs.Amounts.{IsRunIn}

@@ -1,10 +1,8 @@
 -- Class totals and what moves are worth are small numbers.
 use Rattle.std.proofs.Common.{ℕ, ◌+◌, ◌*◌, ◌^◌, ◌<◌, ◌≤◌, List, cond, refl, arith}
 use Rattle.std.specs.{Prelude.{◌==◌, ℤ, pos, unsigned_abs}, List.{range_with_len}}
-use Rattle.gs_model.specs.{BestAnswers.{Values}, Classes.{IsClass, class_count}, Frame.{leads_to, move_count, point_count, round_of}}
-use Rattle.gs_model.specs.Positions.{Target, at_point}
-use Rattle.gs_model.specs.Sums.{sum_z}
-use Rattle.gs_model.specs.FrameFacts.{IsFrom, IsInside}
+use Rattle.gs_model.specs.{BestAnswers.{Values}, Classes.{IsClass, class_count}, Frame.{leads_to, move_count, point_count, round_of}, Sums.{sum_z}}
+use Rattle.gs_model.specs.{Positions.{Target, at_point}, FrameFacts.{IsFrom, IsInside}}
 use Rattle.gs_model.proofs.Basics.{product_le}
 use Rattle.gs_seq.proofs.Forms.{form_classes, form_class_few, form_in_range, form_moves}
 use Rattle.gs_best.specs.{ClassTotals.{earlier_class, total_worth}, LaterRows.{AreModestFrom}, Places.{IsFollowedFrom}}

@@ -1,9 +1,8 @@
 -- What an end is worth to a class, from the sum over its members.
 use Rattle.std.proofs.Common.{◌≡◌, ℕ, ◌<◌, ◌≤◌, sym, ap, ◌∙◌}
 use Rattle.std.specs.Prelude.{pos, ◌*ℤ◌}
-use Rattle.gs_model.specs.{BestAnswers.{end_worth}, Classes.{ClassLists, IsClass, IsClasses, class_of, class_size, first_member, list_of}}
+use Rattle.gs_model.specs.{BestAnswers.{end_worth}, Classes.{ClassLists, IsClass, IsClasses, class_of, class_size, first_member, list_of}, Positions.{at_end}}
 use Rattle.gs_model.specs.{Frame.{Frame, end_count, last_round, round_of}, FrameFacts.{InRange, IsWalked}, Lossless.{IsLossless}, Plans.{Plan, lift}}
-use Rattle.gs_model.specs.Positions.{at_end}
 use Rattle.gs_model.proofs.{ClassTotals.{class_total_is, end_total_by_pairs}, Gather.{grouping_from, known_from, member_in}, Lift.{end_alike}}
 use Rattle.gs_model.proofs.Tables.{is_table}
 use Rattle.gs_filter.proofs.TallyLaws.{first_in, first_member_of}

@@ -1,9 +1,7 @@
 -- The rows at the targets of a point's moves: they stand in their lists, and hold the class totals there.
-use Rattle.std.proofs.Common.{◌≡◌, ℕ, ◌+◌, ◌-◌, ◌<◌, ◌≤◌, ◌++◌, List, length, get_or, sym, ap, ◌∙◌, subst, arith}
-use Rattle.std.proofs.lemmas.List.{length-append}
+use Rattle.std.proofs.{Common.{◌≡◌, ℕ, ◌+◌, ◌-◌, ◌<◌, ◌≤◌, ◌++◌, List, length, get_or, sym, ap, ◌∙◌, subst, arith}, lemmas.List.{length-append}}
 use Rattle.std.specs.Prelude.{ℤ, pos, unsigned_abs}
-use Rattle.gs_model.specs.{Classes.{ClassLists, IsClass, class_count}, FrameFacts.{IsFrom}}
-use Rattle.gs_model.specs.Frame.{Frame, leads_to, move_count, point_count, round_of}
+use Rattle.gs_model.specs.{Classes.{ClassLists, IsClass, class_count}, FrameFacts.{IsFrom}, Frame.{Frame, leads_to, move_count, point_count, round_of}}
 use Rattle.gs_model.specs.Positions.{Target, at_end, at_point}
 use Rattle.gs_seq.specs.Payoffs.{end_sum}
 use Rattle.gs_seq.proofs.SlotLaws.{sum_range_le}

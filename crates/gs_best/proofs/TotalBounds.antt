@@ -1,14 +1,12 @@
 -- Class totals are small: at most the greatest payoff times the other player's total times the weight of all deals.
 use Rattle.std.proofs.Common.{◌≡◌, ◌≢◌, ℕ, zero, suc, ◌+◌, ◌-◌, ◌*◌, ◌<◌, ◌≤◌, Bool, true, false, cond, List, [], ◌∷◌, length, get_or, refl, sym, ap, ◌∙◌}
-use Rattle.std.proofs.Common.{arith, eqb, ⊎_elim, Option, Some, None}
+use Rattle.std.proofs.{Common.{arith, eqb, ⊎_elim, Option, Some, None}, lemmas.List.Elements.{All-head, All-tail}, lemmas.List.Sums.{sum_by-cons}}
 use Rattle.std.proofs.{Math.Nat.{mul-le-mul_left}, lemmas.Bool.{cases_eq}, lemmas.Bool.Decides.{Decides-eqb}, lemmas.Int.{ints, unsigned_abs-mul}}
-use Rattle.std.proofs.{lemmas.List.Elements.{All-head, All-tail}, lemmas.List.Sums.{sum_by-cons}}
 use Rattle.std.specs.{Prelude.{◌==◌, if◌then◌else◌, ℤ, pos, ◌*ℤ◌, unsigned_abs, sum_by, All}, List.{range_with_len}}
 use borrow.Author.Differences.{abs_is}
 use Rattle.gs_model.specs.{BestAnswers.{Values, end_worth}, Classes.{ClassLists, IsClass, IsClasses, class_count, class_of, classes_in, first_member}}
-use Rattle.gs_model.specs.Deals.{Deal}
+use Rattle.gs_model.specs.{Deals.{Deal}, Frame.{player_at, point_count, round_of, signal_count, signals_in, total_weight}}
 use Rattle.gs_model.specs.Frame.{Frame, ancestor, at_round, choices_at, end_count, last_round, last_step, leads_to, move_count, other_player, payoff_to}
-use Rattle.gs_model.specs.Frame.{player_at, point_count, round_of, signal_count, signals_in, total_weight}
 use Rattle.gs_model.specs.{FrameFacts.{InRange, IsFrom, IsInside, IsWalked}, Plans.{IsClassPlan, IsRawPlan, Plan, lift, number_before}}
 use Rattle.gs_model.specs.{Positions.{Step, Target, at_end, at_point}, Sums.{sum_z}}
 use Rattle.gs_model.proofs.{Alike.{keeps_from, kin_above}, ClassTotals.{end_total_by_pairs}, Deviations.{lift_is_raw_plan}, FirstBest.{sum-same_range}}

@@ -2,9 +2,8 @@
 use Rattle.std.proofs.{Common.{ℕ, ◌^◌, ◌≤◌, sym, subst, arith}, lemmas.Int.{ints, unsigned_abs-mul}}
 use Rattle.std.specs.Prelude.{ℤ, pos, ◌*ℤ◌, ◌≤ℤ◌, unsigned_abs}
 use borrow.Author.Differences.{abs_is}
-use Rattle.gs_model.specs.{BestAnswers.{IsFirstBestPlan}, Classes.{ClassLists, IsClasses}}
+use Rattle.gs_model.specs.{BestAnswers.{IsFirstBestPlan}, Classes.{ClassLists, IsClasses}, Payoff.{gain, raw_payoff}, Plans.{IsClassPlan, Plan, lift}}
 use Rattle.gs_model.specs.{Frame.{Frame}, FrameFacts.{InRange, IsExchanged, IsWalked}, Lossless.{IsLossless}}
-use Rattle.gs_model.specs.{Payoff.{gain, raw_payoff}, Plans.{IsClassPlan, Plan, lift}}
 use Rattle.gs_model.proofs.{Alike.{keeps_from}, Best.{best_holds}, Deviations.{lift_is_raw_plan, no_raw_plan_gains_more}}
 use Rattle.gs_model.proofs.{Exchange.{gain_exchange, raw_payoff_is_gain}, FirstBest.{first_best_reaches}}
 use Rattle.gs_model.proofs.{Gather.{firsts_from, holds_by, known_from, plan_by}, Tables.{is_table}, Basics.{product_le}}

@@ -4,9 +4,8 @@ use Rattle.std.proofs.{Math.Nat.{mul-div_cancel_left, mul-le-mul_left}, lemmas.B
 use Rattle.std.specs.Prelude.{ℤ, pos, negsuc, neg_ℤ, ◌*ℤ◌, ◌≤ℤ◌, ◌<ℤ◌}
 use borrow.Author.Differences.{up, down, product_is, le_out, lt_out}
 use Rattle.gs_model.specs.{BestAnswers.{IsBestValues, Values, class_worth, end_worth}, Classes.{ClassLists, IsClass, IsClasses, class_size, first_member}}
-use Rattle.gs_model.specs.Frame.{Frame, choices_at, end_count, leads_to, move_count, player_at, point_count, round_of}
+use Rattle.gs_model.specs.{Frame.{Frame, choices_at, end_count, leads_to, move_count, player_at, point_count, round_of}, Sums.{sum_z}}
 use Rattle.gs_model.specs.{FrameFacts.{InRange, IsInside, IsWalked}, Lossless.{IsLossless}, Plans.{Plan, lift}, Positions.{Target, at_end, at_point}}
-use Rattle.gs_model.specs.Sums.{sum_z}
 use Rattle.gs_model.proofs.Total.{sum_z-mul}
 use Rattle.gs_best.specs.ClassTotals.{AreFirstGreatest, IsFollowed, total_worth}
 use Rattle.gs_best.proofs.{Ranges.{sum_same}, Shares.{end_share, some_member}, Last.{IsLast, all_last, next_last}, WorthTotals.{worth_total}}

@@ -6,9 +6,8 @@ use Rattle.gs_model.specs.BestAnswers.{Values, class_worth, move_worth, spread}
 use Rattle.gs_model.specs.Classes.{ClassLists, IsClass, IsClasses, class_count, class_of, class_size, classes_in, first_member}
 use Rattle.gs_model.specs.Frame.{Frame, ancestor, last_round, leads_to, move_count, point_count, round_of, signal_count, signals_in}
 use Rattle.gs_model.specs.{FrameFacts.{InRange, IsWalked}, Lossless.{IsLossless}, Positions.{at_point}, Sums.{sum_z}}
-use Rattle.gs_model.proofs.{Alike.{kin_above}, ClassTotals.{class_size_of, class_total_is, class_total_up}, FirstBest.{sum-same_range}}
+use Rattle.gs_model.proofs.{Alike.{kin_above}, ClassTotals.{class_size_of, class_total_is, class_total_up}, FirstBest.{sum-same_range}, Total.{sum_z-same}}
 use Rattle.gs_model.proofs.{Gather.{grouping_from, member_in}, Lift.{move_alike, one_guard}, RawBound.{All-range}, Regroup.{regroup_weights}, Tables.{is_table}}
-use Rattle.gs_model.proofs.Total.{sum_z-same}
 use Rattle.gs_seq.proofs.RowLaws.{size_is}
 use Rattle.gs_best.specs.ClassTotals.{earlier_class, gathered_below, total_worth}
 use Rattle.gs_best.proofs.{Ranges.{sum_same}, Shares.{first_class}}

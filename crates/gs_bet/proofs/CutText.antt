@@ -1,15 +1,12 @@
 -- What has been read at a cut, and that each step adds its byte.
 use Rattle.std.proofs.Common.{◌≡◌, ℕ, zero, suc, ◌+◌, ◌-◌, ◌*◌, ◌/◌, ◌%◌, ◌<◌, ◌≤◌, List, [], ◌∷◌, ◌++◌, length, Result, Ok, Err, refl, sym, ap, subst, ◌∙◌}
-use Rattle.std.proofs.Common.{inl, inr, true, false, not, eqb, ltb, leb, ◌&&◌, ◌||◌, arith, append_assoc}
+use Rattle.std.proofs.{Common.{inl, inr, true, false, not, eqb, ltb, leb, ◌&&◌, ◌||◌, arith, append_assoc}, lemmas.Bool.{eqb-true, eqb-false, ne_eqb}}
 use Rattle.std.proofs.{lemmas.Fmt.{decimal_digit, decimal_step}, lemmas.List.{append-nil}}
 use Rattle.std.proofs.lemmas.Bool.{cases_Bool, false≢true, or_left, or_right, and_parts, and_from, or_parts, or_cases, not-true, leb-true, le-leb, ltb-true}
-use Rattle.std.proofs.lemmas.Bool.{eqb-true, eqb-false, ne_eqb}
 use Rattle.std.specs.Fmt.{decimal}
-use Rattle.gs_bet.specs.{declared.fault.Mistake.{Mistake}, MoveLists.{count, has_move, has_letter, push_move}}
+use Rattle.gs_bet.specs.{declared.fault.Mistake.{Mistake}, MoveLists.{count, has_move, has_letter, push_move}, Cuts.{IsCut}, Reading.{goes_on}}
 use Rattle.gs_bet.specs.Grammar.{chips_text, tree_text, moves_text, is_letter, is_player, is_sound, are_sound, is_fold}
 use Rattle.gs_bet.specs.Cuts.{Open, Cut, at_tree, at_bracket, at_letter, at_chips, at_next, whole, act_front, mark, open_text, cut_text, IsAct, IsOpen, AreOpen}
-use Rattle.gs_bet.specs.Cuts.{IsCut}
-use Rattle.gs_bet.specs.Reading.{goes_on}
 use Rattle.gs_model.specs.Betting.{Bet, Moves, act, fold, even, none, move}
 use Rattle.gs_bet.proofs.Steps.{after, is_inside, step, step_tree, step_letter, step_chips, step_next, step_then, run}
 

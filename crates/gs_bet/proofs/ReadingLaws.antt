@@ -1,7 +1,6 @@
 -- Steps of reading, as the program takes them.
 use Rattle.std.proofs.Common.{◌≡◌, ℕ, zero, suc, ◌+◌, ◌-◌, ◌<◌, ◌≤◌, List, [], ◌∷◌, ◌++◌, length, Ok, Err, refl, sym, ap, ◌∙◌, get_or, inl, inr, Bool, true}
-use Rattle.std.proofs.Common.{false, cond, eqb, ltb, ◌&&◌, ◌||◌, arith}
-use Rattle.std.proofs.lemmas.Bool.{cases_Bool, false≢true, ltb-true, ne_eqb}
+use Rattle.std.proofs.{Common.{false, cond, eqb, ltb, ◌&&◌, ◌||◌, arith}, lemmas.Bool.{cases_Bool, false≢true, ltb-true, ne_eqb}}
 use Rattle.gs_bet.specs.{declared.fault.Mistake.TheVariants.{TooDeep, Syntax}, declared.fault.Stop.{Stop}, declared.shape.Move.{Move, out-Move}}
 use Rattle.gs_bet.specs.{MoveLists.{count, push_move}, TreeView.{plain, plain_moves}}
 use Rattle.gs_bet.specs.Reading.{Read, Fails, outer_at, ◌>>=◌, player_digit, act_with, act_at, moves_at, move_at, more_at, inner_at}

@@ -4,9 +4,8 @@ use Rattle.std.proofs.Common.{true, false, cond, eqb, ltb, leb, ◌&&◌, ◌||�
 use Rattle.std.proofs.lemmas.Bool.{cases_Bool, and_parts, and_right, leb-true, lt-ltb, le-ltb, ne_eqb}
 use Rattle.gs_bet.proofs.{ReadingLaws.{more_room}, Steps.{after, is_inside, read}}
 use Rattle.gs_bet.specs.{declared.fault.Mistake.{Mistake}, declared.fault.Mistake.TheVariants.{TooDeep, Syntax}, MoveLists.{count, has_letter, push_move}}
-use Rattle.gs_bet.specs.{Grammar.{is_letter}, Cuts.{Open, Cut, at_tree, at_bracket, at_letter, at_chips, at_next, whole}}
+use Rattle.gs_bet.specs.{Grammar.{is_letter}, Cuts.{Open, Cut, at_tree, at_bracket, at_letter, at_chips, at_next, whole}, Reading.{outer_at, at_end, all_of}}
 use Rattle.gs_bet.specs.Reading.{goes_on, Read, ◌>>=◌, player_digit, expect_at, letter_at, chips_at, move_at, more_at, moves_at, inner_at, act_with, act_at}
-use Rattle.gs_bet.specs.Reading.{outer_at, at_end, all_of}
 use Rattle.gs_model.specs.Betting.{Bet, Moves, act, none, move}
 
 -- what reading a part leads to, where the whole text is read from a cut

@@ -1,8 +1,7 @@
 -- What reading all of a text says of it.
 use Rattle.std.proofs.Common.{◌≡◌, ℕ, zero, suc, ◌+◌, ◌-◌, ◌<◌, ◌≤◌, List, [], ◌∷◌, ◌++◌, length, take, Some, None, Result, Ok, Err, refl, sym, ap, subst, ◌∙◌}
-use Rattle.std.proofs.Common.{inl, inr, not, eqb, ltb, ◌&&◌, ◌||◌, arith, append_assoc}
+use Rattle.std.proofs.{Common.{inl, inr, not, eqb, ltb, ◌&&◌, ◌||◌, arith, append_assoc}, lemmas.Bool.{cases_Bool, cases_lt, lt-ltb, le-ltb, and_parts}}
 use Rattle.std.proofs.{lemmas.List.{append-nil, length-append}, Math.Seq.{take-append_seam, take-append-add}}
-use Rattle.std.proofs.lemmas.Bool.{cases_Bool, cases_lt, lt-ltb, le-ltb, and_parts}
 use Rattle.std.specs.Prelude.{slice_get, IsTrue}
 use Rattle.gs_bet.specs.{declared.fault.Mistake.{Mistake}, declared.fault.Mistake.TheVariants.{Syntax}, MoveLists.{count, has_letter}}
 use Rattle.gs_bet.specs.Grammar.{tree_text, moves_text, chips_text, is_letter, is_sound, is_fold, is_tree, BeginsTree, IsLongest}

@@ -1,6 +1,5 @@
 -- What a place is paid by what a walk has passed: what the sums of the walk give.
-use Rattle.std.proofs.Common.{◌≡◌, ◌*◌, ◌<◌, ◌≤◌, ◌∙◌, ℕ, ℤ, pos, neg_ℤ, Bool, true, false, cond, nat_lt, List, get_or, sym, ap, arith, ⊎_elim}
-use Rattle.std.proofs.Common.{sum_by}
+use Rattle.std.proofs.Common.{◌≡◌, ◌*◌, ◌<◌, ◌≤◌, ◌∙◌, ℕ, ℤ, pos, neg_ℤ, Bool, true, false, cond, nat_lt, List, get_or, sym, ap, arith, ⊎_elim, sum_by}
 use Rattle.std.proofs.{Math.IntN.{*ℤ_comm}, lemmas.Bool.{cases_eq}, lemmas.Bool.Decides.{Decides-eqb, nat_tests}, lemmas.Int.{ints}}
 use Rattle.std.specs.Prelude.{◌==◌, ◌*ℤ◌, All}
 use borrow.Author.Differences.{neg_is}

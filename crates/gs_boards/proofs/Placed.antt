@@ -1,7 +1,6 @@
 -- Places listed board by board are the places of a game in order.
 use Rattle.std.proofs.Common.{◌≡◌, ◌+◌, ◌-◌, ◌<◌, ◌≤◌, ◌∙◌, ℕ, pos, Bool, true, false, cond, count_by, nat_lt, List, [], ◌∷◌, ◌++◌, get_or, length}
-use Rattle.std.proofs.Common.{map, sum_by, refl, sym, ap, arith, ⊎_elim}
-use Rattle.std.proofs.{lemmas.Bool.{cases_eq, cases_lt, le-ltb, lt-ltb}, lemmas.Bool.Decides.{Decides-eqb}}
+use Rattle.std.proofs.{Common.{map, sum_by, refl, sym, ap, arith, ⊎_elim}, lemmas.Bool.{cases_eq, cases_lt, le-ltb, lt-ltb}, lemmas.Bool.Decides.{Decides-eqb}}
 use Rattle.std.proofs.{lemmas.List.{get_or_append_left, get_or-append_right, length-append}, lemmas.List.Elements.{All-append, All-nil, All-weaker}}
 use Rattle.std.proofs.lemmas.List.FromFn.{length-range_with_len}
 use Rattle.std.proofs.{lemmas.List.Sorted.{All-permutation, sum_by-IsPermutation}, lemmas.List.Sums.{sum_by-append, sum_by-cons}}

@@ -1,8 +1,7 @@
 -- Walks over places in order, up and down: what a walk has passed when it comes to a place.
 use Rattle.std.proofs.Common.{◌≡◌, ◌≢◌, ◌+◌, ◌-◌, ◌<◌, ◌≤◌, ◌∙◌, ℕ, ℤ, pos, Bool, true, false, cond, List, length, get_or, refl, sym, ap, subst, arith, ⊎_elim}
-use Rattle.std.proofs.Common.{sum_by, take, drop, set, get_or-set_other, get_or-set_same}
+use Rattle.std.proofs.{Common.{sum_by, take, drop, set, get_or-set_other, get_or-set_same}, lemmas.List.Sums.{sum_by-drop_more, sum_by_more}}
 use Rattle.std.proofs.{lemmas.Bool.{cases_eq, cases_lt}, lemmas.List.{drop_all, get_or-drop, get_or-take, get_or_default, length-drop, length-take}}
-use Rattle.std.proofs.lemmas.List.Sums.{sum_by-drop_more, sum_by_more}
 use Rattle.std.specs.Prelude.{◌==◌, All}
 use Rattle.gs_boards.specs.{Places.{AreApart, AreInOrder}, Runs.{HasPassed, arrived, passed_by}, declared.place.Place.{Place}}
 use Rattle.gs_boards.specs.declared.running.Running.{Running}

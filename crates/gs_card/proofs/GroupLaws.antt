@@ -1,7 +1,6 @@
 -- The listed groups are all groups of the size, and they stand in order.
 use Rattle.std.proofs.Common.{◌≡◌, ◌≢◌, ◌↔◌, ℕ, zero, suc, ◌+◌, ◌-◌, ◌<◌, ◌≤◌, List, [], ◌∷◌, map, length, get_or, refl, ap, sym, ◌∙◌, subst, arith, cond, eqb}
-use Rattle.std.proofs.Common.{true, false, ⊎_elim, slice_set, All}
-use Rattle.std.proofs.lemmas.Bool.{cases_eq, cases_lt, eq-eqb, ne_eqb, lt-ltb, le-ltb}
+use Rattle.std.proofs.{Common.{true, false, ⊎_elim, slice_set, All}, lemmas.Bool.{cases_eq, cases_lt, eq-eqb, ne_eqb, lt-ltb, le-ltb}}
 use Rattle.std.proofs.lemmas.List.{get_or-set_same, get_or-set_other, length-map, get_or-map}
 use Rattle.std.proofs.{lemmas.List.Elements.{All-contains, All-from_recursion, Contains-append_left, Contains-append_right}, lemmas.List.Sums.{sum_by-cons}}
 use Rattle.std.specs.{Prelude.{flat_map, Contains}, List.{range_with_len, AllByRecursion}, List.Sorted.{IsNonDecreasing}}

@@ -1,8 +1,7 @@
 -- The ways of taking a group, card by card.
 use Rattle.std.proofs.Common.{◌≡◌, ◌≢◌, ℕ, zero, suc, ◌+◌, ◌-◌, ◌*◌, ◌/◌, ◌^◌, ◌<◌, ◌≤◌, List, [], ◌∷◌, ◌++◌, length, take, get_or, refl, ap, sym, ◌∙◌, cond}
-use Rattle.std.proofs.Common.{eqb, arith, ⊎_elim, subst, add-one, true, false}
+use Rattle.std.proofs.{Common.{eqb, arith, ⊎_elim, subst, add-one, true, false}, Math.Nat.{mul-div_cancel, div-le_self, pow-succ'}}
 use Rattle.std.proofs.{lemmas.Bool.{cases_lt, eq-eqb, ne_eqb}, lemmas.List.{take_more}, lemmas.List.Sums.{sum_by_push}}
-use Rattle.std.proofs.Math.Nat.{mul-div_cancel, div-le_self, pow-succ'}
 use Rattle.gs_model.specs.Cards.{choose, ways, ways_from}
 use Rattle.gs_model.proofs.{Choose.{choose-zero}, Listed.{times}}
 

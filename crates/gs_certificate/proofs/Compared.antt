@@ -1,8 +1,6 @@
 -- Numbers beside each other, both times a size: nothing is divided.
-use Rattle.std.proofs.Common.{◌≡◌, ℕ, ◌<◌, ◌^◌, Bool, true, false, not, inl, inr, sym, subst, arith}
-use Rattle.std.specs.Prelude.{ℤ, pos, ◌+ℤ◌, ◌*ℤ◌, ◌≤ℤ◌, ◌<ℤ◌, T, unsigned_abs}
-use Rattle.std.specs.Int.Signed.{lt_z, lt_z_no, lt_z_yes}
-use Rattle.std.proofs.lemmas.Bool.{cases_Bool}
+use Rattle.std.proofs.{Common.{◌≡◌, ℕ, ◌<◌, ◌^◌, Bool, true, false, not, inl, inr, sym, subst, arith}, lemmas.Bool.{cases_Bool}}
+use Rattle.std.specs.{Prelude.{ℤ, pos, ◌+ℤ◌, ◌*ℤ◌, ◌≤ℤ◌, ◌<ℤ◌, T, unsigned_abs}, Int.Signed.{lt_z, lt_z_no, lt_z_yes}}
 use Rattle.std.proofs.lemmas.Int.{by_lt_z, fits_signed_from_abs, ints, to_z-of_z}
 use mir.Syntax.{w128}
 use mir.Val.{of_z, to_z}

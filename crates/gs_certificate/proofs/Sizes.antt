@@ -1,15 +1,9 @@
 -- The sizes of some classes together: no more than the signals of their round.
-use Rattle.std.proofs.Common.{◌≡◌, ℕ, zero, suc, ◌+◌, ◌<◌, ◌≤◌, false, cond, List, [], ◌∷◌, length, sym, ap, ◌∙◌, arith, ⊎_elim, count_by}
-use Rattle.std.specs.Prelude.{◌==◌, pos, ◌+ℤ◌, sum_by}
-use Rattle.std.specs.List.{range_with_len}
-use Rattle.std.proofs.lemmas.Bool.{cases_eq}
-use Rattle.std.proofs.lemmas.Bool.Decides.{Decides-eqb}
-use Rattle.std.proofs.lemmas.Int.{ints}
-use Rattle.std.proofs.lemmas.List.Sums.{sum_by-cons}
-use Rattle.gs_model.specs.Classes.{class_size, list_of}
-use Rattle.gs_model.specs.Frame.{last_round}
-use Rattle.gs_model.proofs.Basics.{not_eq, pos-injective, sum-cond, sum-same}
-use Rattle.gs_model.proofs.Regroup.{sum_z-pos}
+use Rattle.std.proofs.{Common.{◌≡◌, ℕ, zero, suc, ◌+◌, ◌<◌, ◌≤◌, false, cond, List, [], ◌∷◌, length, sym, ap, ◌∙◌, arith, ⊎_elim, count_by}, lemmas.Int.{ints}}
+use Rattle.std.specs.{Prelude.{◌==◌, pos, ◌+ℤ◌, sum_by}, List.{range_with_len}}
+use Rattle.std.proofs.{lemmas.Bool.{cases_eq}, lemmas.Bool.Decides.{Decides-eqb}, lemmas.List.Sums.{sum_by-cons}}
+use Rattle.gs_model.specs.{Classes.{class_size, list_of}, Frame.{last_round}}
+use Rattle.gs_model.proofs.{Basics.{not_eq, pos-injective, sum-cond, sum-same}, Regroup.{sum_z-pos}}
 use Rattle.gs_seq.proofs.{EndTotals.{range_more}, Forms.{form_classes, form_signals}}
 use Rattle.gs_best.specs.{Sides.{frame_at, lists_at}, declared.side.Side.{Side}}
 

@@ -2,9 +2,8 @@
 use Rattle.std.proofs.Common.{◌≡◌, ◌≤◌, ◌&&◌, List, length, Some, None, Ok, inl, inr, refl, arith, nat_le}
 use Rattle.std.proofs.lemmas.Bool.{and_parts, cases_Bool, le-ltb, leb-true}
 use Rattle.gs_game.proofs.Evenly.{neither}
-use Rattle.gs_game.specs.Money.{first_of}
+use Rattle.gs_game.specs.{Money.{first_of}, Refusals.{ranking_refusal, copies_refusal}}
 use Rattle.gs_game.specs.Refusals.{Refusal, rounds, first_refusal, card_refusal, betting_refusal, deal_refusal, rounds_refusal, private_refusal}
-use Rattle.gs_game.specs.Refusals.{ranking_refusal, copies_refusal}
 use Rattle.gs_model.specs.Game.{Game, round_count}
 use Rattle.toml.specs.Data.{Members}
 use Rattle.gs_file.specs.Reading.{FileGame, counted, file_rules}

@@ -4,9 +4,8 @@ use Rattle.toml.specs.Data.{Data, Members, as_integer, as_str, get_member}
 use Rattle.gs_json.specs.Steps.{◌>>=◌}
 use Rattle.gs_file.specs.{Faults.{bad_version, wrong_type, missing_key}, JsonForm.{version_number}, Keys.{key_in, top, top_keys}}
 use Rattle.gs_file.specs.Reading.{Top, TopValues, bonus_numbers, bonus_value, typed_at, values_at, version_at, version_of}
-use Rattle.gs_file.specs.States.{Has, HasOnly, IsList, IsNumber, IsText}
+use Rattle.gs_file.specs.{States.{Has, HasOnly, IsList, IsNumber, IsText}, declared.version.Version.{Version}, declared.version.Version.TheVariants.{One, Two}}
 use Rattle.gs_file.specs.{Tables.{only, required, tables_in, text, text_or_empty, whole_number, whole_numbers_in}, declared.form.Form.TheVariants.{File}}
-use Rattle.gs_file.specs.{declared.version.Version.{Version}, declared.version.Version.TheVariants.{One, Two}}
 use Rattle.gs_file.specs.declared.fault.Key.TheVariants as key
 use Rattle.gs_file.proofs.Stating.{IsTable, IsWhole, after, found_ok, never, numbers_are, only_ok, same_ok, tables_are}
 

@@ -1,23 +1,20 @@
 -- What the reader of game files accepts is what states a game, both ways.
 use Rattle.std.proofs.Common.{◌≡◌, ℕ, suc, ◌≤◌, ◌==◌, Bool, true, false, List, [], ◌∷◌, length, replicate, Option, Some, None, Ok, Err, ℤ, pos, codes, refl}
-use Rattle.std.proofs.Common.{sym, ap, ◌∙◌, subst, inl, inr}
-use Rattle.std.proofs.lemmas.Bool.{eq-eqb, eqb-true}
+use Rattle.std.proofs.{Common.{sym, ap, ◌∙◌, subst, inl, inr}, lemmas.Bool.{eq-eqb, eqb-true}}
 use Rattle.std.specs.{Prelude.{if◌then◌else◌}, Str.{bytes_eq, is_utf8}}
 use Rattle.toml.specs.{Data.{Data, Members, get_member}, Parse.{parse_document}}
 use Rattle.gs_card.specs.{DeckFaults.{fault_of as deck_fault_of}, Decks.{DeckValue, deck_of_texts}, declared.faults.DeckFault.{DeckFault}}
 use Rattle.gs_game.specs.Refusals.{Refusal}
 use Rattle.gs_model.specs.{Betting.{Bet}, Game.{Round as Rules, Ranking, High, Pair, Three}, Outcome.{categories}}
-use Rattle.gs_file.specs.{Faults.{range, deck, not_text, not_toml, game}, JsonForm.{ranking_text}, Keys.{key_in, top}}
+use Rattle.gs_file.specs.{Faults.{range, deck, not_text, not_toml, game}, JsonForm.{ranking_text}, Keys.{key_in, top}, Reading.{values_at}}
 use Rattle.gs_file.specs.Reading.{FileGame, Play, Tree_text, Limit_of, Round, Stated, Top, TopValues, bonus_at, counted, deck_at, deck_made, game_at, parsed_at}
 use Rattle.gs_file.specs.Reading.{ranking_at, read_at, round_table_at, round_built, round_within, stated_fields_at, utf8_text, typed_at, unless_refused}
-use Rattle.gs_file.specs.Reading.{values_at}
 use Rattle.gs_file.specs.States.{FileStates, Has, IsNumber, IsRound, OneByOne, StatesBetting, StatesBonus, StatesCopies, StatesDeck, StatesGame, StatesRound}
 use Rattle.gs_file.specs.{Tables.{each, array_items, text, within}, declared.fault.Key.{Key}, declared.form.Form.TheVariants.{File}}
 use Rattle.gs_file.specs.declared.fault.Key.TheVariants as key
-use Rattle.gs_file.proofs.RoundCounts.{counted_is}
+use Rattle.gs_file.proofs.{RoundCounts.{counted_is}, StatedRounds.{round_made_ok, round_ok, same_bytes}}
 use Rattle.gs_file.proofs.Stating.{IsTable, IsWhole, after, between, each_is, each_ok, found_ok, never, same_ok, through, within_is, within_ok}
 use Rattle.gs_file.proofs.StatedRounds.{PlayHas, PlayIn, PlayMade, RoundHas, RoundIn, RoundMade, round_in_is, round_in_ok, round_is, round_made_is}
-use Rattle.gs_file.proofs.StatedRounds.{round_made_ok, round_ok, same_bytes}
 use Rattle.gs_file.proofs.StatedTop.{BonusTyped, CopiesTyped, VersionHas, top_is, top_ok, typed_is, typed_ok}
 use Rattle.gs_game.proofs.Rules.{kept, not_refused}
 

@@ -1,7 +1,6 @@
 -- Each check of a game file as a fact on values, with no order of checks: it passes where the fact holds, and nowhere else.
 use Rattle.std.proofs.Common.{◌≡◌, ℕ, ◌+◌, ◌≤◌, ◌&&◌, Bool, true, false, List, [], ◌∷◌, Option, Some, None, Result, Ok, Err, ℤ, pos, negsuc, nat_le, refl, ap}
-use Rattle.std.proofs.Common.{subst, arith}
-use Rattle.std.proofs.lemmas.Bool.{and_parts, le-leb, leb-true}
+use Rattle.std.proofs.{Common.{subst, arith}, lemmas.Bool.{and_parts, le-leb, leb-true}}
 use Rattle.std.specs.{Prelude.{◌↔◌, if◌then◌else◌}, Option.{ok_or}}
 use Rattle.toml.specs.Data.{Data, Members, as_array, as_table, as_integer}
 use Rattle.gs_json.specs.Steps.{◌>>=◌}

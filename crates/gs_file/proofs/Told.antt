@@ -1,7 +1,6 @@
 -- What the reader accepts, in a file or in JSON, is a game that a version tells.
 use Rattle.std.proofs.Common.{◌≡◌, ℕ, zero, suc, ◌<◌, ◌≤◌, ◌==◌, Bool, true, false, List, [], ◌∷◌, length, replicate, All, Option, Some, None, Ok, Err, ℤ, pos}
-use Rattle.std.proofs.Common.{negsuc, refl, sym, ap, ◌∙◌, subst, arith}
-use Rattle.std.proofs.{lemmas.Bool.{eqb-true}, lemmas.List.Elements.{All-cons, All-nil}}
+use Rattle.std.proofs.{Common.{negsuc, refl, sym, ap, ◌∙◌, subst, arith}, lemmas.Bool.{eqb-true}, lemmas.List.Elements.{All-cons, All-nil}}
 use Rattle.std.specs.Prelude.{IsTrue, if◌then◌else◌}
 use Rattle.toml.specs.Data.{Data, Members}
 use Rattle.gs_json.specs.Steps.{◌>>=◌}
@@ -12,15 +11,12 @@ use Rattle.gs_card.specs.{DeckFaults.{fault_of as deck_fault_of}, Decks.{IsDeck,
 use Rattle.gs_model.specs.{Betting.{Bet}, Game.{Round as Rules, Ranking}, Outcome.{IsBonus, categories}}
 use Rattle.gs_file.specs.{Faults.{bad_version, range}, JsonLaws.{IsRoundTold, IsTold, TellsBonus}, JsonReading.{json_game_at, table_at}, Keys.{top}}
 use Rattle.gs_file.specs.Reading.{FileGame, Limit_of, Play, Round, Stated, Top, TopValues, Tree_text, bonus_at, bonus_numbers, bonus_value, copies_value}
-use Rattle.gs_file.specs.Reading.{counted, deck_at, game_at, parsed_at, ranking_at, read_at, round_table_at, round_built, round_within}
-use Rattle.gs_file.specs.Reading.{stated_fields_at}
-use Rattle.gs_file.specs.Reading.{utf8_text, typed_at, values_at, version_at, version_of}
+use Rattle.gs_file.specs.Reading.{counted, deck_at, game_at, parsed_at, ranking_at, read_at, round_table_at, round_built, round_within, stated_fields_at}
+use Rattle.gs_file.specs.{Reading.{utf8_text, typed_at, values_at, version_at, version_of}, declared.version.Version.TheVariants.{One, Two}}
 use Rattle.gs_file.specs.{States.{OneByOne}, Tables.{each, only, required, tables_in, text, text_or_empty, whole_number, within}, Keys.{top_keys}}
 use Rattle.gs_file.specs.{declared.form.Form.{Form}, declared.form.Form.TheVariants.{File, Json}, declared.version.Version.{Version}}
-use Rattle.gs_file.specs.declared.version.Version.TheVariants.{One, Two}
 use Rattle.gs_file.specs.declared.fault.Key.TheVariants as key
-use Rattle.gs_file.proofs.States.{deck_ok, lawful_ok}
-use Rattle.gs_file.proofs.Stating.{after, each_ok, never, same_ok, through, within_ok}
+use Rattle.gs_file.proofs.{States.{deck_ok, lawful_ok}, Stating.{after, each_ok, never, same_ok, through, within_ok}}
 use Rattle.gs_file.proofs.StatedRounds.{PlayIn, PlayMade, RoundIn, RoundMade, round_in_ok, round_made_ok}
 use Rattle.serde_json.specs.Data as json
 use Rattle.gs_game.proofs.Rules.{kept}

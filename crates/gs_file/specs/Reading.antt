@@ -1,19 +1,17 @@
 -- What a game file or a JSON value states, or the first check that fails. The checks are made in this order. Source: this project's game files and
 -- strategy files.
 use Rattle.std.specs.Prelude.{ℕ, zero, suc, ℤ, pos, ◌-◌, ◌==◌, ◌||◌, Bool, true, false, List, Option, Some, None, is_some, Result, Ok, Err, codes, length}
-use Rattle.std.specs.Prelude.{replicate, nat_lt, if◌then◌else◌}
-use Rattle.std.specs.{Option.{ok_or}, Str.{bytes_eq, is_utf8}}
+use Rattle.std.specs.{Prelude.{replicate, nat_lt, if◌then◌else◌}, Option.{ok_or}, Str.{bytes_eq, is_utf8}}
 use Rattle.toml.specs.{Parse.{parse_document}, Data.{Data, Members, get_member}}
 use Rattle.gs_bet.specs.{Faults.{mistake_fault as tree_fault_of}, Limit.{limit_bet}, Reading.{Read, all_of}}
 use Rattle.gs_card.specs.{DeckFaults.{fault_of as deck_fault_of}, Decks.{DeckValue, deck_of_texts}, declared.faults.DeckFault.{DeckFault}}
 use Rattle.gs_game.specs.Refusals.{first_refusal, rounds as rounds_refused, Refusal}
 use Rattle.gs_json.specs.Steps.{◌>>=◌}
 use Rattle.gs_model.specs.{Betting.{Bet}, Game.{Game, Round as RoundRules, Ranking, High, Pair, Three}, Outcome.{categories}}
-use Rattle.gs_file.specs.Faults.{Fault, not_text, not_toml, bad_version, range, deck, tree_text, game}
+use Rattle.gs_file.specs.{Faults.{Fault, not_text, not_toml, bad_version, range, deck, tree_text, game}, declared.version.Version.TheVariants.{One, Two}}
 use Rattle.gs_file.specs.Keys.{top, within_round, top_keys, tree_keys, limit_keys, key_text}
 use Rattle.gs_file.specs.{Tables.{required, only, whole_number, text, text_or_empty, tables_in, whole_numbers_in, each, within}, declared.fault.Key.{Key}}
 use Rattle.gs_file.specs.{declared.form.Form.{Form}, declared.form.Form.TheVariants.{File, Json}, declared.version.Version.{Version}}
-use Rattle.gs_file.specs.declared.version.Version.TheVariants.{One, Two}
 use Rattle.gs_file.specs.declared.fault.Key.TheVariants as key
 
 -- ---- the text

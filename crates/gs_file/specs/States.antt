@@ -7,8 +7,7 @@ use Rattle.gs_card.specs.{DeckFaults.{fault_of as deck_fault_of}, Decks.{DeckVal
 use Rattle.gs_game.specs.Rules.{KeepsRules}
 use Rattle.gs_model.specs.{Betting.{Bet}, Game.{Round, Ranking}, Outcome.{categories}}
 use Rattle.gs_file.specs.{JsonForm.{ranking_text}, Keys.{key_in, has_only, top_keys, tree_keys, limit_keys}, Reading.{FileGame, file_rules}}
-use Rattle.gs_file.specs.Tables.{array_items}
-use Rattle.gs_file.specs.{TreeTexts.{IsTreeText}, declared.fault.Key.{Key}, declared.form.Form.TheVariants.{File}}
+use Rattle.gs_file.specs.{Tables.{array_items}, TreeTexts.{IsTreeText}, declared.fault.Key.{Key}, declared.form.Form.TheVariants.{File}}
 use Rattle.gs_file.specs.declared.version.Version.TheVariants.{One, Two}
 use Rattle.gs_file.specs.declared.fault.Key.TheVariants as key
 

@@ -1,11 +1,9 @@
 -- One more number, and the sizes and first members of the classes.
 use Rattle.std.proofs.Common.{◌≡◌, ◌≢◌, ◌==◌, ◌+◌, ◌-◌, ◌<◌, ◌≤◌, ◌++◌, ℕ, Bool, true, false, cond, List, [], ◌∷◌, map, length, take, sym, ◌∙◌, ap, subst}
-use Rattle.std.proofs.Common.{get_or, set, arith, ⊎_elim, count_by, refl, true≢false, below_more}
-use Rattle.std.proofs.lemmas.Bool.{cases_eq, cases_lt, ne_eqb, eq-eqb, eqb-true, cond-true, cond-false}
+use Rattle.std.proofs.{Common.{get_or, set, arith, ⊎_elim, count_by, refl, true≢false, below_more}, lemmas.List.{get_or-map}}
+use Rattle.std.proofs.{lemmas.Bool.{cases_eq, cases_lt, ne_eqb, eq-eqb, eqb-true, cond-true, cond-false}, lemmas.List.Folds.{position_or_len_push}}
 use Rattle.std.proofs.lemmas.List.{same_lists, get_or-take, take-take, length-take-le, get_or-set_same, get_or-set_other, length-set, take_more}
-use Rattle.std.proofs.lemmas.List.{get_or-map}
 use Rattle.std.proofs.lemmas.List.FromFn.{length-map-range_with_len, get_or-map-range_with_len, map-range_with_len_more}
-use Rattle.std.proofs.lemmas.List.Folds.{position_or_len_push}
 use Rattle.std.proofs.lemmas.List.Sums.{position_or_len_is, fails_before_first, sum_by_push, sum_by-cons, count_by-le-length, passes_at_first}
 use Rattle.std.specs.List.{range_with_len, position_or_len}
 use Rattle.gs_model.specs.{Numbering.{greatest, IsNumbered}, Classes.{ClassLists, list_of}}

@@ -1,7 +1,6 @@
 -- The fraction that two parts make.
 use Rattle.std.proofs.Common.{◌≡◌, ℕ, zero, suc, ◌^◌, ◌<◌, ◌≤◌, min, pos, List, Ok, Err, Bool, true, false, cond, eqb, ltb, ◌&&◌, inl, inr, ◌⊎◌, refl, sym, ◌∙◌}
-use Rattle.std.proofs.Common.{arith}
-use Rattle.std.proofs.lemmas.Bool.{cases_Bool, cases_eq, cases_lt, and_right, lt-ltb, le-ltb, eq-eqb, ne_eqb}
+use Rattle.std.proofs.{Common.{arith}, lemmas.Bool.{cases_Bool, cases_eq, cases_lt, and_right, lt-ltb, le-ltb, eq-eqb, ne_eqb}}
 use Rattle.std.specs.{Prelude.{IsTrue}, Int.RustNames.{unsigned_abs}, Str.Parse.{digits_value}}
 use Rattle.gs_frac.specs.{declared.fault.FracFault.TheVariants.{NotFraction, TooWide, NotReduced}, Gcd.{gcd_of}}
 use Rattle.gs_frac.specs.Texts.{limit, is_fraction, is_numeral, number_with_sign, reduced_fraction, fraction_between}

@@ -4,9 +4,8 @@ use Rattle.std.proofs.Common.{ltb, ◌&&◌, inl, inr, refl, sym, ap, subst, ◌
 use Rattle.std.proofs.lemmas.Bool.{cases_Bool, cases_lt, and_parts, lt-ltb, le-ltb, ltb-true, ne_eqb, eqb-true, false≢true}
 use Rattle.std.specs.{Prelude.{IsTrue, IfOk, option_map}, Fmt.{decimal, signed_decimal}, Str.{all_ascii_digits}, Str.Parse.{digits_value}}
 use Rattle.std.specs.Char.{is_ascii_digit}
-use Rattle.gs_frac.specs.{declared.value.Fraction.{Fraction}, declared.fault.FracFault.{FracFault}, Gcd.{gcd_of}}
+use Rattle.gs_frac.specs.{declared.value.Fraction.{Fraction}, declared.fault.FracFault.{FracFault}, Gcd.{gcd_of}, Texts.{fraction_from, fraction_of}}
 use Rattle.gs_frac.specs.Texts.{fraction_text, is_numeral, sides, signed, limit, is_fraction, number_with_sign, reduced_fraction, fraction_between}
-use Rattle.gs_frac.specs.Texts.{fraction_from, fraction_of}
 use Rattle.gs_frac.specs.Views.{Gives}
 use Rattle.gs_frac.proofs.{Numerals.{decimal_of_value, numeral_of_decimal, digits_of_decimal, digit_in}, Made.{reduces}}
 

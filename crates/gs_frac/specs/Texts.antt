@@ -1,7 +1,6 @@
 -- The texts of fractions.
 use Rattle.std.specs.Prelude.{ℕ, ◌^◌, ℤ, pos, negsuc, neg_ℤ, Bool, true, false, ◌&&◌, ◌==◌, nat_lt, if◌then◌else◌, List, [], ◌∷◌, ◌++◌, length, Option, Some}
-use Rattle.std.specs.Prelude.{None, Result, Ok, Err, codes, option_map, unsigned_abs}
-use Rattle.std.specs.{Fmt.{signed_decimal}, Str.{all_ascii_digits}, Str.Parse.{digits_value}}
+use Rattle.std.specs.{Prelude.{None, Result, Ok, Err, codes, option_map, unsigned_abs}, Fmt.{signed_decimal}, Str.{all_ascii_digits}, Str.Parse.{digits_value}}
 use Rattle.gs_frac.specs.{declared.fault.FracFault.{FracFault}, declared.fault.FracFault.TheVariants.{NotFraction, TooWide, NotReduced}, Gcd.{gcd_of}}
 
 -- `num/den`

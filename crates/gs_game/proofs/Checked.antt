@@ -4,17 +4,14 @@ use Rattle.std.proofs.{lemmas.Bool.{cases_Bool, cases_eq, ltb-false}, lemmas.Lis
 use Rattle.std.proofs.Math.Nat.{mul-le-mul_left}
 use Rattle.std.specs.{Prelude.{Option, Some, None, All}, List.{AllByRecursion}}
 use Rattle.gs_card.specs.Rankings.{ranking_of}
-use Rattle.gs_model.specs.{Deals.{deals}, Frame.{frame_of, total_weight, trees_of}}
+use Rattle.gs_model.specs.{Deals.{deals}, Frame.{frame_of, total_weight, trees_of}, Walk.{walk, walk_start, walk_rounds}, Numbering.{greatest}}
 use Rattle.gs_model.specs.{Game.{Game as Rules, Round as RoundRules, Ranking, High, Pair, Three, round_count}, Outcome.{IsBonus, categories}, Signals.{signals}}
-use Rattle.gs_model.specs.{Walk.{walk, walk_start, walk_rounds}, Numbering.{greatest}}
 use Rattle.gs_game.specs.{declared.faults.GameFault.{GameFault}, declared.game.Game.{Game}, declared.game.Round.{Round}, declared.positions.Point.{Point}}
-use Rattle.gs_game.specs.{declared.positions.End.{End}, declared.positions.Target.{Target as StoredTarget}, FaultOf.{IsFaultOf}}
+use Rattle.gs_game.specs.{declared.positions.End.{End}, declared.positions.Target.{Target as StoredTarget}, FaultOf.{IsFaultOf}, Money.{first_of, most_in}}
 use Rattle.gs_game.specs.{Games.{HasFewCards, game_of, round_rules, plain_trees}, Limits.{IsDealable, IsWithinLimits}, Lines.{RoundsFollow}}
-use Rattle.gs_game.specs.Money.{first_of, most_in}
 use Rattle.gs_game.specs.Refusals.{put_too_large, too_many_lines, too_heavy, too_many_signals, too_many_deals, card_refusal, betting_refusal, even_refusal}
 use Rattle.gs_game.specs.Refusals.{uneven_refusal, put_refusal, lines_refusal, deal_refusal, weight_refusal, signals_from, signals_refusal, deals_refusal}
-use Rattle.gs_game.specs.Refusals.{first_refusal}
-use Rattle.gs_game.specs.{Valid.{IsWalkOf}, Walks.{Grows, RoundsWalkable}}
+use Rattle.gs_game.specs.{Refusals.{first_refusal}, Valid.{IsWalkOf}, Walks.{Grows, RoundsWalkable}}
 use Rattle.gs_model.proofs.Basics.{some, some-none}
 use Rattle.gs_game.proofs.{DealChecks.{cards_pass}, Deciding.{fault_first, fault_second, trees_are, ends_are}, Evenly.{neither}, PointBound.{few_points}}
 

@@ -1,8 +1,7 @@
 -- The loop that counts sequences of groups.
 use Rattle.std.proofs.Common.{◌≡◌, ℕ, zero, suc, ◌+◌, ◌-◌, ◌<◌, ◌≤◌, ◌≢◌, cond, List, [], ◌∷◌, map, length, sum_by, refl, ap, ◌∙◌, true, false, Bool, drop, sym}
-use Rattle.std.proofs.Common.{arith, slice_set, slice_index, nat_lt, count_by}
+use Rattle.std.proofs.{Common.{arith, slice_set, slice_index, nat_lt, count_by}, Math.ListN.{drop_of_length-le}, Math.Seq.{drop-cons}}
 use Rattle.std.proofs.{lemmas.Bool.{lt-ltb}, lemmas.List.Sums.{sum_by-append, sum_by-cons}, lemmas.List.{get_or-set_same, set-get_or}}
-use Rattle.std.proofs.{Math.ListN.{drop_of_length-le}, Math.Seq.{drop-cons}}
 use Rattle.std.specs.{Prelude.{◌==◌, flat_map}, List.{range_with_len}}
 use Rattle.gs_model.proofs.{GroupSteps.{set-set}, Basics.{count-head, count-past}}
 use Rattle.gs_model.specs.Cards.{groups_above, groups_with, left_from, left_after}

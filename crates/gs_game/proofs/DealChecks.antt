@@ -1,7 +1,6 @@
 -- The tests of signals and deals.
 use Rattle.std.proofs.Common.{◌≡◌, ℕ, zero, suc, ◌+◌, ◌*◌, ◌<◌, ◌≤◌, min, true, false, nat_lt, List, [], ◌∷◌, ◌++◌, map, length, take, sum, refl, sym, ap, ◌∙◌}
-use Rattle.std.proofs.Common.{inl, inr, arith, length-append}
-use Rattle.std.proofs.lemmas.Bool.{cases_Bool, and_parts, leb-true, eqb-true, eqb-false, lt-ltb, le-ltb}
+use Rattle.std.proofs.{Common.{inl, inr, arith, length-append}, lemmas.Bool.{cases_Bool, and_parts, leb-true, eqb-true, eqb-false, lt-ltb, le-ltb}}
 use Rattle.std.proofs.{lemmas.List.Elements.{recursion_from_All, All-from_recursion}, lemmas.List.Sums.{sum_by-cons, sum_by-append, sum_by-le}}
 use Rattle.std.proofs.lemmas.List.{length-map}
 use Rattle.std.specs.{Prelude.{Some, None, All, ◌==◌, ◌&&◌, nat_le}, List.{AllByRecursion}}
@@ -10,10 +9,9 @@ use Rattle.gs_model.specs.{Game.{Game as Rules, Round as RoundRules, Ranking, Hi
 use Rattle.gs_card.specs.Rankings.{ranking_of}
 use Rattle.gs_model.proofs.Basics.{every-append, some, some-none}
 use Rattle.gs_game.specs.{declared.game.Game.{Game}, declared.game.Round.{Round}, declared.faults.GameFault.{GameFault}, FaultOf.{IsFaultOf}}
-use Rattle.gs_game.specs.{Games.{HasFewCards, game_of, round_rules}, Money.{first_of}}
+use Rattle.gs_game.specs.{Games.{HasFewCards, game_of, round_rules}, Money.{first_of}, Refusals.{signals_refusal, deals_refusal, deal_refusal}}
 use Rattle.gs_game.specs.Refusals.{rounds, no_private, ranking_cards, too_heavy, too_many_signals, too_many_deals, own_card_total, public_card_total, ranks}
 use Rattle.gs_game.specs.Refusals.{rounds_refusal, private_refusal, ranking_refusal, copies_refusal, card_refusal, weight_refusal, signals_from}
-use Rattle.gs_game.specs.Refusals.{signals_refusal, deals_refusal, deal_refusal}
 use Rattle.gs_game.specs.Sequences.{count_sequences, draws, seen_sizes, privates, deal_sizes}
 use Rattle.gs_game.proofs.{Deciding.{fault_first, fault_second}, Evenly.{neither}, Sequencing.{signals_counted, deals_counted, weight_drawn}}
 

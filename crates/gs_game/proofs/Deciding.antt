@@ -4,9 +4,8 @@ use Rattle.std.proofs.lemmas.Bool.{lt-ltb, le-ltb}
 use Rattle.std.specs.Prelude.{Option, Some, None, nat_lt, Result, Ok, Err, MatchResult}
 use Rattle.gs_model.specs.{Betting.{Bet}, Frame.{trees_of}, Game.{Round as RoundRules}, Walk.{walk, walk_start}, Numbering.{greatest}}
 use Rattle.gs_game.specs.{declared.faults.GameFault.{GameFault}, declared.game.Game.{Game}, declared.game.Round.{Round}, FaultOf.{IsFaultOf}, Counts.{ends_in}}
-use Rattle.gs_game.specs.{Games.{round_rules, game_of, plain_trees}, Money.{first_of, most_in}}
+use Rattle.gs_game.specs.{Games.{round_rules, game_of, plain_trees}, Money.{first_of, most_in}, Refusals.{betting_refusal}}
 use Rattle.gs_game.specs.Refusals.{Refusal, put_too_large, too_many_lines, no_even_from, uneven_from, even_refusal, uneven_refusal, put_refusal, lines_refusal}
-use Rattle.gs_game.specs.Refusals.{betting_refusal}
 use Rattle.gs_game.specs.declared.faults.GameFault.TheVariants as faults
 use Rattle.gs_game.proofs.EndLaws.{rounds_count}
 

@@ -8,10 +8,9 @@ use Rattle.gs_game.specs.Money.{first_of, has_even, most_in, one_after, two_afte
 use Rattle.gs_game.specs.Refusals.{Refusal, betting_refusal, card_refusal, copies_refusal, deal_refusal, deals_refusal, even_refusal, first_refusal}
 use Rattle.gs_game.specs.Refusals.{lines_refusal, no_even_from, own_card_total, private_refusal, public_card_total, put_refusal, ranking_refusal, ranks}
 use Rattle.gs_game.specs.Refusals.{rounds_refusal, signals_from, signals_refusal, uneven_from, uneven_refusal, weight_refusal}
-use Rattle.gs_game.specs.Refusals.{rounds, no_private, no_even, uneven, too_many_signals}
+use Rattle.gs_game.specs.{Refusals.{rounds, no_private, no_even, uneven, too_many_signals}, Rules.{AreLevel, EachLevel, GoOn, IsLevel, KeepsRules}}
 use Rattle.gs_model.specs.{Betting.{Bet, Moves, act, fold, even, none, move}, Deals.{deals}, Frame.{frame_of, total_weight, trees_of}}
 use Rattle.gs_model.specs.{Game.{Game, round_at, round_count}, Numbering.{greatest}, Signals.{signals}, Walk.{walk}}
-use Rattle.gs_game.specs.Rules.{AreLevel, EachLevel, GoOn, IsLevel, KeepsRules}
 
 -- ---- tests and refusals
 

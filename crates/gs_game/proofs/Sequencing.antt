@@ -1,7 +1,6 @@
 -- Signals and deals, counted and weighed as sequences of groups.
 use Rattle.std.proofs.Common.{◌≡◌, ℕ, zero, suc, ◌+◌, ◌-◌, ◌*◌, ◌<◌, ◌≤◌, List, [], ◌∷◌, ◌++◌, map, length, get_or, take, sum, ℤ, refl, sym, ap, ◌∙◌, arith}
-use Rattle.std.proofs.Common.{append_assoc}
-use Rattle.std.proofs.lemmas.List.{append-nil, take_all, take_more}
+use Rattle.std.proofs.{Common.{append_assoc}, lemmas.List.{append-nil, take_all, take_more}}
 use Rattle.std.specs.{Prelude.{filter, ◌==◌}, List.{range_with_len, AllByRecursion}}
 use Rattle.gs_model.specs.{Cards.{groups, ways, left_after}, Deals.{Deal, deals, path_weight}, Frame.{frame_of, total_weight}}
 use Rattle.gs_model.specs.{Game.{Game, Round, round_at, round_count}, Signals.{Seen, Signal, children, edge, left_by, showings, signal_at, signals}}
@@ -9,9 +8,8 @@ use Rattle.gs_model.specs.{ViewTree.{facing, signal_outcome}, Betting.{even}}
 use Rattle.gs_model.proofs.{Ranges.{deals-below, every-flat_map}, Facing.{deals_are_facing}, Basics.{every-map, every-weaker, every-range, every-any}}
 use Rattle.gs_model.proofs.Listed.{left_by-push}
 use Rattle.gs_game.specs.Sequences.{count_sequences, draws, seen_sizes, privates, deal_sizes}
-use Rattle.gs_game.proofs.GroupDraws.{all_ways, leaves_sum}
+use Rattle.gs_game.proofs.{GroupDraws.{all_ways, leaves_sum}, Totals.{total-keys}}
 use Rattle.gs_game.proofs.Totals.{total, sum-total, total-same, total-same_every, total-map, total-flat_map, total-times, total-length, total-places}
-use Rattle.gs_game.proofs.Totals.{total-keys}
 
 -- sequences of groups, each group with a weight by what is left before it
 abbrev pub sequences : (List ℕ → List ℕ → ℕ) → List ℕ → List ℕ → ℕ

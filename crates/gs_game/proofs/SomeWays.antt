@@ -4,10 +4,9 @@ use Rattle.std.proofs.{lemmas.Bool.{cases_Bool, ltb-false}, lemmas.List.{take-ap
 use Rattle.std.specs.Prelude.{Some, None}
 use Rattle.gs_model.specs.{Cards.{choose}, Game.{Game, Round}}
 use Rattle.gs_model.proofs.{Basics.{product_positive}, Fits.{choose-some}}
-use Rattle.gs_game.specs.{GoingOn.{cards_shown, own_cards_of, ways_on}, Money.{first_of}}
+use Rattle.gs_game.specs.{GoingOn.{cards_shown, own_cards_of, ways_on}, Money.{first_of}, Sequences.{deal_sizes, draws, privates, seen_sizes}}
 use Rattle.gs_game.specs.Refusals.{betting_refusal, card_refusal, copies_refusal, deal_refusal, first_refusal, not_enough_cards, own_card_total}
 use Rattle.gs_game.specs.Refusals.{private_refusal, public_card_total, ranking_refusal, rounds_refusal}
-use Rattle.gs_game.specs.Sequences.{deal_sizes, draws, privates, seen_sizes}
 use Rattle.gs_game.proofs.Evenly.{neither}
 
 some_draws : (n : ℕ) (ks : List ℕ) → sum ks ≤ n → 0 < draws n ks

@@ -1,7 +1,6 @@
 -- Sums of numbers over lists.
 use Rattle.std.proofs.Common.{◌≡◌, ℕ, zero, suc, ◌+◌, ◌*◌, ◌<◌, ◌≤◌, List, [], ◌∷◌, ◌++◌, map, length, get_or, sum_by, refl, sym, ap, arith, inl, inr, cond}
-use Rattle.std.proofs.Common.{eqb}
-use Rattle.std.proofs.{lemmas.Bool.{cases_eq, eq-eqb, ne_eqb}, lemmas.List.Sums.{sum_by-cons}}
+use Rattle.std.proofs.{Common.{eqb}, lemmas.Bool.{cases_eq, eq-eqb, ne_eqb}, lemmas.List.Sums.{sum_by-cons}}
 use Rattle.std.specs.{Prelude.{flat_map, filter, ◌==◌}, List.{range_with_len, AllByRecursion}}
 
 -- the same as sum_by, by recursion on the list

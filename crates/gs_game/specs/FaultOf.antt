@@ -1,8 +1,7 @@
 -- Which refusal a fault of the program is.
 use Rattle.std.specs.Prelude.{◌≡◌, Option, Some}
-use Rattle.gs_game.specs.declared.faults.GameFault.{GameFault}
+use Rattle.gs_game.specs.{declared.faults.GameFault.{GameFault}, Refusals.{too_many_signals, too_many_deals}}
 use Rattle.gs_game.specs.Refusals.{Refusal, rounds, no_private, ranking_cards, not_enough_cards, no_even, uneven, put_too_large, too_many_lines, too_heavy}
-use Rattle.gs_game.specs.Refusals.{too_many_signals, too_many_deals}
 use Rattle.gs_game.specs.declared.faults.GameFault.TheVariants as faults
 
 -- the fault is this refusal, with its numbers; running out of memory may be returned at any point

@@ -4,8 +4,7 @@ use Rattle.gs_file.specs.Reading.{FileGame}
 use Rattle.gs_frac.specs.Texts.{number_line}
 use Rattle.gs_model.specs.Classes.{ClassLists}
 use Rattle.gs_reply.specs.Replies.{Reply, Prints, Refuses}
-use Rattle.gs_simplex.specs.{Program.{Listing}, declared.program.Program.{Program}, Trace.{IsShown}, declared.answer.Path.{Path}}
-use Rattle.gs_simplex.specs.declared.answer.Turn.{Turn}
+use Rattle.gs_simplex.specs.{Program.{Listing}, declared.program.Program.{Program}, Trace.{IsShown}, declared.answer.Path.{Path}, declared.answer.Turn.{Turn}}
 use Rattle.gs_solve.specs.Solutions.{IsGamePath, most_pivots}
 use Rattle.gs_strategy.specs.{Values.{file_frame}, Views.{parts_of}}
 use Rattle.gs_game_commands.specs.Solving.{SaysStopped}

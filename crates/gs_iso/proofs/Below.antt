@@ -1,7 +1,6 @@
 -- From the numbers of a round to those of the round before, and from the classes of a round to those of the next.
 use Rattle.std.proofs.Common.{◌≡◌, ◌↔◌, ℕ, zero, suc, ◌+◌, ◌-◌, ◌<◌, ◌≤◌, List, [], ◌∷◌, ◌++◌, length, map, take, drop, get_or, refl, sym, ap, ◌∙◌, subst}
-use Rattle.std.proofs.Common.{arith}
-use Rattle.std.proofs.lemmas.List.{get_or-drop, length-drop, take_more}
+use Rattle.std.proofs.{Common.{arith}, lemmas.List.{get_or-drop, length-drop, take_more}}
 use Rattle.std.proofs.{lemmas.List.FromFn.{get_or-range_with_len, length-range_with_len, map-range_with_len_more}, lemmas.List.Sorted.{IsPermutation-sym}}
 use Rattle.std.specs.List.{All, range_with_len, slice_range}
 use Rattle.gs_model.specs.{Game.{Game, round_at, round_count}, Isomorphism.{Isomorphic, IsomorphicFor, Matched}, Numbering.{IsClassesOf}}

@@ -1,7 +1,6 @@
 -- Classes by first sight of a key are the classes of equal keys.
 use Rattle.std.proofs.Common.{◌≡◌, ◌↔◌, ℕ, ◌+◌, ◌-◌, ◌<◌, ◌≤◌, List, [], ◌∷◌, ◌++◌, length, get_or, refl, sym, ap, ◌∙◌, subst, arith, Bool, true, false, cond}
-use Rattle.std.proofs.Common.{max, Some, ⊎_elim, length-append}
-use Rattle.std.proofs.{lemmas.Bool.{cases_eq}, lemmas.Option.{slice_get_within}, lemmas.Grind.{elements}}
+use Rattle.std.proofs.{Common.{max, Some, ⊎_elim, length-append}, lemmas.Bool.{cases_eq}, lemmas.Option.{slice_get_within}, lemmas.Grind.{elements}}
 use Rattle.std.specs.{Bool.{Decides}, List.{IsDistinct, slice_get, list_any}}
 use Rattle.indexmap.specs.IndexSet.{insert_key}
 use Rattle.gs_model.specs.Numbering.{IsClassesOf, greatest}

@@ -1,11 +1,8 @@
 -- Signals with the same public cards, the same own cards and the same strength see the same deals.
-use Rattle.std.proofs.Common.{◌≡◌, ℕ, ◌+◌, ◌*◌, ◌-◌, ◌<◌, ◌≤◌, ℤ, List, [], ◌∷◌, length, map, get_or, refl, sym, ap, ◌∙◌, subst, arith}
-use Rattle.std.proofs.Common.{Bool, true, false, cond, nat_lt, suc, ◌++◌, ⊎_elim, length-append}
-use Rattle.std.proofs.{lemmas.Bool.{cases_eq}, lemmas.List.{get_or_append_left}}
-use Rattle.std.proofs.Common.{Option, Some, None}
-use Rattle.std.specs.Option.{unwrap_or}
+use Rattle.std.proofs.Common.{◌≡◌, ℕ, ◌+◌, ◌*◌, ◌-◌, ◌<◌, ◌≤◌, ℤ, List, [], ◌∷◌, length, map, get_or, refl, sym, ap, ◌∙◌, subst, arith, Option, Some, None}
+use Rattle.std.proofs.{Common.{Bool, true, false, cond, nat_lt, suc, ◌++◌, ⊎_elim, length-append}, lemmas.Bool.{cases_eq}, lemmas.List.{get_or_append_left}}
+use Rattle.std.specs.{Option.{unwrap_or}, HashMap.{HashMap, get}, declared.hash.BuildHasherDefault.{BuildHasherDefault}, declared.hash.FoldHasher.{FoldHasher}}
 use Rattle.std.proofs.lemmas.List.Sorted.{IsPermutation-refl}
-use Rattle.std.specs.{HashMap.{HashMap, get}, declared.hash.BuildHasherDefault.{BuildHasherDefault}, declared.hash.FoldHasher.{FoldHasher}}
 use Rattle.std.specs.{Prelude.{min, ◌&&◌}, List.{enumerate_from}, List.Sorted.{IsPermutation}, Int.{bit_at}}
 use Rattle.gs_game.proofs.Ways.{Single, single_after, ways_one}
 use Rattle.gs_lossless.specs.Alike.{AreAlike, AreStandIns, seen, seen_by}

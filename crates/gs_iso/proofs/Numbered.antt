@@ -1,8 +1,7 @@
 -- Numbers in order of first occurrence: equal numbers are equal keys.
 use Rattle.std.proofs.Common.{◌≡◌, ◌↔◌, ℕ, zero, suc, ◌+◌, ◌-◌, ◌<◌, ◌≤◌, List, [], ◌∷◌, ◌++◌, length, get_or, refl, sym, ap, ◌∙◌, subst, arith, Bool, true}
-use Rattle.std.proofs.Common.{false, cond, true≢false, Some, Vec, Global, ⊎_elim, length-append}
+use Rattle.std.proofs.{Common.{false, cond, true≢false, Some, Vec, Global, ⊎_elim, length-append}, lemmas.List.{get_or_read}}
 use Rattle.std.proofs.{lemmas.Bool.{cases_eq}, lemmas.Slice.Eq.{slice_eq-Decides}, lemmas.Map.Keys.{IsDistinct-head, IsDistinct-tail}, lemmas.Grind.{elements}}
-use Rattle.std.proofs.lemmas.List.{get_or_read}
 use Rattle.std.specs.{List.{AllByRecursion, IsDistinct, find, list_any, slice_get}, Bool.{Decides}}
 use lib.Pointwise.{pointwise}
 use Rattle.indexmap.specs.IndexSet.{insert_key}

@@ -1,15 +1,13 @@
 -- A pairing of equal parts is one of isomorphic children, and none is none.
 use Rattle.std.proofs.Common.{◌≡◌, ◌↔◌, ℕ, ℤ, pos, suc, ◌+◌, ◌<◌, ◌^◌, List, [], ◌∷◌, ◌==◌, ◌/◌, length, map, drop, get_or, refl, sym, ap, ◌∙◌, subst, arith}
-use Rattle.std.proofs.Common.{Bool, true, not, Option, None, Some}
-use Rattle.std.proofs.{lemmas.List.{length-map}, lemmas.List.Filters.{length-filter_both}}
+use Rattle.std.proofs.{Common.{Bool, true, not, Option, None, Some}, lemmas.List.{length-map}, lemmas.List.Filters.{length-filter_both}}
 use Rattle.std.proofs.lemmas.List.FromFn.{get_or-map-range_with_len, length-map-range_with_len}
 use Rattle.std.specs.{Prelude.{MatchOption}, List.{filter, range_with_len}}
 use Rattle.gs_game.specs.Limits.{IsWithinLimits}
 use Rattle.gs_model.specs.{Deals.{Deal, deals, path_weight}, Game.{Game, Round, round_at, round_count}, Isomorphism.{IsomorphicFor, Matched}}
 use Rattle.gs_model.specs.{Signals.{Signal, child_count, children, first_child, last_edge, signal_at, signals}, ViewTree.{leaves}}
 use Rattle.gs_model.proofs.{Children.{children-run}, Facing.{leaves_are_deals}, Basics.{drop-all}, SingleCards.{rounds_after, children_within}}
-use Rattle.gs_iso.specs.Numbers.{IsNumbering, child_part}
-use Rattle.gs_iso.specs.Pairings.{IsPaired, IsPairedFor, IsPairingAnswer, IsPairingFor, IsPairingOf}
+use Rattle.gs_iso.specs.{Numbers.{IsNumbering, child_part}, Pairings.{IsPaired, IsPairedFor, IsPairingAnswer, IsPairingFor, IsPairingOf}}
 use Rattle.gs_iso.proofs.{Exact.{leaf_eq, child_eq, child_exact, leaf_exact, pairs}, Pairs.{matched_from_pairing, pairing_from_matched, pairing_like}}
 
 -- a bijection with its places, or none

@@ -1,7 +1,6 @@
 -- Matchings of equal members, pairings and bijections.
 use Rattle.std.proofs.Common.{◌≡◌, ℕ, ◌+◌, ◌<◌, ◌==◌, ◌||◌, List, [], ◌∷◌, ◌++◌, length, map, get_or, refl, sym, ap, ◌∙◌, subst, arith, Bool, true, false}
-use Rattle.std.proofs.Common.{true≢false, cond, eqb, IsPermutation, length-append, ⊎_elim}
-use Rattle.std.proofs.{lemmas.Bool.{cases_eq}, lemmas.Bool.Decides.{Decides-eqb}}
+use Rattle.std.proofs.{Common.{true≢false, cond, eqb, IsPermutation, length-append, ⊎_elim}, lemmas.Bool.{cases_eq}, lemmas.Bool.Decides.{Decides-eqb}}
 use Rattle.std.proofs.lemmas.List.{get_or-map, get_or_default, get_or_push, get_or_read, length-map, same_lists}
 use Rattle.std.proofs.{lemmas.List.Elements.{All-push, AllZip-get_or, length_all_zip}, lemmas.List.Folds.{Any-from_list_any, list_any-append, list_any_at}}
 use Rattle.std.proofs.lemmas.List.FromFn.{get_or-map-range_with_len, length-map-range_with_len, length-range_with_len, get_or-range_with_len}

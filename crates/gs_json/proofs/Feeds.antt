@@ -6,8 +6,7 @@ use Rattle.json.specs.Token as Token
 use Rattle.json.specs.Print.{escape_byte, escape, quoted, token_text}
 use Rattle.json.proofs.Printed.Strings.{escape_byte_plain}
 use Rattle.serde_json.specs.Data.{Num, unsigned, negative, float, Data, null, boolean, number, string, array, object, Items, no_items, item, Members}
-use Rattle.serde_json.specs.Data.{no_members, member}
-use Rattle.serde_json.specs.Written.{compact_text, items_text, members_text, number_text, comma_if}
+use Rattle.serde_json.specs.{Data.{no_members, member}, Written.{compact_text, items_text, members_text, number_text, comma_if}}
 use Rattle.gs_json.specs.{Canonical.{IsWholeNumber, IsCanonical, ItemsAreCanonical, MembersAreCanonical}, FirstLine.{first_line}, Lines.{line_text}}
 
 -- the byte is no line feed, and none of the bytes is

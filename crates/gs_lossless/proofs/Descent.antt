@@ -4,9 +4,8 @@ use Rattle.std.proofs.{lemmas.List.Sums.{get_or-le-sum_by}, lemmas.List.{length-
 use Rattle.std.specs.Prelude.{All, flat_map}
 use Rattle.gs_game.specs.{Games.{game_of, round_rules}, Limits.{IsWithinLimits}, declared.valid.ValidGame.{ValidGame}}
 use Rattle.gs_game.proofs.Playable.{is_playable}
-use Rattle.gs_model.specs.{Frame.{ancestor, ancestor_up, at_round, frame_of, last_round, signal_count}, Deals.{Deal, deals}}
+use Rattle.gs_model.specs.{Frame.{ancestor, ancestor_up, at_round, frame_of, last_round, signal_count}, Deals.{Deal, deals}, Classes.{class_of, list_of}}
 use Rattle.gs_model.specs.{Game.{Game, IsPlayable, round_at, round_count}, Signals.{Signal, child_count, children, first_child, parents, signals}}
-use Rattle.gs_model.specs.Classes.{class_of, list_of}
 use Rattle.gs_model.proofs.{Children.{child-only}, Known.{Tabled}, Ranges.{in_range, length-flat_map_map, parents_at, signal_count_is}, Tables.{is_table}}
 use Rattle.gs_model.proofs.Walked.{last_round_of}
 use Rattle.gs_tree.specs.{Trees.{rules_of}, declared.signals.Signals.{Signals}}

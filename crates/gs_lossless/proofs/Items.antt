@@ -1,8 +1,7 @@
 -- The first items with their marks.
 use Rattle.std.proofs.Common.{◌≡◌, ◌⊎◌, ◌≤◌, ◌<◌, ◌+◌, ◌∙◌, ℕ, zero, suc, List, [], ◌∷◌, get_or, length, replicate, set, refl, sym, ap, subst, below_more}
-use Rattle.std.proofs.Common.{arith, ⊎_elim, length-set}
+use Rattle.std.proofs.{Common.{arith, ⊎_elim, length-set}, lemmas.List.Sorted.{IsPermutation-refl, IsPermutation-sym, IsPermutation-trans}}
 use Rattle.std.proofs.{lemmas.Bool.{cases_eq, cases_lt}, lemmas.List.{get_or-replicate, get_or-set_other, get_or-set_same, length-replicate}}
-use Rattle.std.proofs.lemmas.List.Sorted.{IsPermutation-refl, IsPermutation-sym, IsPermutation-trans}
 use Rattle.gs_model.specs.Game.{Game}
 use Rattle.gs_tree.specs.Walk.{last_count}
 use Rattle.gs_lossless.specs.{Alike.{AreAlike, AreStandIns, seen}, Firsts.{AreFirsts, AreAlikeMarks}}

@@ -1,10 +1,7 @@
 -- Marks of signals.
 use Rattle.std.proofs.Common.{◌≡◌, ◌⊎◌, ◌≤◌, ◌<◌, ◌∙◌, ℕ, Bool, List, ◌++◌, get_or, length, replicate, set, take, drop, inl, inr, refl, sym, ap, subst, arith}
-use Rattle.std.proofs.Common.{⊎_elim, length-set}
-use Rattle.std.proofs.lemmas.Bool.{cases_eq}
+use Rattle.std.proofs.{Common.{⊎_elim, length-set}, lemmas.Bool.{cases_eq}, lemmas.List.{length-replicate, take_all}, lemmas.List.Elements.{All-push}}
 use Rattle.std.proofs.lemmas.List.{append-nil, drop_all, get_or-replicate, get_or-set_other, get_or-set_same, get_or_default, get_or-map, length-map}
-use Rattle.std.proofs.lemmas.List.{length-replicate, take_all}
-use Rattle.std.proofs.lemmas.List.Elements.{All-push}
 use Rattle.std.specs.{Global.{Vec}, HashMap.{HashMap}, List.{All}, List.Sorted.{IsPermutation}, declared.hash.BuildHasherDefault.{BuildHasherDefault}}
 use Rattle.std.specs.declared.hash.FoldHasher.{FoldHasher}
 use Rattle.gs_model.specs.Game.{Game}

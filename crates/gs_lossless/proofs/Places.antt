@@ -1,7 +1,6 @@
 -- Signals of one level and key, on boards with the same hands, are alike.
 use Rattle.std.proofs.Common.{◌≡◌, ◌+◌, ◌*◌, ◌/◌, ◌%◌, ◌<◌, ◌≤◌, ◌∙◌, ℕ, ℤ, zero, suc, Bool, true, false, cond, eqb, nat_lt, List, ◌∷◌, get_or, map, refl, sym}
-use Rattle.std.proofs.Common.{ap, subst, arith}
-use Rattle.std.proofs.{lemmas.List.{ext_get_or, get_or-map, length-map}, lemmas.Nat.{div-mul-add, mod-mul-add}}
+use Rattle.std.proofs.{Common.{ap, subst, arith}, lemmas.List.{ext_get_or, get_or-map, length-map}, lemmas.Nat.{div-mul-add, mod-mul-add}}
 use Rattle.std.proofs.lemmas.List.Sorted.{IsPermutation-map, IsPermutation-sym, IsPermutation-trans, sum_by-IsPermutation}
 use Rattle.std.specs.{Prelude.{◌&&◌, filter, length}, List.{range_with_len}, List.Sorted.{IsPermutation}}
 use Rattle.gs_model.specs.{Deals.{Deal}, Game.{Game, round_count}, Outcome.{outcome}, Signals.{signal_at}, ViewTree.{signal_strength}}

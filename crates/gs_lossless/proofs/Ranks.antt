@@ -1,8 +1,7 @@
 -- Ranks in ascending numbers; ranks on a board tell outcomes where each bonus is 1, and strengths do everywhere.
 use Rattle.std.proofs.Common.{◌≡◌, ◌+◌, ◌<◌, ◌≤◌, ◌∙◌, ℕ, ℤ, zero, suc, Bool, true, false, cond, nat_lt, List, [], ◌∷◌, get_or, length, map, pos, neg_ℤ, refl}
-use Rattle.std.proofs.Common.{sym, ap, subst, arith, ⊎_elim}
+use Rattle.std.proofs.{Common.{sym, ap, subst, arith, ⊎_elim}, lemmas.List.Sums.{sum_by-cons}}
 use Rattle.std.proofs.{lemmas.Bool.{cases_lt, lt-ltb, ltb-true}, lemmas.List.{get_or-map, length-map}, lemmas.List.Sorted.{sum_by-IsPermutation}}
-use Rattle.std.proofs.lemmas.List.Sums.{sum_by-cons}
 use Rattle.std.specs.{Prelude.{filter, slice_index}, List.{All, range_with_len}, List.Sorted.{IsNonDecreasing, IsPermutation}}
 use Rattle.gs_model.specs.{Game.{Game, Ranking, round_count}, Outcome.{IsBonus, categories, category, outcome}, Signals.{signal_at, signals}}
 use Rattle.gs_model.specs.ViewTree.{signal_outcome, signal_strength}

@@ -10,8 +10,7 @@ use Rattle.gs_model.specs.{Game.{Game, round_count}, Lossless.{Alike, IsFirstUnl
 use Rattle.gs_model.proofs.{Ranges.{signal_count_is}, Walked.{last_round_of}}
 use Rattle.gs_lossless.specs.Amounts.{HaveEqualAmounts, AgreesWithFirst, AreAmounts, AreSideFirsts, HasSide}
 use Rattle.gs_lossless.specs.{Scans.{AgreeBelow, AreFirstsKept, IsFirstApart, IsFirstKept}, Stops.{AreAlikeBelow, IsChildrenApart, MatchUnlike}}
-use Rattle.gs_lossless.specs.{declared.parts.Part.{Part}, declared.sides.Side.{Side}}
-use Rattle.gs_lossless.specs.declared.sides.Side.TheVariants.{Deals, Children}
+use Rattle.gs_lossless.specs.{declared.parts.Part.{Part}, declared.sides.Side.{Side}, declared.sides.Side.TheVariants.{Deals, Children}}
 use Rattle.gs_lossless.proofs.{Descent.{list_long}, Settled.{agree_children, agree_deals, alike_from, not_lossless, over, singles}}
 
 pub side_in : (f : Frame) (side : Side) (round : ℕ) → HasSide f side round → (0 < round) × (round ≤ last_round f)

@@ -1,7 +1,6 @@
 -- The signals on a board.
 use Rattle.std.proofs.Common.{◌≡◌, ◌+◌, ◌<◌, ◌≤◌, ◌∙◌, ℕ, zero, suc, Bool, true, false, cond, eqb, nat_lt, List, [], ◌∷◌, get_or, length, map, refl, sym, ap}
-use Rattle.std.proofs.Common.{subst, arith}
-use Rattle.std.proofs.{lemmas.List.{get_or-map, length-map, map-id}, lemmas.Simd.{map-map}}
+use Rattle.std.proofs.{Common.{subst, arith}, lemmas.List.{get_or-map, length-map, map-id}, lemmas.Simd.{map-map}}
 use Rattle.std.proofs.{lemmas.List.Elements.{All-cons, All-head, All-map, All-nil, All-tail, All-weaker}, lemmas.List.FromFn.{length-range_with_len}}
 use Rattle.std.proofs.lemmas.List.Sorted.{All-permutation, IsPermutation-map, length_permutation, sum_by-IsPermutation}
 use Rattle.std.proofs.lemmas.List.Sums.{count_by-le-length, length-filter}

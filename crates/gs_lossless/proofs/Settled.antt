@@ -1,8 +1,7 @@
 -- From agreement with first members to lossless classes, and back.
 use Rattle.std.proofs.Common.{◌≡◌, ℕ, ℤ, pos, zero, suc, ◌+◌, ◌-◌, ◌<◌, ◌≤◌, Bool, true, false, cond, List, [], ◌∷◌, length, get_or, refl, sym, ap, ◌∙◌, subst}
-use Rattle.std.proofs.Common.{arith, ⊎_elim, count_by, true≢false, Result, Ok, Err}
+use Rattle.std.proofs.{Common.{arith, ⊎_elim, count_by, true≢false, Result, Ok, Err}, lemmas.List.Sums.{get_or-le-sum_by, passes_at_first, sum_by-cons}}
 use Rattle.std.proofs.{lemmas.Bool.{cases_lt}, lemmas.Bool.Decides.{Decides-eqb}, lemmas.List.{get_or_past}, lemmas.List.FromFn.{get_or-range_with_len}}
-use Rattle.std.proofs.lemmas.List.Sums.{get_or-le-sum_by, passes_at_first, sum_by-cons}
 use Rattle.std.specs.{Prelude.{◌==◌, IfOk}, List.{position_or_len}, Ordering.{int_eq}}
 use Rattle.gs_filter.specs.Filter.{Filter, single_classes}
 use Rattle.gs_filter.proofs.{ClassLaws.{single_at}, TallyLaws.{first_before}}
@@ -12,8 +11,7 @@ use Rattle.gs_model.specs.Lossless.{Alike, IsFirstUnlike, IsLossless, children_i
 use Rattle.gs_model.proofs.{Alike.{fair_everywhere, fair_from_outcomes, keeps_from}, Gather.{firsts_from}, Tables.{is_table}}
 use Rattle.gs_model.proofs.Unlike.{single_signals_are_lossless, unlike_is_not_lossless}
 use Rattle.gs_lossless.specs.{Amounts.{HaveEqualAmounts, AgreesWithFirst, AreAmounts, amount}, Sums.{sum_at}, declared.parts.Part.{Part}}
-use Rattle.gs_lossless.specs.declared.sides.Side.{Side}
-use Rattle.gs_lossless.specs.declared.sides.Side.TheVariants.{Deals, Children}
+use Rattle.gs_lossless.specs.{declared.sides.Side.{Side}, declared.sides.Side.TheVariants.{Deals, Children}}
 use Rattle.gs_lossless.proofs.Merge.{one_list}
 
 pub if_ok : {T E : Type 0} (r : Result T E) (P Q : T → Type 0) → ((x : T) → P x → Q x) → IfOk r P → IfOk r Q

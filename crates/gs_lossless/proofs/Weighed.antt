@@ -1,8 +1,7 @@
 -- What the parts of a signal add up to, by class and outcome.
 use Rattle.std.proofs.Common.{◌≡◌, ℕ, ℤ, pos, zero, suc, ◌+◌, ◌-◌, ◌<◌, ◌≤◌, Bool, true, false, cond, ltb, List, [], ◌∷◌, map, get_or, refl, sym, ap, ◌∙◌}
-use Rattle.std.proofs.Common.{arith, sum_by}
+use Rattle.std.proofs.{Common.{arith, sum_by}, lemmas.List.Elements.{All-filter, All-from_recursion, recursion_from_All}}
 use Rattle.std.proofs.{lemmas.Bool.Decides.{Decides-eqb, nat_tests, same_from_decides}, lemmas.Grind.{flat_map-append}, lemmas.List.{append-nil}}
-use Rattle.std.proofs.lemmas.List.Elements.{All-filter, All-from_recursion, recursion_from_All}
 use Rattle.std.proofs.lemmas.List.FromFn.{get_or-map-range_with_len, length-map-range_with_len}
 use Rattle.std.proofs.lemmas.List.Sums.{sum_by-append, sum_by-cons, sum_by-le, sum_by-le-sum_by}
 use Rattle.std.specs.{Prelude.{All, filter, flat_map, ◌==◌}, List.{AllByRecursion, range_with_len}, Ordering.{int_eq}}

@@ -2,8 +2,7 @@
 use Rattle.std.specs.Prelude.{ℕ, ◌≡◌, ◌==◌, Bool, true, false, List, cond, map, nat_lt, slice_index, sum_by, ℤ, pos, neg_ℤ}
 use Rattle.gs_model.specs.Game.{Game}
 use Rattle.gs_tree.specs.{Boards.{signals_on}, Plain.{IsPlain}}
-use Rattle.gs_lossless.specs.{Boards.{PaysOnce, strengths_of}, declared.parts.Part.{Part}}
-use Rattle.gs_lossless.specs.{declared.rivals.Rival.{Rival}, declared.rivals.Table.{Table}}
+use Rattle.gs_lossless.specs.{Boards.{PaysOnce, strengths_of}, declared.parts.Part.{Part}, declared.rivals.Rival.{Rival}, declared.rivals.Table.{Table}}
 
 -- a last-round signal as a rival: its key, and the strength of its hand
 abbrev pub rival_of : Game → List ℕ → ℕ → Rival

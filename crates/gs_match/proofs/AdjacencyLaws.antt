@@ -1,7 +1,6 @@
 -- Adjacency lists, an edge at a time.
 use Rattle.std.proofs.Common.{◌≡◌, ◌≢◌, ◌+◌, ◌<◌, ◌++◌, ◌==◌, ℕ, suc, Bool, true, false, cond, ◌||◌, List, [], ◌∷◌, length, get_or, set, sym, ◌∙◌, ap, subst}
-use Rattle.std.proofs.Common.{arith, ⊎_elim, refl, Vec, Global}
-use Rattle.std.proofs.lemmas.Bool.{cases_eq, cases_lt, ne_eqb, eq-eqb, eqb-true, false≢true, or_cases}
+use Rattle.std.proofs.{Common.{arith, ⊎_elim, refl, Vec, Global}, lemmas.Bool.{cases_eq, cases_lt, ne_eqb, eq-eqb, eqb-true, false≢true, or_cases}}
 use Rattle.std.proofs.lemmas.List.{get_or_append_left, get_or_push, get_or_past, map_push, get_or-set_same, get_or-set_other, length-set, length_push}
 use Rattle.std.proofs.lemmas.List.Folds.{list_any-append, list_any_at}
 use Rattle.std.specs.List.{list_any}

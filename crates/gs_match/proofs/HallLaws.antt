@@ -1,8 +1,7 @@
 -- A closed search gives a set with too few neighbours.
 use Rattle.std.proofs.Common.{◌≡◌, ◌+◌, ◌<◌, ◌≤◌, ℕ, zero, suc, Bool, true, false, cond, eqb, Option, List, [], ◌∷◌, length, get_or, sym, ◌∙◌, ap, subst, arith}
-use Rattle.std.proofs.Common.{⊎_elim, count_by, IsPermutation, refl}
+use Rattle.std.proofs.{Common.{⊎_elim, count_by, IsPermutation, refl}, lemmas.List.Sums.{sum_by-cons}, lemmas.List.Elements.{All-from_get_or}}
 use Rattle.std.proofs.{lemmas.Bool.{cases_lt, cases_eq, cases_Bool, eq-eqb, cond-true, cond-false}, lemmas.List.{get_or-map, length-map}}
-use Rattle.std.proofs.{lemmas.List.Sums.{sum_by-cons}, lemmas.List.Elements.{All-from_get_or}}
 use Rattle.std.proofs.lemmas.List.Sorted.{length_permutation, All-permutation, sum_by-IsPermutation, list_any-IsPermutation}
 use Rattle.std.specs.{List.{range_with_len}, List.Sorted.{IsNonDecreasing}}
 use Rattle.gs_model.specs.Matching.{Edges, AllDiffer, IsHall, has_edge, is_neighbour}

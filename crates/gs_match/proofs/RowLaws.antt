@@ -1,7 +1,6 @@
 -- A turn over the neighbours of a visit's left node.
 use Rattle.std.proofs.Common.{◌≡◌, ◌+◌, ◌<◌, ◌++◌, ℕ, Bool, true, false, Option, Some, List, [], ◌∷◌, length, get_or, set, sym, ◌∙◌, ap, subst, arith, Vec}
-use Rattle.std.proofs.Common.{Global, below_more}
-use Rattle.std.proofs.lemmas.List.{get_or-map, get_or_default}
+use Rattle.std.proofs.{Common.{Global, below_more}, lemmas.List.{get_or-map, get_or_default}}
 use Rattle.gs_match.specs.{declared.search.Visit.{Visit}, Adjacency.{row_of, AreNeighboursBelow, Near}}
 use Rattle.gs_match.specs.Search.{holder, IsMatching, visit, is_reached, IsTree, Extends}
 use Rattle.gs_model.specs.Rows.{rows}

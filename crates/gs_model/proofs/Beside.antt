@@ -1,7 +1,6 @@
 -- The signals that can be dealt beside a last-round signal are those that no deal rules out.
 use Rattle.std.proofs.Common.{◌≡◌, ℕ, zero, suc, ◌+◌, ◌*◌, ◌<◌, ◌≤◌, List, [], ◌∷◌, length, map, get_or, refl, sym, ap, ◌∙◌, subst, arith, append-nil, Bool}
-use Rattle.std.proofs.Common.{true, false, cond, ⊎_elim, nat_lt}
-use Rattle.std.proofs.{lemmas.Bool.{cases_lt}, lemmas.List.Elements.{All-from_recursion}}
+use Rattle.std.proofs.{Common.{true, false, cond, ⊎_elim, nat_lt}, lemmas.Bool.{cases_lt}, lemmas.List.Elements.{All-from_recursion}}
 use Rattle.std.specs.{Prelude.{flat_map, filter, ◌&&◌}, List.{AllByRecursion}}
 use Rattle.gs_model.specs.{Cards.{groups, ways, left_after}, Deals.{deal_weight, path_weight, own_ways, same_cards, same_public}}
 use Rattle.gs_model.specs.{Game.{Game, Round, round_count}, Signals.{Signal, Seen, signals, signal_at, edge, left_by}, ViewTree.{facing}}

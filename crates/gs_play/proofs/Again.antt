@@ -1,15 +1,10 @@
 -- An answer found again, class by class and point by point: what is taken is right where it has been found again, and as it was elsewhere.
-use Rattle.std.proofs.Common.{◌≡◌, ℕ, ◌+◌, ◌<◌, ◌≤◌, Bool, true, false, List, get_or, Some, refl, sym, ap, ◌∙◌, subst, arith, ⊎_elim}
-use Rattle.std.proofs.lemmas.Bool.{cases_eq}
-use Rattle.gs_model.specs.Classes.{ClassLists, IsClass, IsClasses}
-use Rattle.gs_model.specs.Frame.{Frame, last_step, player_at, point_count, round_of}
-use Rattle.gs_model.specs.FrameFacts.{InRange, IsWalked}
+use Rattle.std.proofs.{Common.{◌≡◌, ℕ, ◌+◌, ◌<◌, ◌≤◌, Bool, true, false, List, get_or, Some, refl, sym, ap, ◌∙◌, subst, arith, ⊎_elim}, lemmas.Bool.{cases_eq}}
+use Rattle.gs_model.specs.{Classes.{ClassLists, IsClass, IsClasses}, Frame.{Frame, last_step, player_at, point_count, round_of}, FrameFacts.{InRange, IsWalked}}
 use Rattle.gs_model.specs.Positions.{Step, at_point}
 use Rattle.gs_model.proofs.Gather.{class_before}
-use Rattle.gs_best.specs.ClassTotals.{earlier_class}
-use Rattle.gs_best.specs.Tables.{moves_of}
-use Rattle.gs_play.specs.Answers.{AreTakenBut, IsElsewhere, IsRight, IsRightMove, IsStill, IsTurnedAt}
-use Rattle.gs_play.specs.declared.answers.Answer.{Answer}
+use Rattle.gs_best.specs.{ClassTotals.{earlier_class}, Tables.{moves_of}}
+use Rattle.gs_play.specs.{Answers.{AreTakenBut, IsElsewhere, IsRight, IsRightMove, IsStill, IsTurnedAt}, declared.answers.Answer.{Answer}}
 use Rattle.gs_play.proofs.Taken.{reached_same, stays_right}
 
 -- the class above a last step is a class of an earlier point

@@ -1,16 +1,10 @@
 -- What is kept of a player hangs on the numbers at ends only for the ends to which moves lead, and for the classes of their rounds.
 use Rattle.std.proofs.Common.{◌≡◌, ℕ, ◌<◌, ◌≤◌, refl, sym, ap, ◌∙◌, subst, arith}
 use Rattle.std.specs.Prelude.{ℤ, pos, ◌-ℤ◌, ◌*ℤ◌}
-use Rattle.gs_model.specs.BestAnswers.{Values}
-use Rattle.gs_model.specs.Classes.{ClassLists, IsClass}
-use Rattle.gs_model.specs.Frame.{Frame, end_count, leads_to, move_count, point_count, round_of}
-use Rattle.gs_model.specs.FrameFacts.{IsInside, IsWalked}
-use Rattle.gs_model.specs.Positions.{Target, at_end, at_point}
-use Rattle.gs_best.specs.ClassTotals.{total_worth}
-use Rattle.gs_best.specs.Tables.{moves_of}
-use Rattle.gs_play.specs.Lines.{wrapped}
-use Rattle.gs_play.specs.Tallies.{IsTally, slopes_of, zeros_of}
-use Rattle.gs_play.specs.declared.tally.Tally.{Tally}
+use Rattle.gs_model.specs.{BestAnswers.{Values}, Classes.{ClassLists, IsClass}, Frame.{Frame, end_count, leads_to, move_count, point_count, round_of}}
+use Rattle.gs_model.specs.{FrameFacts.{IsInside, IsWalked}, Positions.{Target, at_end, at_point}}
+use Rattle.gs_best.specs.{ClassTotals.{total_worth}, Tables.{moves_of}}
+use Rattle.gs_play.specs.{Lines.{wrapped}, Tallies.{IsTally, slopes_of, zeros_of}, declared.tally.Tally.{Tally}}
 use Rattle.gs_play.proofs.Settled.{AgreeUnder, gathered_same, settled_less, stays_settled}
 
 -- two numberings of ends agree where moves lead

@@ -1,22 +1,15 @@
 -- What a player holds at the start.
-use Rattle.std.proofs.Common.{◌≡◌, ℕ, ◌+◌, ◌-◌, ◌<◌, ◌≤◌, Bool, true, false, cond, Vec, refl, sym, ap, ◌∙◌, subst, arith}
+use Rattle.std.proofs.{Common.{◌≡◌, ℕ, ◌+◌, ◌-◌, ◌<◌, ◌≤◌, Bool, true, false, cond, Vec, refl, sym, ap, ◌∙◌, subst, arith}, lemmas.Int.{ints}}
 use Rattle.std.specs.{Prelude.{◌==◌, get_or, slice_index, ℤ, pos, ◌-ℤ◌, ◌*ℤ◌}, declared.alloc.Global.{Global}}
-use Rattle.std.proofs.lemmas.Int.{ints}
-use Rattle.gs_model.specs.{BestAnswers.{Values}, Classes.{ClassLists, class_count}}
-use Rattle.gs_model.specs.Frame.{Frame, end_count, leads_to, other_player, round_of}
+use Rattle.gs_model.specs.{BestAnswers.{Values}, Classes.{ClassLists, class_count}, Frame.{Frame, end_count, leads_to, other_player, round_of}}
 use Rattle.gs_model.specs.{FrameFacts.{IsWalked}, Play.{IsFirstMoves}, Plans.{Plan}, Positions.{Target, at_end, at_point}}
 use Rattle.gs_model.proofs.Sparse.{sum_none}
 use Rattle.gs_seq.specs.{Abstracts.{abstract_frame, lists_of}, Payoffs.{end_sum}, declared.form.Abstract.{Abstract}}
 use Rattle.gs_seq.proofs.Forms.{form_classes, form_in_range, form_moves, form_walked}
 use Rattle.gs_best.specs.{ClassTotals.{earlier_class, total_worth}, Tables.{moves_of, start_of}}
-use Rattle.gs_play.specs.Answers.{AreRight, HasAnswer, answer_plan}
-use Rattle.gs_play.specs.Lines.{line_at, wrapped}
-use Rattle.gs_play.specs.Plots.{cell_place, worth_place}
-use Rattle.gs_play.specs.Seats.{IsAtStart}
-use Rattle.gs_play.specs.Tallies.{HasTallyRoom, IsBlank, IsTally, at_part, part_table, slope_part}
-use Rattle.gs_play.specs.declared.answers.Answer.{Answer}
-use Rattle.gs_play.specs.declared.line.Line.{Line}
-use Rattle.gs_play.specs.declared.tally.Tally.{Tally}
+use Rattle.gs_play.specs.{Answers.{AreRight, HasAnswer, answer_plan}, Lines.{line_at, wrapped}, Plots.{cell_place, worth_place}, Seats.{IsAtStart}}
+use Rattle.gs_play.specs.{Tallies.{HasTallyRoom, IsBlank, IsTally, at_part, part_table, slope_part}, declared.answers.Answer.{Answer}}
+use Rattle.gs_play.specs.{declared.line.Line.{Line}, declared.tally.Tally.{Tally}}
 use Rattle.gs_play.proofs.{Alike.{tally_same}, Played.{end_alike}, PlansAlike.{firsts_same, puts_firsts}, Taken.{taken_puts}, Wrapped.{unwrapped}}
 
 -- ---- class totals that are 0

@@ -1,7 +1,6 @@
 -- Blocks of 64 places.
 use Rattle.std.proofs.Common.{◌≡◌, ℕ, ◌*◌, ◌/◌, ◌<◌, ◌≤◌, List, length, get_or, set, sym, subst, arith, ⊎_elim, get_or-set_other, get_or-set_same}
-use Rattle.std.proofs.lemmas.Bool.{cases_eq}
-use Rattle.std.proofs.Math.Nat.{div-mul-le_self}
+use Rattle.std.proofs.{lemmas.Bool.{cases_eq}, Math.Nat.{div-mul-le_self}}
 
 pub in_block : (k : ℕ) → (k / 64) * 64 ≤ k
 in_block k = div-mul-le_self k 64

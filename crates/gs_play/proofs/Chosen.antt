@@ -1,36 +1,17 @@
 -- From a class total that is found again in the lists to a settled class: the lines of a cell are the worths of its moves, and what is written is their first
 -- greatest or their sum.
 use Rattle.std.proofs.Common.{◌≡◌, ◌≢◌, ℕ, ◌+◌, ◌-◌, ◌*◌, ◌^◌, ◌<◌, ◌≤◌, List, length, take, drop, set, sym, ap, ◌∙◌, subst, arith, ⊎_elim, get_or-set_same}
-use Rattle.std.specs.Prelude.{ℤ, pos, ◌+ℤ◌, ◌-ℤ◌, ◌*ℤ◌, slice_index, unsigned_abs}
-use Rattle.std.specs.List.{range_with_len}
-use Rattle.std.proofs.lemmas.Bool.{cases_eq}
-use Rattle.std.proofs.lemmas.Int.{ints}
-use Rattle.std.proofs.lemmas.List.{get_or-drop, get_or-take, length-drop, length-take-le}
-use Rattle.gs_model.specs.BestAnswers.{Values}
-use Rattle.gs_model.specs.Classes.{ClassLists, IsClass}
-use Rattle.gs_model.specs.Frame.{Frame, choices_at, move_count, player_at, point_count, round_of}
-use Rattle.gs_model.specs.FrameFacts.{IsWalked}
-use Rattle.gs_model.specs.Positions.{at_point}
-use Rattle.gs_model.specs.Sums.{sum_z}
-use Rattle.gs_best.specs.Tables.{moves_of}
-use Rattle.gs_best.proofs.Ranges.{sum_same}
-use Rattle.gs_best.proofs.PointStarts.{place_before}
-use Rattle.gs_best.specs.ClassTotals.{total_worth}
-use Rattle.gs_play.specs.Lines.{flat, line_at, wrapped}
-use Rattle.gs_play.specs.Plots.{IsRowIn, cell_place, worth_place}
-use Rattle.gs_play.specs.Tables.{IsLineSettled}
+use Rattle.std.specs.{Prelude.{ℤ, pos, ◌+ℤ◌, ◌-ℤ◌, ◌*ℤ◌, slice_index, unsigned_abs}, List.{range_with_len}}
+use Rattle.std.proofs.{lemmas.Bool.{cases_eq}, lemmas.Int.{ints}, lemmas.List.{get_or-drop, get_or-take, length-drop, length-take-le}}
+use Rattle.gs_model.specs.{BestAnswers.{Values}, Classes.{ClassLists, IsClass}, Frame.{Frame, choices_at, move_count, player_at, point_count, round_of}}
+use Rattle.gs_model.specs.{FrameFacts.{IsWalked}, Positions.{at_point}, Sums.{sum_z}}
+use Rattle.gs_best.specs.{Tables.{moves_of}, ClassTotals.{total_worth}}
+use Rattle.gs_best.proofs.{Ranges.{sum_same}, PointStarts.{place_before}}
+use Rattle.gs_play.specs.{Lines.{flat, line_at, wrapped}, Plots.{IsRowIn, cell_place, worth_place}, Tables.{IsLineSettled}, Tallies.{slopes_of, zeros_of}}
 use Rattle.gs_play.specs.Tallies.{AreSmallAtEnds, HasTallyRoom, HasWorths, IsAddedUp, IsChosen, IsLineFound, IsTally, at_part, lines_at, part_table, slope_part}
-use Rattle.gs_play.specs.Tallies.{slopes_of}
-use Rattle.gs_play.specs.Tallies.{zeros_of}
-use Rattle.gs_play.specs.declared.line.Line.{Line}
-use Rattle.gs_play.specs.declared.plot.Row.{Row}
-use Rattle.gs_play.specs.declared.tally.Tally.{Tally}
-use Rattle.gs_play.proofs.Found.{AreWorthLines, other_found, own_found}
-use Rattle.gs_play.proofs.Known.{slope_few, slopes_few, zero_few, zeros_few}
-use Rattle.gs_play.proofs.Wrapped.{unwrapped}
-use Rattle.gs_play.proofs.Lists.{changed_table, worths_before}
-use Rattle.gs_play.proofs.PlotRows.{row_first}
-use Rattle.gs_play.proofs.Settling.{IsChanged}
+use Rattle.gs_play.specs.{declared.line.Line.{Line}, declared.plot.Row.{Row}, declared.tally.Tally.{Tally}}
+use Rattle.gs_play.proofs.{Found.{AreWorthLines, other_found, own_found}, Known.{slope_few, slopes_few, zero_few, zeros_few}, Wrapped.{unwrapped}}
+use Rattle.gs_play.proofs.{Lists.{changed_table, worths_before}, PlotRows.{row_first}, Settling.{IsChanged}}
 
 part_here : (xs : List Line) (first n m : ℕ) → m < n → line_at (take n (drop first xs)) m ≡ line_at xs (first + m)
 part_here xs first n m lm = get_or-take n (drop first xs) m flat lm ∙ get_or-drop first xs m flat

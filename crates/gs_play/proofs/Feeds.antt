@@ -1,24 +1,13 @@
 -- Where a line goes that is fed along a way.
 use Rattle.std.proofs.Common.{◌≡◌, ℕ, ◌+◌, ◌-◌, ◌*◌, ◌<◌, sym, ap, ◌∙◌, ◌^◌, subst, arith, get_or}
-use Rattle.gs_game.specs.Seen.{step_of}
-use Rattle.gs_game.specs.declared.positions.Step.{Step as StoredStep}
-use Rattle.gs_model.specs.Classes.{ClassLists, IsClass}
-use Rattle.gs_model.specs.Frame.{Frame, leads_to, move_count, point_count, round_of}
-use Rattle.gs_model.specs.Positions.{Target, at_point}
-use Rattle.gs_seq.specs.Abstracts.{abstract_frame, lists_of}
-use Rattle.gs_seq.specs.declared.form.Abstract.{Abstract}
-use Rattle.gs_best.specs.Tables.{start_of}
+use Rattle.gs_game.specs.{Seen.{step_of}, declared.positions.Step.{Step as StoredStep}}
+use Rattle.gs_model.specs.{Classes.{ClassLists, IsClass}, Frame.{Frame, leads_to, move_count, point_count, round_of}, Positions.{Target, at_point}}
+use Rattle.gs_seq.specs.{Abstracts.{abstract_frame, lists_of}, declared.form.Abstract.{Abstract}}
+use Rattle.gs_best.specs.{Tables.{start_of}, ClassTotals.{earlier_class}}
 use Rattle.gs_best.proofs.PointStarts.{place_before, starts_few}
-use Rattle.gs_best.specs.ClassTotals.{earlier_class}
-use Rattle.gs_play.specs.Plots.{IsMoveTo, IsPlot, IsRowIn, IsWayIn, LeadsTo, cell_place, worth_place, worth_start}
-use Rattle.gs_play.specs.Tallies.{FeedsAbove, IsFed, up_of}
-use Rattle.gs_play.specs.declared.line.Line.{Line}
-use Rattle.gs_play.specs.declared.plot.Plot.{Plot}
-use Rattle.gs_play.specs.declared.plot.Way.{Way}
-use Rattle.gs_play.specs.declared.tally.Tally.{Tally}
-use Rattle.gs_play.proofs.Lists.{worth_before}
-use Rattle.gs_play.proofs.PlotLaws.{worths_few}
-use Rattle.gs_play.proofs.PlotRows.{row_at}
+use Rattle.gs_play.specs.{Plots.{IsMoveTo, IsPlot, IsRowIn, IsWayIn, LeadsTo, cell_place, worth_place, worth_start}, Tallies.{FeedsAbove, IsFed, up_of}}
+use Rattle.gs_play.specs.{declared.line.Line.{Line}, declared.plot.Plot.{Plot}, declared.plot.Way.{Way}, declared.tally.Tally.{Tally}}
+use Rattle.gs_play.proofs.{Lists.{worth_before}, PlotLaws.{worths_few}, PlotRows.{row_at}}
 
 -- the row of a move's point, with the move and the round of the position to which the move leads
 way_is : (f : Frame) (lists : ClassLists) (t : Target) (s : StoredStep) (w : Way) → IsMoveTo f t (step_of s) → IsRowIn f lists w.row

@@ -1,15 +1,9 @@
 -- Against a plan of total at most `most`, class totals and what moves are worth are at most `most` times 2^38 in size.
-use Rattle.std.proofs.Common.{ℕ, ◌*◌, ◌<◌, ◌≤◌, arith}
-use Rattle.std.proofs.Math.Nat.{mul-le-mul_left, mul-le-mul_right}
-use Rattle.gs_model.specs.Frame.{other_player, total_weight}
-use Rattle.gs_model.specs.Plans.{IsClassPlan, Plan}
-use Rattle.gs_seq.specs.Abstracts.{abstract_frame, lists_of}
-use Rattle.gs_seq.specs.Payoffs.{end_sum}
-use Rattle.gs_seq.specs.declared.form.Abstract.{Abstract}
-use Rattle.gs_best.proofs.Chips.{form_modest}
+use Rattle.std.proofs.{Common.{ℕ, ◌*◌, ◌<◌, ◌≤◌, arith}, Math.Nat.{mul-le-mul_left, mul-le-mul_right}}
+use Rattle.gs_model.specs.{Frame.{other_player, total_weight}, Plans.{IsClassPlan, Plan}}
+use Rattle.gs_seq.specs.{Abstracts.{abstract_frame, lists_of}, Payoffs.{end_sum}, declared.form.Abstract.{Abstract}}
+use Rattle.gs_best.proofs.{Chips.{form_modest}, Players.{apart, either_player}, TotalBounds.{totals_few, worth_few}}
 use Rattle.gs_seq.proofs.Forms.{form_classes, form_in_range, form_walked}
-use Rattle.gs_best.proofs.Players.{apart, either_player}
-use Rattle.gs_best.proofs.TotalBounds.{totals_few, worth_few}
 use Rattle.gs_play.specs.Tallies.{AreSmallAtEnds, AreSmallAt}
 
 few_of : (total weight most : ℕ) → total ≤ most → weight ≤ 67108864 → 4096 * (total * weight) ≤ most * 274877906944

@@ -1,17 +1,12 @@
 -- The first move is taken at the classes to which the answer comes, one class of a point after another, and one point after another.
 use Rattle.std.proofs.Common.{◌≡◌, ℕ, ◌+◌, ◌<◌, ◌≤◌, List, length, replicate, set, refl, sym, ap, ◌∙◌, subst, arith, ⊎_elim, get_or-set_same}
-use Rattle.std.proofs.lemmas.Bool.{cases_eq}
-use Rattle.std.proofs.lemmas.List.{get_or-replicate}
-use Rattle.gs_model.specs.Classes.{ClassLists, IsClass, IsClasses}
-use Rattle.gs_model.specs.Frame.{Frame, last_step, player_at, point_count, round_of}
-use Rattle.gs_model.specs.FrameFacts.{InRange, IsWalked}
+use Rattle.std.proofs.{lemmas.Bool.{cases_eq}, lemmas.List.{get_or-replicate}}
+use Rattle.gs_model.specs.{Classes.{ClassLists, IsClass, IsClasses}, Frame.{Frame, last_step, player_at, point_count, round_of}, FrameFacts.{InRange, IsWalked}}
 use Rattle.gs_model.specs.Positions.{at_point}
 use Rattle.gs_best.specs.Tables.{moves_of, start_of}
 use Rattle.gs_best.proofs.PointStarts.{place_before}
-use Rattle.gs_play.specs.Answers.{AreKeptBut, AreTakenBut, IsReached, IsRight}
-use Rattle.gs_play.specs.Plots.{cell_place}
-use Rattle.gs_play.proofs.Again.{AreRightTo, right_before, rights_more}
-use Rattle.gs_play.proofs.Lists.{other_cell}
+use Rattle.gs_play.specs.{Answers.{AreKeptBut, AreTakenBut, IsReached, IsRight}, Plots.{cell_place}}
+use Rattle.gs_play.proofs.{Again.{AreRightTo, right_before, rights_more}, Lists.{other_cell}}
 
 -- the classes before one are right, the others of the point have the mark of none, and other points what they had
 pub record AreFirstTo (f : Frame) (lists : ClassLists) (q n : ℕ) (start now : List ℕ) : Type 0 where

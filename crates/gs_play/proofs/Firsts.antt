@@ -1,12 +1,9 @@
 -- The first greatest of some lines: one line more, and as long as no line overtakes it.
-use Rattle.std.proofs.Common.{◌≡◌, ◌≢◌, ℕ, ◌+◌, ◌<◌, ◌≤◌, true, List, length, refl, sym, ap, subst, arith, ⊎_elim}
+use Rattle.std.proofs.{Common.{◌≡◌, ◌≢◌, ℕ, ◌+◌, ◌<◌, ◌≤◌, true, List, length, refl, sym, ap, subst, arith, ⊎_elim}, lemmas.Bool.{cases_eq}, lemmas.Int.{ints}}
 use Rattle.std.specs.Prelude.{ℤ, ◌≤ℤ◌, ◌<ℤ◌, nat_lt}
-use Rattle.std.proofs.lemmas.Bool.{cases_eq}
-use Rattle.std.proofs.lemmas.Int.{ints}
 use Rattle.gs_best.specs.Rows.{IsFirstGreatest}
 use Rattle.gs_play.proofs.Behind.{before_from, greatest_with}
-use Rattle.gs_play.specs.Lines.{StaysBehind, StaysFirst, line_at, value_in}
-use Rattle.gs_play.specs.declared.line.Line.{Line}
+use Rattle.gs_play.specs.{Lines.{StaysBehind, StaysFirst, line_at, value_in}, declared.line.Line.{Line}}
 
 -- ---- one number more
 

@@ -1,19 +1,11 @@
 -- A class total found again from the worths of its moves: by the first greatest of some lines, or by their sum.
-use Rattle.std.proofs.Common.{◌≡◌, ℕ, ◌+◌, ◌<◌, List, length, refl, sym, ap, ◌∙◌, subst, arith}
+use Rattle.std.proofs.{Common.{◌≡◌, ℕ, ◌+◌, ◌<◌, List, length, refl, sym, ap, ◌∙◌, subst, arith}, lemmas.Int.{ints}}
 use Rattle.std.specs.Prelude.{ℤ}
-use Rattle.std.proofs.lemmas.Int.{ints}
-use Rattle.gs_model.specs.BestAnswers.{Values}
-use Rattle.gs_model.specs.Classes.{ClassLists}
-use Rattle.gs_model.specs.Frame.{Frame, choices_at, leads_to, move_count, point_count}
-use Rattle.gs_model.specs.FrameFacts.{IsFrom, IsWalked}
-use Rattle.gs_model.specs.Positions.{Target, at_point}
-use Rattle.gs_model.specs.Sums.{sum_z}
+use Rattle.gs_model.specs.{BestAnswers.{Values}, Classes.{ClassLists}, Frame.{Frame, choices_at, leads_to, move_count, point_count}, Sums.{sum_z}}
+use Rattle.gs_model.specs.{FrameFacts.{IsFrom, IsWalked}, Positions.{Target, at_point}}
 use Rattle.gs_best.proofs.Ranges.{sum_same}
 use Rattle.gs_best.specs.ClassTotals.{total_worth}
-use Rattle.gs_play.specs.Jumps.{line}
-use Rattle.gs_play.specs.Lines.{StaysFirst, line_at, value_in}
-use Rattle.gs_play.specs.Tables.{IsOtherSettled, IsOwnSettled, worth_in}
-use Rattle.gs_play.specs.declared.line.Line.{Line}
+use Rattle.gs_play.specs.{Jumps.{line}, Lines.{StaysFirst, line_at, value_in}, Tables.{IsOtherSettled, IsOwnSettled, worth_in}, declared.line.Line.{Line}}
 use Rattle.gs_play.proofs.Settling.{IsChanged, fed_elsewhere}
 
 -- some lines are what the moves of a point are worth to a class

@@ -1,23 +1,15 @@
 -- A player's last step before a point, and the cell above a cell in which it was taken.
-use Rattle.std.proofs.Common.{◌≡◌, ℕ, ◌<◌, ◌≤◌, List, length, Option, Some, refl, sym, ◌∙◌, subst, arith, ⊎_elim}
+use Rattle.std.proofs.{Common.{◌≡◌, ℕ, ◌<◌, ◌≤◌, List, length, Option, Some, refl, sym, ◌∙◌, subst, arith, ⊎_elim}, lemmas.Bool.{cases_lt}}
 use Rattle.std.specs.Prelude.{[], ◌∷◌, ◌++◌, option_map, slice_index}
-use Rattle.std.proofs.lemmas.Bool.{cases_lt}
 use Rattle.std.proofs.lemmas.List.{get_or_append_left, get_or_push, length_push}
-use Rattle.gs_game.specs.Seen.{step_of}
-use Rattle.gs_game.specs.declared.positions.Step.{Step as StoredStep}
-use Rattle.gs_model.specs.Classes.{ClassLists, IsClass}
-use Rattle.gs_model.specs.Frame.{Frame, last_step, player_at, point_count, round_of}
-use Rattle.gs_model.specs.Positions.{Step, at_point}
-use Rattle.gs_seq.specs.Abstracts.{abstract_frame, game_in, lists_of}
-use Rattle.gs_seq.specs.declared.form.Abstract.{Abstract}
+use Rattle.gs_game.specs.{Seen.{step_of}, declared.positions.Step.{Step as StoredStep}}
+use Rattle.gs_model.specs.{Classes.{ClassLists, IsClass}, Frame.{Frame, last_step, player_at, point_count, round_of}, Positions.{Step, at_point}}
+use Rattle.gs_seq.specs.{Abstracts.{abstract_frame, game_in, lists_of}, declared.form.Abstract.{Abstract}}
 use Rattle.gs_seq.proofs.{Forms.{form_classes, form_in_range}, Points.{walked_at}}
-use Rattle.gs_best.specs.ClassTotals.{earlier_class}
-use Rattle.gs_best.specs.Tables.{start_of}
+use Rattle.gs_best.specs.{ClassTotals.{earlier_class}, Tables.{start_of}}
 use Rattle.gs_best.proofs.PointStarts.{place_before}
-use Rattle.gs_play.specs.Plots.{AreAbove, IsAbove, IsGate, IsPlot, IsStepBefore, cell_above, cell_place}
-use Rattle.gs_play.specs.declared.plot.Plot.{Plot}
-use Rattle.gs_play.proofs.Again.{IsGateOf, gate_facts}
-use Rattle.gs_play.proofs.Lists.{cell_one}
+use Rattle.gs_play.specs.{Plots.{AreAbove, IsAbove, IsGate, IsPlot, IsStepBefore, cell_above, cell_place}, declared.plot.Plot.{Plot}}
+use Rattle.gs_play.proofs.{Again.{IsGateOf, gate_facts}, Lists.{cell_one}}
 
 -- it was made in the round of the point or before it
 pub gate_before : (a : Abstract) (q : ℕ) → q < point_count (abstract_frame a) → (gate : Option StoredStep) → IsGate (abstract_frame a) q gate

@@ -1,8 +1,7 @@
 -- What moves are worth moves on straight lines with the class totals; best totals are best against all plans that are alike.
 use Rattle.std.proofs.{Common.{◌≡◌, ℕ, Bool, true, false, cond, refl, sym, ap, ◌∙◌}, Math.IntN.{*ℤ-zero}}
 use Rattle.std.specs.Prelude.{◌==◌, ℤ, pos, ◌+ℤ◌, ◌*ℤ◌}
-use Rattle.gs_model.specs.{BestAnswers.{Values}, Classes.{ClassLists, IsClasses, classes_in}}
-use Rattle.gs_model.specs.Frame.{Frame, leads_to, other_player, payoff_to, round_of}
+use Rattle.gs_model.specs.{BestAnswers.{Values}, Classes.{ClassLists, IsClasses, classes_in}, Frame.{Frame, leads_to, other_player, payoff_to, round_of}}
 use Rattle.gs_model.specs.{FrameFacts.{InRange, IsWalked}, Plans.{Plan}, Positions.{at_point}, Sums.{sum_z}}
 use Rattle.gs_model.proofs.Total.{sum_z-add, sum_z-mul, sum_z-same}
 use Rattle.gs_best.specs.ClassTotals.{AreBestTotals, earlier_class, gathered_below, total_worth}

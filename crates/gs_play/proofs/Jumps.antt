@@ -1,11 +1,8 @@
 -- Turns taken at once: while both answers stay, so many turns add so many times both answers.
 use Rattle.std.proofs.Common.{◌≡◌, ℕ, zero, suc, ◌+◌, ◌<◌, ◌≤◌, refl, sym, subst, arith}
-use Rattle.gs_model.specs.Classes.{ClassLists}
-use Rattle.gs_model.specs.Frame.{Frame, other_player}
-use Rattle.gs_model.specs.{Plans.{Plan}, Play.{IsFictitiousPlay, IsPlanSum}}
+use Rattle.gs_model.specs.{Classes.{ClassLists}, Frame.{Frame, other_player}, Plans.{Plan}, Play.{IsFictitiousPlay, IsPlanSum}, BestAnswers.{IsFirstBestPlan}}
 use Rattle.gs_play.specs.PlanSums.{ArePlansAlike}
 use Rattle.gs_play.proofs.SumLaws.{plus_times}
-use Rattle.gs_model.specs.BestAnswers.{IsFirstBestPlan}
 use Rattle.gs_model.specs.Plans.{lift}
 
 -- after fewer than `times` turns, each of which adds `more` to the other's plan y, the answer is still the first best one

@@ -1,25 +1,13 @@
 -- A class total that is found again, and what it counts for: all that is kept of a player is right again.
-use Rattle.std.proofs.Common.{◌≡◌, ℕ, ◌+◌, ◌<◌, ◌≤◌, List, length, set, sym, ap, ◌∙◌, subst, arith, ⊎_elim, get_or-set_same, Vec}
-use Rattle.std.specs.Prelude.{ℤ, ◌+ℤ◌, ◌-ℤ◌}
-use Rattle.std.specs.declared.alloc.Global.{Global}
-use Rattle.std.proofs.lemmas.Bool.{cases_eq}
+use Rattle.std.proofs.{Common.{◌≡◌, ℕ, ◌+◌, ◌<◌, ◌≤◌, List, length, set, sym, ap, ◌∙◌, subst, arith, ⊎_elim, get_or-set_same, Vec}, lemmas.Bool.{cases_eq}}
+use Rattle.std.specs.{Prelude.{ℤ, ◌+ℤ◌, ◌-ℤ◌}, declared.alloc.Global.{Global}}
 use Rattle.std.proofs.lemmas.List.{length-set}
-use Rattle.gs_model.specs.BestAnswers.{Values}
-use Rattle.gs_model.specs.Classes.{ClassLists, IsClass}
-use Rattle.gs_model.specs.Frame.{Frame, leads_to, move_count, player_at, point_count, round_of}
-use Rattle.gs_model.specs.FrameFacts.{IsFrom, IsWalked}
-use Rattle.gs_model.specs.Positions.{at_point}
-use Rattle.gs_best.specs.Tables.{moves_of, start_of}
-use Rattle.gs_best.specs.ClassTotals.{earlier_class}
-use Rattle.gs_play.specs.Lines.{line_at, wrapped}
-use Rattle.gs_play.specs.Plots.{cell_place, worth_place}
-use Rattle.gs_play.specs.Tables.{AreSettledUntil, IsLineSettled}
-use Rattle.gs_play.specs.Tallies.{HasTallyRoom, HasWorths, IsFed, IsTally, at_part, slope_part, slopes_of, zeros_of}
-use Rattle.gs_play.specs.declared.line.Line.{Line}
-use Rattle.gs_play.specs.declared.tally.Tally.{Tally}
-use Rattle.gs_play.proofs.Chosen.{IsFoundAgain, IsFoundFor}
-use Rattle.gs_play.proofs.Lists.{cell_inside, other_cell, worth_inside, worths_fed, worths_stay}
-use Rattle.gs_play.proofs.OneWay.{one_way}
+use Rattle.gs_model.specs.{BestAnswers.{Values}, Classes.{ClassLists, IsClass}, Frame.{Frame, leads_to, move_count, player_at, point_count, round_of}}
+use Rattle.gs_model.specs.{FrameFacts.{IsFrom, IsWalked}, Positions.{at_point}}
+use Rattle.gs_best.specs.{Tables.{moves_of, start_of}, ClassTotals.{earlier_class}}
+use Rattle.gs_play.specs.{Lines.{line_at, wrapped}, Plots.{cell_place, worth_place}, Tables.{AreSettledUntil, IsLineSettled}, declared.line.Line.{Line}}
+use Rattle.gs_play.specs.{Tallies.{HasTallyRoom, HasWorths, IsFed, IsTally, at_part, slope_part, slopes_of, zeros_of}, declared.tally.Tally.{Tally}}
+use Rattle.gs_play.proofs.{Chosen.{IsFoundAgain, IsFoundFor}, Lists.{cell_inside, other_cell, worth_inside, worths_fed, worths_stay}, OneWay.{one_way}}
 use Rattle.gs_play.proofs.Settling.{settled_step}
 
 module _ (f : Frame) (lists : ClassLists) (player : ℕ) (walked : IsWalked f player) (pays rise : ℕ → ℕ → ℤ) (now last : ℕ) (order : now < last)

@@ -1,25 +1,14 @@
 -- What is settled behind a point bounds what the moves of the point are worth, so that their lines can be read.
-use Rattle.std.proofs.Common.{◌≡◌, ◌≢◌, ℕ, ◌+◌, ◌*◌, ◌^◌, ◌<◌, ◌≤◌, List, refl, ap, ◌∙◌, subst, arith}
+use Rattle.std.proofs.{Common.{◌≡◌, ◌≢◌, ℕ, ◌+◌, ◌*◌, ◌^◌, ◌<◌, ◌≤◌, List, refl, ap, ◌∙◌, subst, arith}, Math.Nat.{mul-le-mul_left}}
 use Rattle.std.specs.Prelude.{ℤ, pos, ◌+ℤ◌, ◌-ℤ◌, ◌*ℤ◌, unsigned_abs}
-use Rattle.std.proofs.Math.Nat.{mul-le-mul_left}
 use Rattle.std.proofs.lemmas.Int.{ints, unsigned_abs-mul}
 use borrow.Author.Differences.{abs_is}
-use Rattle.gs_model.specs.BestAnswers.{Values}
-use Rattle.gs_model.specs.Classes.{ClassLists, IsClass}
+use Rattle.gs_model.specs.{BestAnswers.{Values}, Classes.{ClassLists, IsClass}, FrameFacts.{IsWalked}, Positions.{at_end, at_point}, Sums.{sum_z}}
 use Rattle.gs_model.specs.Frame.{Frame, choices_at, end_count, move_count, player_at, point_count, round_of}
-use Rattle.gs_model.specs.FrameFacts.{IsWalked}
-use Rattle.gs_model.specs.Positions.{at_end, at_point}
-use Rattle.gs_model.specs.Sums.{sum_z}
 use Rattle.gs_model.proofs.Total.{sum_z-add, sum_z-mul, sum_z-same}
-use Rattle.gs_best.specs.ClassTotals.{total_worth}
-use Rattle.gs_play.specs.Jumps.{line}
-use Rattle.gs_best.specs.Places.{IsFollowedFrom}
-use Rattle.gs_play.proofs.JumpLaws.{tables_after, worth_line}
-use Rattle.gs_play.specs.Tables.{AreSettledUntil}
-use Rattle.gs_play.specs.Tallies.{AreSmallAtEnds, slopes_of, zeros_of}
-use Rattle.gs_play.specs.declared.line.Line.{Line}
-use Rattle.gs_play.proofs.Settled.{other_value, own_value}
-use Rattle.gs_play.proofs.Sums.{sum_few}
+use Rattle.gs_best.specs.{ClassTotals.{total_worth}, Places.{IsFollowedFrom}}
+use Rattle.gs_play.specs.{Jumps.{line}, Tables.{AreSettledUntil}, Tallies.{AreSmallAtEnds, slopes_of, zeros_of}, declared.line.Line.{Line}}
+use Rattle.gs_play.proofs.{JumpLaws.{tables_after, worth_line}, Settled.{other_value, own_value}, Sums.{sum_few}}
 
 -- where a slope and the value of now are small, so is the line in turn 0
 pub line_few : (at slope : ℤ) (now : ℕ) → unsigned_abs slope ≤ 2 ^ 38 → unsigned_abs (line at slope now) ≤ 2 ^ 58 → now ≤ 2 ^ 20 → unsigned_abs at ≤ 2 ^ 59

@@ -1,24 +1,14 @@
 -- Class totals and worths as lists of lines: their places, and what one that is written changes.
 use Rattle.std.proofs.Common.{◌≡◌, ◌≢◌, ℕ, ◌+◌, ◌-◌, ◌*◌, ◌<◌, ◌≤◌, List, length, set, refl, sym, ap, ◌∙◌, arith, ⊎_elim, get_or-set_other, get_or-set_same}
 use Rattle.std.specs.Prelude.{ℤ, ◌+ℤ◌}
-use Rattle.std.proofs.lemmas.Bool.{cases_eq, cases_lt}
-use Rattle.std.proofs.Math.Nat.{mul-le-mul_right}
-use Rattle.gs_model.specs.BestAnswers.{Values}
-use Rattle.gs_model.specs.Classes.{ClassLists, IsClass}
-use Rattle.gs_model.specs.Frame.{Frame, leads_to, move_count, point_count, round_of}
-use Rattle.gs_model.specs.FrameFacts.{IsInside, IsWalked}
-use Rattle.gs_model.specs.Positions.{Target, at_end, at_point}
-use Rattle.gs_best.specs.Tables.{classes_at, moves_of, start_of}
+use Rattle.std.proofs.{lemmas.Bool.{cases_eq, cases_lt}, Math.Nat.{mul-le-mul_right}}
+use Rattle.gs_model.specs.{BestAnswers.{Values}, Classes.{ClassLists, IsClass}, Frame.{Frame, leads_to, move_count, point_count, round_of}}
+use Rattle.gs_model.specs.{FrameFacts.{IsInside, IsWalked}, Positions.{Target, at_end, at_point}}
+use Rattle.gs_best.specs.{Tables.{classes_at, moves_of, start_of}, ClassTotals.{earlier_class, total_worth}}
 use Rattle.gs_best.proofs.{Placed.{row_later, row_start}, PointStarts.{place_before}}
-use Rattle.gs_best.specs.ClassTotals.{earlier_class, total_worth}
-use Rattle.gs_play.specs.Lines.{flat, line_at, wrapped}
-use Rattle.gs_play.specs.Plots.{cell_place, worth_place, worth_start}
-use Rattle.gs_play.specs.Tallies.{HasTallyRoom, HasWorths, part_table}
-use Rattle.gs_play.specs.declared.line.Line.{Line}
-use Rattle.gs_play.specs.declared.tally.Tally.{Tally}
-use Rattle.gs_play.proofs.OneWay.{one_way}
-use Rattle.gs_play.proofs.Settling.{IsChanged, fed_elsewhere, fed_here}
-use Rattle.gs_play.proofs.Wrapped.{wrapped_sum}
+use Rattle.gs_play.specs.{Lines.{flat, line_at, wrapped}, Plots.{cell_place, worth_place, worth_start}, Tallies.{HasTallyRoom, HasWorths, part_table}}
+use Rattle.gs_play.specs.{declared.line.Line.{Line}, declared.tally.Tally.{Tally}}
+use Rattle.gs_play.proofs.{OneWay.{one_way}, Settling.{IsChanged, fed_elsewhere, fed_here}, Wrapped.{wrapped_sum}}
 
 -- ---- places
 

@@ -2,8 +2,7 @@
 use Rattle.std.proofs.Common.{◌≡◌, ℕ, zero, suc, ◌*◌, ◌<◌, ◌==◌, cond, eqb, get_or, Option, Some, None, pos, ◌*ℤ◌, refl, sym, ap, ◌∙◌, arith}
 use Rattle.gs_model.proofs.{BestOnce.{best_values_are_one}, Gather.{class_in}, Tables.{kept}, Total.{sum_z-same_all}}
 use Rattle.gs_model.specs.{BestAnswers.{IsBestValues, IsFirstBestPlan, Values, end_worth}, Classes.{ClassLists, IsClasses, class_of, first_member}}
-use Rattle.gs_model.specs.Deals.{Deal}
-use Rattle.gs_model.specs.Frame.{Frame, ancestor, at_round, end_count, last_round, last_step, other_player, payoff_to, round_of, signal_count}
+use Rattle.gs_model.specs.{Deals.{Deal}, Frame.{Frame, ancestor, at_round, end_count, last_round, last_step, other_player, payoff_to, round_of, signal_count}}
 use Rattle.gs_model.specs.{FrameFacts.{InRange, IsWalked}, Payoff.{number_at_end}, Plans.{Plan, lift, number_before}}
 use Rattle.gs_model.specs.{Play.{IsFictitiousPlay, IsPlanSum}, Positions.{Step, at_end, at_point}}
 use Rattle.gs_play.specs.PlanSums.{ArePlansAlike}

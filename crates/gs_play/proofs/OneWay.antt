@@ -1,18 +1,10 @@
 -- Each position is reached by one move: two moves that lead to it are the same.
-use Rattle.std.proofs.Common.{◌≡◌, ℕ, zero, suc, ◌+◌, ◌<◌, ◌≤◌, Bool, true, false, cond, refl, ap, ◌∙◌, subst, arith, ⊎_elim}
-use Rattle.std.specs.Prelude.{◌==◌, ◌++◌, ◌∷◌, flat_map, ℤ, pos, ◌+ℤ◌, ◌≤ℤ◌}
-use Rattle.std.specs.List.{range_with_len}
-use Rattle.std.proofs.lemmas.Bool.{cases_eq, cases_lt}
-use Rattle.std.proofs.lemmas.Bool.Decides.{Decides-eqb}
-use Rattle.std.proofs.lemmas.Int.{ints}
-use Rattle.gs_model.specs.Frame.{Frame, choices_at, end_count, leads_to, move_count, point_count}
-use Rattle.gs_model.specs.FrameFacts.{IsWalked, ends_of, next_of, points_of}
-use Rattle.gs_model.specs.Positions.{Target, at_end, at_point}
-use Rattle.gs_model.specs.Sums.{sum_z}
-use Rattle.gs_model.proofs.Basics.{not_eq}
-use Rattle.gs_model.proofs.RawBound.{sum_z-map}
-use Rattle.gs_model.proofs.Sparse.{sum_none}
-use Rattle.gs_model.proofs.Total.{sum_z-IsPermutation, sum_z-append, sum_z-flat_map}
+use Rattle.std.proofs.{Common.{◌≡◌, ℕ, zero, suc, ◌+◌, ◌<◌, ◌≤◌, Bool, true, false, cond, refl, ap, ◌∙◌, subst, arith, ⊎_elim}, lemmas.Int.{ints}}
+use Rattle.std.specs.{Prelude.{◌==◌, ◌++◌, ◌∷◌, flat_map, ℤ, pos, ◌+ℤ◌, ◌≤ℤ◌}, List.{range_with_len}}
+use Rattle.std.proofs.{lemmas.Bool.{cases_eq, cases_lt}, lemmas.Bool.Decides.{Decides-eqb}}
+use Rattle.gs_model.specs.{Frame.{Frame, choices_at, end_count, leads_to, move_count, point_count}, FrameFacts.{IsWalked, ends_of, next_of, points_of}}
+use Rattle.gs_model.specs.{Positions.{Target, at_end, at_point}, Sums.{sum_z}}
+use Rattle.gs_model.proofs.{Basics.{not_eq}, RawBound.{sum_z-map}, Sparse.{sum_none}, Total.{sum_z-IsPermutation, sum_z-append, sum_z-flat_map}}
 
 -- 1 where a position is the one that is looked for, else 0
 abbrev hit : Target → Target → ℤ

@@ -1,14 +1,10 @@
 -- How long a line stays below another one that it overtakes in the end.
-use Rattle.std.proofs.Common.{◌≡◌, ℕ, ◌+◌, ◌-◌, ◌*◌, ◌/◌, ◌<◌, ◌≤◌, Bool, true, false, refl, ap, ◌∙◌, subst, arith}
+use Rattle.std.proofs.{Common.{◌≡◌, ℕ, ◌+◌, ◌-◌, ◌*◌, ◌/◌, ◌<◌, ◌≤◌, Bool, true, false, refl, ap, ◌∙◌, subst, arith}, Math.IntN.{pos-*ℤ-pos}, lemmas.Int.{ints}}
 use Rattle.std.specs.Prelude.{ℤ, pos, ◌+ℤ◌, ◌-ℤ◌, ◌*ℤ◌, ◌≤ℤ◌, ◌<ℤ◌, if◌then◌else◌, unsigned_abs}
-use Rattle.std.proofs.Math.IntN.{pos-*ℤ-pos}
-use Rattle.std.proofs.Math.Nat.{div-mul-le_self, lt-div-mul-add, mul-le-mul_right}
-use Rattle.std.proofs.lemmas.Bool.{false≢true}
-use Rattle.std.proofs.lemmas.Int.{ints}
+use Rattle.std.proofs.{Math.Nat.{div-mul-le_self, lt-div-mul-add, mul-le-mul_right}, lemmas.Bool.{false≢true}}
 use borrow.Author.Differences.{abs_is}
 use Rattle.gs_model.proofs.Total.{mul-add_right, mul-le}
-use Rattle.gs_play.specs.Jumps.{line}
-use Rattle.gs_play.specs.Lasting.{IsBehind, IsNotAhead, IsWithinGap}
+use Rattle.gs_play.specs.{Jumps.{line}, Lasting.{IsBehind, IsNotAhead, IsWithinGap}}
 
 -- ---- quotients
 

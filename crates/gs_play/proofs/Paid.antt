@@ -1,15 +1,10 @@
 -- What a player's answer has at a class of a point, and the weight of the move that is taken there once the turns since then are added.
-use Rattle.std.proofs.Common.{◌≡◌, ℕ, ◌+◌, ◌-◌, ◌<◌, ◌≤◌, List, length, get_or, set, sym, ap, ◌∙◌, arith}
-use Rattle.std.proofs.lemmas.List.{get_or_default}
-use Rattle.gs_model.specs.Classes.{ClassLists, IsClass}
-use Rattle.gs_model.specs.Frame.{Frame, move_count, player_at, point_count, round_of}
-use Rattle.gs_model.specs.Positions.{at_point}
+use Rattle.std.proofs.{Common.{◌≡◌, ℕ, ◌+◌, ◌-◌, ◌<◌, ◌≤◌, List, length, get_or, set, sym, ap, ◌∙◌, arith}, lemmas.List.{get_or_default}}
+use Rattle.gs_model.specs.{Classes.{ClassLists, IsClass}, Frame.{Frame, move_count, player_at, point_count, round_of}, Positions.{at_point}}
 use Rattle.gs_seq.specs.Slots.{slot_of}
 use Rattle.gs_best.specs.Tables.{moves_of, start_of}
 use Rattle.gs_best.proofs.PointStarts.{place_before}
-use Rattle.gs_play.specs.Answers.{HasAnswer}
-use Rattle.gs_play.specs.Plots.{cell_place}
-use Rattle.gs_play.specs.declared.answers.Answer.{Answer}
+use Rattle.gs_play.specs.{Answers.{HasAnswer}, Plots.{cell_place}, declared.answers.Answer.{Answer}}
 use Rattle.gs_play.proofs.Slotted.{added_at, counted, slot_few}
 
 -- a value that was read at the cell of a class is that of the class

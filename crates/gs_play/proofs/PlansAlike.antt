@@ -1,6 +1,5 @@
 -- Plans that are alike: one is a plan, takes first moves and comes from turns of play as the other does. Plans that put all on the same moves are alike.
-use Rattle.std.proofs.Common.{◌≡◌, ℕ, zero, suc, ◌<◌, Bool, cond, eqb, Option, Some, None, refl, sym, ap, ◌∙◌, arith}
-use Rattle.std.proofs.lemmas.Bool.{ne_eqb}
+use Rattle.std.proofs.{Common.{◌≡◌, ℕ, zero, suc, ◌<◌, Bool, cond, eqb, Option, Some, None, refl, sym, ap, ◌∙◌, arith}, lemmas.Bool.{ne_eqb}}
 use Rattle.gs_model.specs.{Classes.{ClassLists, IsClass, IsClasses, class_of, first_member}}
 use Rattle.gs_model.specs.{Frame.{Frame, ancestor, last_step, move_count, player_at, point_count, round_of}, FrameFacts.{InRange, IsWalked}}
 use Rattle.gs_model.specs.{Plans.{IsClassPlan, Plan, lift, number_before}, Play.{IsFictitiousPlay, IsFirstMoves, IsPlanSum}, Positions.{Step, at_point}}

@@ -1,7 +1,6 @@
 -- Turns in which the answers stay: by class totals that are settled, the answer by their choices is the first best one as long as nothing is due.
-use Rattle.std.proofs.Common.{◌≡◌, ℕ, zero, suc, ◌+◌, ◌-◌, ◌*◌, ◌<◌, ◌≤◌, Bool, true, false, cond, refl, ap, ◌∙◌, arith}
+use Rattle.std.proofs.{Common.{◌≡◌, ℕ, zero, suc, ◌+◌, ◌-◌, ◌*◌, ◌<◌, ◌≤◌, Bool, true, false, cond, refl, ap, ◌∙◌, arith}, Math.IntN.{*ℤ_comm}}
 use Rattle.std.specs.Prelude.{◌==◌, length, slice_index, ℤ, pos, ◌+ℤ◌, ◌-ℤ◌, ◌*ℤ◌}
-use Rattle.std.proofs.Math.IntN.{*ℤ_comm}
 use Rattle.std.proofs.lemmas.Int.{ints}
 use Rattle.gs_model.specs.{BestAnswers.{Values}, Classes.{ClassLists, IsClass, IsClasses}}
 use Rattle.gs_model.specs.Frame.{Frame, end_count, other_player, payoff_to, point_count, round_of}
@@ -10,19 +9,10 @@ use Rattle.gs_model.proofs.Total.{mul-add_right}
 use Rattle.gs_seq.specs.Payoffs.{end_sum}
 use Rattle.gs_best.specs.Tables.{AreInMoves, classes_at, moves_of, start_of}
 use Rattle.gs_best.proofs.{Placed.{place_inside}, TotalAnswers.{chosen_is_best}}
-use Rattle.gs_play.specs.{Jumps.{line}, PlanSums.{ArePlansAlike}}
-use Rattle.gs_play.proofs.{JumpLaws.{best_alike}, SumLaws.{end_plus, kept_alike}}
-use Rattle.gs_play.specs.Answers.{HasAnswer, answer_plan, plan_after}
-use Rattle.gs_play.specs.Tallies.{HasTallyRoom, IsTally, slopes_of, zeros_of}
-use Rattle.gs_play.specs.declared.answers.Answer.{Answer}
-use Rattle.gs_play.specs.declared.tally.Tally.{Tally}
-use Rattle.gs_play.proofs.Alike.{tally_same}
-use Rattle.gs_play.proofs.Settled.{AreLinesSettled, best_after}
-use Rattle.gs_play.proofs.Settling.{all_settled}
-use Rattle.gs_play.proofs.JumpLaws.{tables_after}
-use Rattle.gs_play.proofs.Jumps.{AnswerStays}
-use Rattle.gs_play.proofs.SumLaws.{ArePaid, plus_times}
-use Rattle.gs_play.proofs.Taken.{PutsAll}
+use Rattle.gs_play.specs.{Jumps.{line}, PlanSums.{ArePlansAlike}, Answers.{HasAnswer, answer_plan, plan_after}, declared.answers.Answer.{Answer}}
+use Rattle.gs_play.proofs.{JumpLaws.{best_alike, tables_after}, SumLaws.{end_plus, kept_alike}, Alike.{tally_same}, Settled.{AreLinesSettled, best_after}}
+use Rattle.gs_play.specs.{Tallies.{HasTallyRoom, IsTally, slopes_of, zeros_of}, declared.tally.Tally.{Tally}}
+use Rattle.gs_play.proofs.{Settling.{all_settled}, Jumps.{AnswerStays}, SumLaws.{ArePaid, plus_times}, Taken.{PutsAll}}
 
 -- ---- the plan so far
 

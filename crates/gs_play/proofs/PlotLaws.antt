@@ -1,30 +1,19 @@
 -- Where worths start, how many there are, and the moves that lead to positions.
 use Rattle.std.proofs.Common.{◌≡◌, ℕ, ◌+◌, ◌-◌, ◌*◌, ◌^◌, ◌<◌, ◌≤◌, List, length, replicate, get_or, min, max, set, sym, ap, ◌∙◌, subst, arith, cond}
-use Rattle.std.proofs.Common.{⊎_elim, get_or-set_other, get_or-set_same, Option, Some, None, inl, inr}
+use Rattle.std.proofs.{Common.{⊎_elim, get_or-set_other, get_or-set_same, Option, Some, None, inl, inr}, lemmas.Bool.{cases_eq, cases_lt}}
 use Rattle.std.specs.Prelude.{[], ◌∷◌, ◌++◌, ◌⊎◌, option_map}
-use Rattle.std.proofs.lemmas.Bool.{cases_eq, cases_lt}
 use Rattle.std.proofs.lemmas.List.{get_or_append_left, get_or_default, get_or_push, get_or-replicate, length-append, length-replicate}
-use Rattle.std.proofs.Math.ListN.{length-set}
-use Rattle.std.proofs.Math.Seq.{get_or-append_right}
-use Rattle.gs_game.specs.Seen.{step_of}
-use Rattle.gs_game.specs.declared.positions.Step.{Step as StoredStep}
-use Rattle.gs_game.specs.declared.valid.ValidGame.{ValidGame}
-use Rattle.gs_model.specs.Classes.{ClassLists}
-use Rattle.gs_model.specs.Frame.{Frame, end_count, last_step, leads_to, move_count, player_at, point_count}
-use Rattle.gs_model.specs.FrameFacts.{IsInside}
+use Rattle.std.proofs.{Math.ListN.{length-set}, Math.Seq.{get_or-append_right}, lemmas.Bool.Decides.{Decides-eqb}}
+use Rattle.gs_game.specs.{Seen.{step_of}, declared.positions.Step.{Step as StoredStep}, declared.valid.ValidGame.{ValidGame}}
+use Rattle.gs_model.specs.{Classes.{ClassLists}, Frame.{Frame, end_count, last_step, leads_to, move_count, player_at, point_count}, FrameFacts.{IsInside}}
 use Rattle.gs_model.specs.Positions.{Step, Target, at_end, at_point}
-use Rattle.gs_seq.specs.{Abstracts.{abstract_frame, game_in, lists_of}, Games.{frame_in}, Slots.{slots_at}}
-use Rattle.gs_seq.specs.declared.form.Abstract.{Abstract}
+use Rattle.gs_seq.specs.{Abstracts.{abstract_frame, game_in, lists_of}, Games.{frame_in}, Slots.{slots_at}, declared.form.Abstract.{Abstract}}
 use Rattle.gs_seq.proofs.{Forms.{one_or_two}, Points.{players}, SlotLaws.{sum_range_le}}
 use Rattle.gs_best.proofs.{Placed.{row_next}, Ranges.{range_add, range_le}}
-use Rattle.std.proofs.lemmas.Bool.Decides.{Decides-eqb}
 use Rattle.gs_best.specs.Tables.{classes_at, start_of}
 use Rattle.gs_play.proofs.Clear.{same_at}
 use Rattle.gs_play.specs.Plots.{AreCells, AreRowsBefore, AreSpans, AreMovesNoted, AreWider, HasEnd, IsCellOf, IsMoveNoted, IsMoveTo, IsRowIn, MatchMove}
-use Rattle.gs_play.specs.Plots.{span_in}
-use Rattle.gs_play.specs.Plots.{way_to, worth_start}
-use Rattle.gs_play.specs.declared.plot.Row.{Row}
-use Rattle.gs_play.specs.declared.plot.Span.{Span}
+use Rattle.gs_play.specs.{Plots.{span_in, way_to, worth_start}, declared.plot.Row.{Row}, declared.plot.Span.{Span}}
 
 -- ---- worths
 

@@ -1,14 +1,9 @@
 -- The rows of points: what is read from the plot of a game, and the places of a row.
-use Rattle.std.proofs.Common.{◌≡◌, ℕ, ◌+◌, ◌-◌, ◌*◌, ◌<◌, ◌≤◌, get_or, length, sym, ap, ◌∙◌, subst, arith}
-use Rattle.std.proofs.lemmas.List.{get_or_default}
-use Rattle.gs_model.specs.Classes.{ClassLists, IsClass}
-use Rattle.gs_model.specs.Frame.{Frame, move_count, player_at, point_count, round_of}
-use Rattle.gs_model.specs.Positions.{at_point}
+use Rattle.std.proofs.{Common.{◌≡◌, ℕ, ◌+◌, ◌-◌, ◌*◌, ◌<◌, ◌≤◌, get_or, length, sym, ap, ◌∙◌, subst, arith}, lemmas.List.{get_or_default}}
+use Rattle.gs_model.specs.{Classes.{ClassLists, IsClass}, Frame.{Frame, move_count, player_at, point_count, round_of}, Positions.{at_point}}
 use Rattle.gs_best.specs.Tables.{start_of}
 use Rattle.gs_best.proofs.PointStarts.{starts_le, starts_more}
-use Rattle.gs_play.specs.Plots.{IsCellOf, IsPlot, IsRowIn, cell_place, row_in, worth_place, worth_start}
-use Rattle.gs_play.specs.declared.plot.Plot.{Plot}
-use Rattle.gs_play.specs.declared.plot.Row.{Row}
+use Rattle.gs_play.specs.{Plots.{IsCellOf, IsPlot, IsRowIn, cell_place, row_in, worth_place, worth_start}, declared.plot.Plot.{Plot}, declared.plot.Row.{Row}}
 use Rattle.gs_play.proofs.Lists.{worths_before}
 
 -- a row of a point

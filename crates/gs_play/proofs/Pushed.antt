@@ -1,37 +1,17 @@
 -- What a move of the other player adds at an end, pair by pair: a player is paid what the other loses.
-use Rattle.std.proofs.Common.{◌≡◌, ℕ, zero, suc, ◌+◌, ◌<◌, ◌≤◌, Bool, true, false, cond, List, [], ◌∷◌, take, drop, refl, sym, ap, ◌∙◌, subst}
-use Rattle.std.proofs.Common.{arith, ⊎_elim}
-use Rattle.std.specs.Prelude.{◌==◌, ◌⊎◌, map, ℤ, pos, neg_ℤ, ◌+ℤ◌, ◌*ℤ◌}
-use Rattle.std.specs.List.{range_with_len}
-use Rattle.std.proofs.lemmas.Bool.{cases_eq}
-use Rattle.std.proofs.lemmas.Bool.Decides.{Decides-eqb}
-use Rattle.std.proofs.lemmas.Int.{ints}
+use Rattle.std.proofs.Common.{◌≡◌, ℕ, zero, suc, ◌+◌, ◌<◌, ◌≤◌, Bool, true, false, cond, List, [], ◌∷◌, take, drop, refl, sym, ap, ◌∙◌, subst, arith, ⊎_elim}
+use Rattle.std.specs.{Prelude.{◌==◌, ◌⊎◌, map, ℤ, pos, neg_ℤ, ◌+ℤ◌, ◌*ℤ◌}, List.{range_with_len}}
+use Rattle.std.proofs.{lemmas.Bool.{cases_eq}, lemmas.Bool.Decides.{Decides-eqb}, lemmas.Int.{ints}}
 use Rattle.gs_game.specs.Games.{game_of}
-use Rattle.gs_model.specs.Classes.{ClassLists, IsClass, IsClasses, class_count, class_of, classes_in}
-use Rattle.gs_model.specs.Deals.{Deal, exchanged}
-use Rattle.gs_model.specs.Frame.{Frame, at_round, end_at, end_count, other_player, payoff_to, round_of}
-use Rattle.gs_model.specs.FrameFacts.{InRange, IsExchanged, IsWalked}
-use Rattle.gs_model.specs.Pairs.{pair_sum}
+use Rattle.gs_model.specs.{Classes.{ClassLists, IsClass, IsClasses, class_count, class_of, classes_in}, Deals.{Deal, exchanged}, Pairs.{pair_sum}, Sums.{sum_z}}
+use Rattle.gs_model.specs.{Frame.{Frame, at_round, end_at, end_count, other_player, payoff_to, round_of}, FrameFacts.{InRange, IsExchanged, IsWalked}}
 use Rattle.gs_model.specs.Positions.{End, at_end}
-use Rattle.gs_model.specs.Sums.{sum_z}
-use Rattle.gs_model.proofs.Basics.{not_eq, sum_z-neg}
-use Rattle.gs_model.proofs.Exchange.{neg_out}
-use Rattle.gs_model.proofs.Exchanged.{exchanged_one, exchanged_two}
-use Rattle.gs_model.proofs.Lift.{one_guard}
-use Rattle.gs_model.proofs.RawBound.{sum_z-map}
-use Rattle.gs_model.proofs.Sparse.{sum_none}
-use Rattle.gs_model.proofs.Total.{sum_z-IsPermutation, sum_z-same}
-use Rattle.gs_seq.specs.Abstracts.{game_in}
-use Rattle.gs_seq.specs.Payoffs.{pair_pays}
-use Rattle.gs_seq.specs.Rows.{IsRow}
-use Rattle.gs_seq.specs.declared.pair.Pair.{Pair}
-use Rattle.gs_seq.proofs.EndSums.{row_sum}
-use Rattle.gs_seq.proofs.Forms.{form_walked, given_in, one_or_two}
+use Rattle.gs_model.proofs.{Basics.{not_eq, sum_z-neg}, Exchange.{neg_out}, Exchanged.{exchanged_one, exchanged_two}, Lift.{one_guard}, RawBound.{sum_z-map}}
+use Rattle.gs_model.proofs.{Sparse.{sum_none}, Total.{sum_z-IsPermutation, sum_z-same}}
+use Rattle.gs_seq.specs.{Abstracts.{game_in}, Payoffs.{pair_pays}, Rows.{IsRow}, declared.pair.Pair.{Pair}}
+use Rattle.gs_seq.proofs.{EndSums.{row_sum}, Forms.{form_walked, given_in, one_or_two}}
 use Rattle.gs_seq.proofs.Turns.{IsKnown, IsTurn, begun, known, none_passed, passed, sum_ended, sum_turned, turn}
-use Rattle.gs_play.specs.Pushes.{with_sign}
-use Rattle.gs_play.specs.Sides.{side_frame, side_lists}
-use Rattle.gs_play.specs.Tallies.{IsTally, risen, risen_at}
-use Rattle.gs_play.specs.declared.side.Side.{Side}
+use Rattle.gs_play.specs.{Pushes.{with_sign}, Sides.{side_frame, side_lists}, Tallies.{IsTally, risen, risen_at}, declared.side.Side.{Side}}
 use Rattle.gs_play.specs.declared.tally.Tally.{Tally}
 use Rattle.gs_play.proofs.Risen.{risen_alike, risen_by_none, risen_same, risen_twice}
 

@@ -1,29 +1,17 @@
 -- What one more at a step adds: to what ends pay, and to what is gathered_below of one class.
 use Rattle.std.proofs.Common.{◌≡◌, ◌≢◌, ℕ, zero, suc, ◌+◌, ◌<◌, ◌≤◌, Bool, true, cond, refl, sym, ap, ◌∙◌, arith, ⊎_elim, Option, Some, None}
-use Rattle.std.specs.Prelude.{◌==◌, ℤ, pos, ◌+ℤ◌, ◌-ℤ◌, ◌*ℤ◌}
-use Rattle.std.specs.List.{range_with_len}
-use Rattle.std.proofs.Math.IntN.{*ℤ_comm}
-use Rattle.std.proofs.lemmas.Bool.{cases_eq}
-use Rattle.std.proofs.lemmas.Bool.Decides.{Decides-eqb}
-use Rattle.std.proofs.lemmas.Int.{ints}
+use Rattle.std.specs.{Prelude.{◌==◌, ℤ, pos, ◌+ℤ◌, ◌-ℤ◌, ◌*ℤ◌}, List.{range_with_len}}
+use Rattle.std.proofs.{Math.IntN.{*ℤ_comm}, lemmas.Bool.{cases_eq}, lemmas.Bool.Decides.{Decides-eqb}, lemmas.Int.{ints}}
 use borrow.Author.Differences.{product_is}
-use Rattle.gs_model.specs.BestAnswers.{Values}
-use Rattle.gs_model.specs.Classes.{ClassLists, IsClass, class_count, classes_in, first_member}
-use Rattle.gs_model.specs.Frame.{Frame, end_count, last_step, other_player, payoff_to, round_of}
-use Rattle.gs_model.specs.Pairs.{pair_sum}
-use Rattle.gs_model.specs.Plans.{Plan, lift, number_before}
+use Rattle.gs_model.specs.{BestAnswers.{Values}, Classes.{ClassLists, IsClass, class_count, classes_in, first_member}, Pairs.{pair_sum}, Sums.{sum_z}}
+use Rattle.gs_model.specs.{Frame.{Frame, end_count, last_step, other_player, payoff_to, round_of}, Plans.{Plan, lift, number_before}}
 use Rattle.gs_model.specs.Positions.{Step, at_end, at_point}
-use Rattle.gs_model.specs.Sums.{sum_z}
-use Rattle.gs_model.proofs.Basics.{not_eq}
-use Rattle.gs_model.proofs.Sparse.{sum_none}
-use Rattle.gs_model.proofs.Total.{mul-add_right, sum_z-add, sum_z-same}
+use Rattle.gs_model.proofs.{Basics.{not_eq}, Sparse.{sum_none}, Total.{mul-add_right, sum_z-add, sum_z-same}}
 use Rattle.gs_best.proofs.Ranges.{sum_same}
 use Rattle.gs_seq.specs.Payoffs.{end_sum}
 use Rattle.gs_best.specs.ClassTotals.{earlier_class, gathered_below}
-use Rattle.gs_play.specs.Jumps.{line}
-use Rattle.gs_play.proofs.SumLaws.{ArePaid, end_plus, plus_times}
-use Rattle.gs_play.specs.Tables.{raise_sum}
-use Rattle.gs_play.proofs.Turning.{line_on, turned_now}
+use Rattle.gs_play.specs.{Jumps.{line}, Tables.{raise_sum}}
+use Rattle.gs_play.proofs.{SumLaws.{ArePaid, end_plus, plus_times}, Turning.{line_on, turned_now}}
 
 -- a plan of a player has one more at a step and a class, and is elsewhere as it was
 pub record IsRaised (f : Frame) (lists : ClassLists) (u : Step) (e : ℕ) (old new : Plan) : Type 0 where

@@ -1,17 +1,11 @@
 -- An answer found again at a point, class by class: the plan so far stays, and the other player's class totals are told.
 use Rattle.std.proofs.Common.{◌≡◌, ℕ, ◌+◌, ◌<◌, false, true, get_or, refl, ◌∙◌, arith}
-use Rattle.gs_model.specs.Classes.{ClassLists, IsClass, IsClasses}
-use Rattle.gs_model.specs.Frame.{Frame, last_step, other_player, player_at, point_count, round_of}
-use Rattle.gs_model.specs.FrameFacts.{InRange, IsWalked}
-use Rattle.gs_model.specs.Positions.{at_point}
+use Rattle.gs_model.specs.{Classes.{ClassLists, IsClass, IsClasses}, Frame.{Frame, last_step, other_player, player_at, point_count, round_of}}
+use Rattle.gs_model.specs.{FrameFacts.{InRange, IsWalked}, Positions.{at_point}}
 use Rattle.gs_best.specs.Tables.{moves_of}
-use Rattle.gs_play.specs.PlanSums.{ArePlansAlike}
-use Rattle.gs_play.specs.Answers.{HasAnswer, IsElsewhere, IsRightMove, IsPassedOn, IsTurnedAt, plan_after}
-use Rattle.gs_play.specs.Tallies.{HasTallyRoom}
-use Rattle.gs_play.specs.declared.answers.Answer.{Answer}
-use Rattle.gs_play.specs.declared.tally.Tally.{Tally}
-use Rattle.gs_play.proofs.Again.{AreRightTo, rights_more, turned_more}
-use Rattle.gs_play.proofs.PlansAlike.{alike_on}
+use Rattle.gs_play.specs.{PlanSums.{ArePlansAlike}, Answers.{HasAnswer, IsElsewhere, IsRightMove, IsPassedOn, IsTurnedAt, plan_after}, Tallies.{HasTallyRoom}}
+use Rattle.gs_play.specs.{declared.answers.Answer.{Answer}, declared.tally.Tally.{Tally}}
+use Rattle.gs_play.proofs.{Again.{AreRightTo, rights_more, turned_more}, PlansAlike.{alike_on}}
 
 -- what holds before a class of a point: `start` and `before` are the answer and the other player's class totals as they were, `a` and `t` as they are
 pub record IsRenewing (f : Frame) (lists : ClassLists) (player q n now : ℕ) (move : ℕ → ℕ → ℕ) (start a : Answer) (before t : Tally) : Type 0 where

@@ -1,22 +1,12 @@
 -- Numbers at ends that rise at one end, class by class, and end by end.
-use Rattle.std.proofs.Common.{◌≡◌, ℕ, ◌+◌, ◌-◌, ◌<◌, ◌≤◌, Bool, true, false, cond, refl, sym, ap, ◌∙◌, subst, arith, ⊎_elim}
-use Rattle.std.specs.Prelude.{◌==◌, nat_lt, ℤ, pos, ◌+ℤ◌, ◌-ℤ◌, ◌*ℤ◌}
-use Rattle.std.specs.List.{range_with_len}
-use Rattle.std.proofs.Math.Path.{fun_ext}
-use Rattle.std.proofs.lemmas.Bool.{cases_eq, cases_lt, le-ltb, lt-ltb}
-use Rattle.std.proofs.lemmas.Bool.Decides.{Decides-eqb}
-use Rattle.std.proofs.lemmas.Int.{ints}
-use Rattle.gs_model.specs.Classes.{ClassLists, IsClass, class_count}
-use Rattle.gs_model.specs.Frame.{Frame, end_count, leads_to, move_count, point_count, round_of}
-use Rattle.gs_model.specs.FrameFacts.{IsWalked}
-use Rattle.gs_model.specs.Positions.{at_end}
-use Rattle.gs_model.specs.Sums.{sum_z}
+use Rattle.std.proofs.{Common.{◌≡◌, ℕ, ◌+◌, ◌-◌, ◌<◌, ◌≤◌, Bool, true, false, cond, refl, sym, ap, ◌∙◌, subst, arith, ⊎_elim}, Math.Path.{fun_ext}}
+use Rattle.std.specs.{Prelude.{◌==◌, nat_lt, ℤ, pos, ◌+ℤ◌, ◌-ℤ◌, ◌*ℤ◌}, List.{range_with_len}}
+use Rattle.std.proofs.{lemmas.Bool.{cases_eq, cases_lt, le-ltb, lt-ltb}, lemmas.Bool.Decides.{Decides-eqb}, lemmas.Int.{ints}}
+use Rattle.gs_model.specs.{Classes.{ClassLists, IsClass, class_count}, Frame.{Frame, end_count, leads_to, move_count, point_count, round_of}, Sums.{sum_z}}
+use Rattle.gs_model.specs.{FrameFacts.{IsWalked}, Positions.{at_end}}
 use Rattle.gs_model.proofs.Basics.{not_eq}
 use Rattle.gs_best.proofs.Ranges.{run_step}
-use Rattle.gs_play.specs.Plots.{HasNoWay}
-use Rattle.gs_play.specs.Pushes.{with_sign}
-use Rattle.gs_play.specs.Tallies.{IsTally, risen, risen_at}
-use Rattle.gs_play.specs.declared.tally.Tally.{Tally}
+use Rattle.gs_play.specs.{Plots.{HasNoWay}, Pushes.{with_sign}, Tallies.{IsTally, risen, risen_at}, declared.tally.Tally.{Tally}}
 use Rattle.gs_play.proofs.Alike.{tally_reached, tally_same}
 
 -- ---- numbers that rise twice

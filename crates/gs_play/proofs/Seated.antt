@@ -1,7 +1,6 @@
 -- What a turn makes of what both players hold.
-use Rattle.std.specs.declared.alloc.Global.{Global}
+use Rattle.std.specs.{declared.alloc.Global.{Global}, Prelude.{length, slice_index, ℤ}}
 use Rattle.std.proofs.Common.{◌≡◌, ℕ, Vec, Bool, false, true, get_or, ◌+◌, ◌-◌, ◌*◌, ◌<◌, ◌≤◌, refl, sym, ap, ◌∙◌, subst, arith}
-use Rattle.std.specs.Prelude.{length, slice_index, ℤ}
 use Rattle.gs_model.specs.{Classes.{ClassLists, IsClass, IsClasses}, Frame.{Frame, move_count, other_player, player_at, point_count, round_of}}
 use Rattle.gs_model.specs.{FrameFacts.{InRange, IsWalked}, Plans.{IsClassPlan, Plan}, Play.{IsFictitiousPlay}, Positions.{at_point}}
 use Rattle.gs_model.proofs.PlanLaws.{played_are_plans}
@@ -9,16 +8,11 @@ use Rattle.gs_seq.specs.{Abstracts.{abstract_frame, lists_of}, Payoffs.{end_sum}
 use Rattle.gs_seq.specs.{declared.form.Abstract.{Abstract}, declared.plan.Plan.{Plan as KeptPlan}}
 use Rattle.gs_seq.proofs.Forms.{form_classes, form_in_range, form_lossless, form_moves, form_walked}
 use Rattle.gs_best.specs.Tables.{AreInMoves, moves_of}
-use Rattle.gs_play.specs.PlanSums.{ArePlansAlike}
-use Rattle.gs_play.proofs.Jumps.{AnswerStays, jump}
+use Rattle.gs_play.specs.{PlanSums.{ArePlansAlike}, declared.answers.Answer.{Answer}, declared.seat.Seat.{Seat}, declared.tally.Tally.{Tally}}
+use Rattle.gs_play.proofs.{Jumps.{AnswerStays, jump}, Few.{few_lines}, PlansAlike.{alike_on, firsts_alike, played_alike, puts_plan}, SumLaws.{plus_times}}
 use Rattle.gs_play.specs.{Answers.{AreRight, HasAnswer, IsRight, IsPassedOn, answer_plan, plan_after, taken_plan}, DueTurns.{IsNoneDue}}
 use Rattle.gs_play.specs.{Seats.{ArePlaying, IsAtStart, IsNextDue, IsSeat}, Tallies.{AreSmallAtEnds, HasMoved, HasTallyRoom, IsTally, TellsMoves}}
-use Rattle.gs_play.specs.declared.answers.Answer.{Answer}
-use Rattle.gs_play.specs.declared.seat.Seat.{Seat}
-use Rattle.gs_play.specs.declared.tally.Tally.{Tally}
-use Rattle.gs_play.proofs.{Few.{few_lines}, PlansAlike.{alike_on, firsts_alike, played_alike, puts_plan}}
 use Rattle.gs_play.proofs.{Played.{answer_stays, faces_first, faces_later, picks_inside, plan_first, plan_later, stays_on}, Taken.{taken_puts}}
-use Rattle.gs_play.proofs.SumLaws.{plus_times}
 
 -- ---- one player
 

@@ -1,27 +1,15 @@
 -- One cell of a sweep: what its function says, from what was found and fed.
 use Rattle.std.proofs.Common.{◌≡◌, ℕ, ◌+◌, ◌^◌, ◌<◌, ◌≤◌, length, set, sym, ap, ◌∙◌, subst, arith, ⊎_elim, get_or-set_other, get_or-set_same}
 use Rattle.std.specs.Prelude.{ℤ, ◌-ℤ◌, slice_index}
-use Rattle.std.proofs.lemmas.Bool.{cases_eq}
-use Rattle.std.proofs.lemmas.List.{set-get_or}
-use Rattle.gs_model.specs.Classes.{ClassLists, IsClass}
-use Rattle.gs_model.specs.Frame.{Frame, player_at, point_count, round_of}
-use Rattle.gs_model.specs.FrameFacts.{IsFrom, IsWalked}
-use Rattle.gs_model.specs.Positions.{at_point}
+use Rattle.std.proofs.{lemmas.Bool.{cases_eq}, lemmas.List.{set-get_or}}
+use Rattle.gs_model.specs.{Classes.{ClassLists, IsClass}, Frame.{Frame, player_at, point_count, round_of}, FrameFacts.{IsFrom, IsWalked}, Positions.{at_point}}
 use Rattle.gs_best.specs.Tables.{moves_of}
 use Rattle.gs_best.proofs.PointStarts.{place_before, starts_le, starts_more}
-use Rattle.gs_play.specs.DueTurns.{IsNoneDue}
-use Rattle.gs_play.specs.Lines.{flat, line_at, wrapped}
-use Rattle.gs_play.specs.Plots.{HasNoWay, IsCellOf, IsRowIn, LeadsTo, cell_place}
-use Rattle.gs_play.specs.Tallies.{AreSmallAtEnds, FeedsAbove, HasTallyRoom, IsLineFound, IsTally, slopes_of, up_of, zeros_of}
-use Rattle.gs_play.specs.declared.line.Line.{Line}
-use Rattle.gs_play.specs.declared.plot.Row.{Row}
-use Rattle.gs_play.specs.declared.plot.Way.{Way}
-use Rattle.gs_play.specs.declared.tally.Tally.{Tally}
-use Rattle.gs_play.proofs.Chosen.{IsFoundAgain, IsFoundFor, found_again, found_for}
-use Rattle.gs_play.proofs.Feeds.{feeds_at, up_from, up_in}
-use Rattle.gs_play.proofs.Kept.{kept_fed, kept_nowhere, kept_same}
-use Rattle.gs_play.proofs.Lists.{cell_inside}
-use Rattle.gs_play.proofs.PlotRows.{cell_within, class_here, class_in, place_here}
+use Rattle.gs_play.specs.{DueTurns.{IsNoneDue}, Lines.{flat, line_at, wrapped}, Plots.{HasNoWay, IsCellOf, IsRowIn, LeadsTo, cell_place}}
+use Rattle.gs_play.specs.{Tallies.{AreSmallAtEnds, FeedsAbove, HasTallyRoom, IsLineFound, IsTally, slopes_of, up_of, zeros_of}, declared.line.Line.{Line}}
+use Rattle.gs_play.specs.{declared.plot.Row.{Row}, declared.plot.Way.{Way}, declared.tally.Tally.{Tally}}
+use Rattle.gs_play.proofs.{Chosen.{IsFoundAgain, IsFoundFor, found_again, found_for}, Feeds.{feeds_at, up_from, up_in}, Lists.{cell_inside}}
+use Rattle.gs_play.proofs.{Kept.{kept_fed, kept_nowhere, kept_same}, PlotRows.{cell_within, class_here, class_in, place_here}}
 
 module _ (f : Frame) (lists : ClassLists) (player : ℕ) (walked : IsWalked f player) (now last : ℕ) (order : now < last) (turns : last ≤ 2 ^ 20) (cell : ℕ)
     (r : Row) (row : IsRowIn f lists r) (is : IsCellOf f lists r.point cell) (old mid : Tally) (room : HasTallyRoom f lists old)

@@ -1,24 +1,14 @@
 -- Settled points and classes: where nothing below has changed nothing has to be looked at, and as long as all are settled the totals are best.
-use Rattle.std.proofs.Common.{◌≡◌, ℕ, ◌+◌, ◌<◌, ◌≤◌, Bool, true, false, cond, refl, sym, ap, ◌∙◌, arith}
+use Rattle.std.proofs.{Common.{◌≡◌, ℕ, ◌+◌, ◌<◌, ◌≤◌, Bool, true, false, cond, refl, sym, ap, ◌∙◌, arith}, lemmas.Bool.Decides.{Decides-eqb}, lemmas.Int.{ints}}
 use Rattle.std.specs.Prelude.{◌==◌, ℤ, pos, ◌+ℤ◌, ◌*ℤ◌}
-use Rattle.std.proofs.lemmas.Bool.Decides.{Decides-eqb}
-use Rattle.std.proofs.lemmas.Int.{ints}
-use Rattle.gs_model.specs.BestAnswers.{Values}
-use Rattle.gs_model.specs.Classes.{ClassLists, IsClass, class_count}
+use Rattle.gs_model.specs.{BestAnswers.{Values}, Classes.{ClassLists, IsClass, class_count}, Plans.{Plan}, Positions.{at_end, at_point}, Sums.{sum_z}}
 use Rattle.gs_model.specs.Frame.{Frame, choices_at, leads_to, move_count, player_at, point_count, round_of}
-use Rattle.gs_model.specs.Plans.{Plan}
-use Rattle.gs_model.specs.Positions.{at_end, at_point}
-use Rattle.gs_model.specs.Sums.{sum_z}
 use Rattle.gs_model.proofs.Total.{sum_z-add, sum_z-mul, sum_z-same}
 use Rattle.gs_seq.specs.Payoffs.{end_sum}
-use Rattle.gs_best.specs.Rows.{IsFirstGreatest}
+use Rattle.gs_best.specs.{Rows.{IsFirstGreatest}, ClassTotals.{AreBestTotals, earlier_class, gathered_below, total_worth}}
 use Rattle.gs_best.proofs.Ranges.{sum_same}
-use Rattle.gs_best.specs.ClassTotals.{AreBestTotals, earlier_class, gathered_below, total_worth}
-use Rattle.gs_play.specs.Jumps.{line}
-use Rattle.gs_play.proofs.JumpLaws.{tables_after, worth_line}
-use Rattle.gs_play.proofs.SumLaws.{ArePaid, end_plus, plus_times}
-use Rattle.gs_play.specs.Tables.{IsOtherSettled, IsOwnSettled, IsLineSettled, worth_in}
-use Rattle.gs_play.proofs.Turning.{line_on}
+use Rattle.gs_play.specs.{Jumps.{line}, Tables.{IsOtherSettled, IsOwnSettled, IsLineSettled, worth_in}}
+use Rattle.gs_play.proofs.{JumpLaws.{tables_after, worth_line}, SumLaws.{ArePaid, end_plus, plus_times}, Turning.{line_on}}
 
 -- the lines of all points and classes are known, and need no look, in the turns from one on up to another
 abbrev pub AreLinesSettled : Frame → ClassLists → ℕ → Values → Values → (ℕ → ℕ → ℕ) → ℕ → ℕ → Type 0

@@ -1,16 +1,11 @@
 -- One class total found again: what it counts for, and what stays settled.
-use Rattle.std.proofs.Common.{◌≡◌, ℕ, ◌<◌, ◌≤◌, sym, ap, ◌∙◌, subst, arith, ⊎_elim}
+use Rattle.std.proofs.{Common.{◌≡◌, ℕ, ◌<◌, ◌≤◌, sym, ap, ◌∙◌, subst, arith, ⊎_elim}, lemmas.Bool.{cases_eq}}
 use Rattle.std.specs.Prelude.{ℤ, ◌+ℤ◌}
-use Rattle.std.proofs.lemmas.Bool.{cases_eq}
-use Rattle.gs_model.specs.BestAnswers.{Values}
-use Rattle.gs_model.specs.Classes.{ClassLists, IsClass}
-use Rattle.gs_model.specs.Frame.{Frame, leads_to, move_count, point_count, round_of}
-use Rattle.gs_model.specs.FrameFacts.{IsInside, IsWalked}
-use Rattle.gs_model.specs.Positions.{Target, at_end, at_point}
+use Rattle.gs_model.specs.{BestAnswers.{Values}, Classes.{ClassLists, IsClass}, Frame.{Frame, leads_to, move_count, point_count, round_of}}
+use Rattle.gs_model.specs.{FrameFacts.{IsInside, IsWalked}, Positions.{Target, at_end, at_point}}
 use Rattle.gs_best.specs.ClassTotals.{earlier_class, gathered_below, total_worth}
 use Rattle.gs_play.specs.Tables.{AreSettledUntil, IsLineSettled}
-use Rattle.gs_play.proofs.Raised.{gathered_with}
-use Rattle.gs_play.proofs.Settled.{AgreeUnder, AreLinesSettled, gathered_same, settled_less, stays_settled}
+use Rattle.gs_play.proofs.{Raised.{gathered_with}, Settled.{AgreeUnder, AreLinesSettled, gathered_same, settled_less, stays_settled}}
 
 -- a table has so much more at a position and a class, and is elsewhere as it was
 pub record IsChanged (f : Frame) (lists : ClassLists) (v w : Values) (g : Target) (e : ℕ) (more : ℤ) : Type 0 where

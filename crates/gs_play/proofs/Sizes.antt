@@ -1,13 +1,9 @@
 -- What is told of lines of 64 bits is small.
-use Rattle.std.proofs.Common.{ℕ, ◌*◌, ◌^◌, ◌<◌, ◌≤◌, arith}
-use Rattle.std.specs.Prelude.{ℤ, pos, ◌-ℤ◌, ◌*ℤ◌, unsigned_abs}
-use Rattle.std.specs.Int.RustNames.{FitsSigned}
-use Rattle.std.proofs.Math.Nat.{mul-le-mul_left}
-use Rattle.std.proofs.lemmas.Int.{ints, unsigned_abs-mul}
+use Rattle.std.proofs.{Common.{ℕ, ◌*◌, ◌^◌, ◌<◌, ◌≤◌, arith}, Math.Nat.{mul-le-mul_left}, lemmas.Int.{ints, unsigned_abs-mul}}
+use Rattle.std.specs.{Prelude.{ℤ, pos, ◌-ℤ◌, ◌*ℤ◌, unsigned_abs}, Int.RustNames.{FitsSigned}}
 use borrow.Author.Differences.{abs_is}
 use mir.Syntax.{w64}
-use Rattle.gs_play.specs.Lines.{value_in}
-use Rattle.gs_play.specs.declared.line.Line.{Line}
+use Rattle.gs_play.specs.{Lines.{value_in}, declared.line.Line.{Line}}
 
 -- both numbers of a line fit 64 bits
 pub record Fits (l : Line) : Type 0 where

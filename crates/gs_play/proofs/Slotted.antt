@@ -1,16 +1,11 @@
 -- Weights in slot order: moves have slots of their own, and what is written at one changes no other.
-use Rattle.std.proofs.Common.{◌≡◌, ◌≢◌, ℕ, ◌+◌, ◌-◌, ◌*◌, ◌<◌, Bool, true, false, cond, List, length, get_or, set, refl, sym, ap, ◌∙◌}
-use Rattle.std.proofs.Common.{subst, arith, ⊎_elim, get_or-set_other, get_or-set_same}
+use Rattle.std.proofs.{Common.{◌≡◌, ◌≢◌, ℕ, ◌+◌, ◌-◌, ◌*◌, ◌<◌, Bool, true, false, cond, List, length, get_or, set, refl, sym, ap, ◌∙◌}, lemmas.Bool.{cases_eq}}
+use Rattle.std.proofs.{Common.{subst, arith, ⊎_elim, get_or-set_other, get_or-set_same}, lemmas.Bool.Decides.{Decides-eqb}}
 use Rattle.std.specs.Prelude.{◌==◌, ◌&&◌}
-use Rattle.std.proofs.lemmas.Bool.{cases_eq}
-use Rattle.std.proofs.lemmas.Bool.Decides.{Decides-eqb}
-use Rattle.gs_model.specs.Classes.{ClassLists, IsClass}
-use Rattle.gs_model.specs.Frame.{Frame, move_count, player_at, point_count, round_of}
-use Rattle.gs_model.specs.Positions.{at_point}
+use Rattle.gs_model.specs.{Classes.{ClassLists, IsClass}, Frame.{Frame, move_count, player_at, point_count, round_of}, Positions.{at_point}}
 use Rattle.gs_model.proofs.Basics.{not_eq}
 use Rattle.gs_seq.specs.Slots.{slot_count, slot_of, slots_at, slots_before}
-use Rattle.gs_seq.proofs.Coming.{slot_before, slot_in}
-use Rattle.gs_seq.proofs.SlotLaws.{slots_more}
+use Rattle.gs_seq.proofs.{Coming.{slot_before, slot_in}, SlotLaws.{slots_more}}
 use Rattle.gs_play.proofs.Lists.{one_move, one_place}
 
 -- ---- a point and a class

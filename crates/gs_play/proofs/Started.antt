@@ -1,16 +1,11 @@
 -- An answer as turns begin, which takes the first move everywhere, and as they end, where no move is taken any more.
-use Rattle.std.proofs.Common.{◌≡◌, ℕ, ◌+◌, ◌-◌, ◌<◌, ◌≤◌, cond, length, get_or, replicate, refl, ap, ◌∙◌, subst, arith, ⊎_elim}
-use Rattle.std.proofs.lemmas.Bool.{cases_eq}
+use Rattle.std.proofs.{Common.{◌≡◌, ℕ, ◌+◌, ◌-◌, ◌<◌, ◌≤◌, cond, length, get_or, replicate, refl, ap, ◌∙◌, subst, arith, ⊎_elim}, lemmas.Bool.{cases_eq}}
 use Rattle.std.proofs.lemmas.List.{length-replicate}
-use Rattle.gs_model.specs.Classes.{ClassLists, IsClass}
-use Rattle.gs_model.specs.Frame.{Frame, last_step, move_count, player_at, point_count, round_of}
-use Rattle.gs_model.specs.Positions.{at_point}
+use Rattle.gs_model.specs.{Classes.{ClassLists, IsClass}, Frame.{Frame, last_step, move_count, player_at, point_count, round_of}, Positions.{at_point}}
 use Rattle.gs_model.proofs.Basics.{not_eq}
 use Rattle.gs_seq.specs.Slots.{plan_of, slot_count, slot_of}
 use Rattle.gs_best.specs.Tables.{moves_of, start_of}
-use Rattle.gs_play.specs.PlanSums.{ArePlansAlike}
-use Rattle.gs_play.specs.Answers.{AreKeptBut, AreRight, HasAnswer, plan_after}
-use Rattle.gs_play.specs.declared.answers.Answer.{Answer}
+use Rattle.gs_play.specs.{PlanSums.{ArePlansAlike}, Answers.{AreKeptBut, AreRight, HasAnswer, plan_after}, declared.answers.Answer.{Answer}}
 use Rattle.gs_play.proofs.{Clear.{same_at}, PlansAlike.{alike_on}, Taken.{reached_or}}
 
 module _ (f : Frame) (lists : ClassLists) (player : ℕ) (a : Answer) where

@@ -1,16 +1,14 @@
 -- What ends pay by the other player's plan so far: it adds up as plans do.
 use Rattle.std.proofs.{Common.{◌≡◌, ℕ, ◌+◌, ◌*◌, ◌<◌, refl, sym, ap, ◌∙◌, arith, Option, Some, None}, Math.IntN.{*ℤ_comm, pos-*ℤ-pos}, lemmas.Int.{ints}}
 use Rattle.std.specs.Prelude.{ℤ, pos, ◌+ℤ◌, ◌*ℤ◌}
-use Rattle.gs_model.specs.Classes.{ClassLists, IsClass, IsClasses, class_count, classes_in, first_member}
+use Rattle.gs_model.specs.{Classes.{ClassLists, IsClass, IsClasses, class_count, classes_in, first_member}, BestAnswers.{Values}}
 use Rattle.gs_model.specs.{Frame.{Frame, ancestor, end_count, last_step, other_player, payoff_to, round_of}, FrameFacts.{InRange, IsWalked}, Pairs.{pair_sum}}
 use Rattle.gs_model.specs.{Plans.{Plan, lift, number_before}, Positions.{Step, at_end, at_point}, Sums.{sum_z}}
 use Rattle.gs_model.proofs.{Gather.{class_in, known_from, member_in}, Total.{mul-add_right, mul_assoc_z, sum_z-add, sum_z-mul, sum_z-same}}
 use Rattle.gs_seq.specs.Payoffs.{end_sum}
 use Rattle.gs_best.specs.ClassTotals.{earlier_class}
 use Rattle.gs_best.proofs.Ranges.{sum_same}
-use Rattle.gs_play.specs.PlanSums.{ArePlansAlike}
-use Rattle.gs_model.specs.BestAnswers.{Values}
-use Rattle.gs_play.specs.Jumps.{line}
+use Rattle.gs_play.specs.{PlanSums.{ArePlansAlike}, Jumps.{line}}
 
 -- plan x plus k times plan b
 abbrev pub plus_times : Plan → ℕ → Plan → Plan

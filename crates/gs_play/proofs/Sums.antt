@@ -1,19 +1,12 @@
 -- The sum of what all moves are worth at a point of the other's: as small as a class total, since it would be one.
-use Rattle.std.proofs.Common.{◌≡◌, ◌≢◌, ℕ, ◌+◌, ◌<◌, ◌≤◌, cond, refl, sym, ap, ◌∙◌, subst, arith, ⊎_elim}
+use Rattle.std.proofs.{Common.{◌≡◌, ◌≢◌, ℕ, ◌+◌, ◌<◌, ◌≤◌, cond, refl, sym, ap, ◌∙◌, subst, arith, ⊎_elim}, lemmas.Bool.{cases_eq}}
 use Rattle.std.specs.Prelude.{◌==◌, ℤ, pos, unsigned_abs}
-use Rattle.std.proofs.lemmas.Bool.{cases_eq}
 use Rattle.std.proofs.lemmas.Bool.Decides.{Decides-eqb}
-use Rattle.gs_model.specs.BestAnswers.{Values}
-use Rattle.gs_model.specs.Classes.{ClassLists, IsClass, classes_in}
-use Rattle.gs_model.specs.Frame.{Frame, choices_at, end_count, leads_to, move_count, player_at, point_count, round_of}
-use Rattle.gs_model.specs.FrameFacts.{IsFrom, IsWalked}
-use Rattle.gs_model.specs.Positions.{Target, at_end, at_point}
-use Rattle.gs_model.specs.Sums.{sum_z}
-use Rattle.gs_model.proofs.Basics.{not_eq}
-use Rattle.gs_model.proofs.Total.{sum_z-same}
+use Rattle.gs_model.specs.{BestAnswers.{Values}, Classes.{ClassLists, IsClass, classes_in}, FrameFacts.{IsFrom, IsWalked}, Positions.{Target, at_end, at_point}}
+use Rattle.gs_model.specs.{Frame.{Frame, choices_at, end_count, leads_to, move_count, player_at, point_count, round_of}, Sums.{sum_z}}
+use Rattle.gs_model.proofs.{Basics.{not_eq}, Total.{sum_z-same}}
 use Rattle.gs_best.proofs.Ranges.{sum_same}
-use Rattle.gs_best.specs.ClassTotals.{earlier_class, total_worth}
-use Rattle.gs_best.specs.Places.{IsFollowedFrom}
+use Rattle.gs_best.specs.{ClassTotals.{earlier_class, total_worth}, Places.{IsFollowedFrom}}
 use Rattle.gs_play.specs.Tallies.{AreSmallAt}
 
 module _ (f : Frame) (lists : ClassLists) (player : ℕ) (walked : IsWalked f player) (v : Values) (move : ℕ → ℕ → ℕ) (q : ℕ) (lq : q < point_count f)

@@ -1,20 +1,14 @@
 -- What changes of a player's answer where another move is taken at a class: the plan so far stays, and goes on by the new move.
-use Rattle.std.proofs.Common.{◌≡◌, ℕ, ◌+◌, ◌-◌, ◌<◌, ◌≤◌, Bool, true, false, cond, length, get_or, set, refl, ap, ◌∙◌, arith, ⊎_elim}
+use Rattle.std.proofs.{Common.{◌≡◌, ℕ, ◌+◌, ◌-◌, ◌<◌, ◌≤◌, Bool, true, false, cond, length, get_or, set, refl, ap, ◌∙◌, arith, ⊎_elim}, lemmas.Bool.{cases_eq}}
 use Rattle.std.proofs.Common.{get_or-set_other, get_or-set_same, length-set}
 use Rattle.std.specs.Prelude.{◌==◌}
-use Rattle.std.proofs.lemmas.Bool.{cases_eq}
-use Rattle.gs_model.specs.Classes.{ClassLists, IsClass}
-use Rattle.gs_model.specs.Frame.{Frame, move_count, player_at, point_count, round_of}
-use Rattle.gs_model.specs.Positions.{at_point}
+use Rattle.gs_model.specs.{Classes.{ClassLists, IsClass}, Frame.{Frame, move_count, player_at, point_count, round_of}, Positions.{at_point}}
 use Rattle.gs_seq.specs.Slots.{slot_of}
 use Rattle.gs_best.specs.Tables.{moves_of, start_of}
 use Rattle.gs_best.proofs.PointStarts.{place_before}
-use Rattle.gs_play.specs.PlanSums.{ArePlansAlike}
-use Rattle.gs_play.specs.Answers.{HasAnswer, IsElsewhere, IsPaidOff, plan_after}
-use Rattle.gs_play.specs.Plots.{cell_place}
+use Rattle.gs_play.specs.{PlanSums.{ArePlansAlike}, Answers.{HasAnswer, IsElsewhere, IsPaidOff, plan_after}, Plots.{cell_place}}
 use Rattle.gs_play.specs.declared.answers.Answer.{Answer}
-use Rattle.gs_play.proofs.Lists.{other_cell}
-use Rattle.gs_play.proofs.Slotted.{at_or, counted_here, counted_other}
+use Rattle.gs_play.proofs.{Lists.{other_cell}, Slotted.{at_or, counted_here, counted_other}}
 
 -- the weight so far is written, and the other move and the turn
 pub record IsSwitched (f : Frame) (lists : ClassLists) (player q c new now : ℕ) (a b : Answer) : Type 0 where

@@ -1,12 +1,9 @@
 -- The answer as a move taken at each class that it comes to: where each class is right, all is put on the chosen moves.
 use Rattle.std.proofs.Common.{◌≡◌, ℕ, ◌<◌, ◌≤◌, Bool, true, false, cond, Option, Some, None, refl, sym, ap, ◌∙◌, subst, arith, ⊎_elim, inl}
 use Rattle.std.specs.Prelude.{◌==◌, ◌⊎◌, if◌then◌else◌}
-use Rattle.std.proofs.lemmas.Bool.{cases_eq}
-use Rattle.std.proofs.lemmas.Bool.Decides.{Decides-eqb}
-use Rattle.gs_model.specs.Classes.{ClassLists, IsClass, first_member}
-use Rattle.gs_model.specs.Frame.{Frame, last_step, move_count, player_at, point_count, round_of}
-use Rattle.gs_model.specs.Plans.{Plan, lift, number_before}
-use Rattle.gs_model.specs.Positions.{Step, at_point}
+use Rattle.std.proofs.{lemmas.Bool.{cases_eq}, lemmas.Bool.Decides.{Decides-eqb}}
+use Rattle.gs_model.specs.{Classes.{ClassLists, IsClass, first_member}, Frame.{Frame, last_step, move_count, player_at, point_count, round_of}}
+use Rattle.gs_model.specs.{Plans.{Plan, lift, number_before}, Positions.{Step, at_point}}
 use Rattle.gs_model.proofs.Basics.{not_eq}
 use Rattle.gs_best.specs.ClassTotals.{earlier_class}
 use Rattle.gs_play.specs.Answers.{AreRight, IsReached, IsRight, taken_plan}

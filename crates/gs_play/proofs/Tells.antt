@@ -1,15 +1,9 @@
 -- What is said of moved choices, where a choice is written and over several steps.
-use Rattle.std.proofs.Common.{◌≡◌, ℕ, Bool, false, List, get_or, set, sym, ap, ◌∙◌, ⊎_elim, Vec}
+use Rattle.std.proofs.{Common.{◌≡◌, ℕ, Bool, false, List, get_or, set, sym, ap, ◌∙◌, ⊎_elim, Vec}, lemmas.Bool.{cases_eq}, lemmas.List.{set-get_or}}
 use Rattle.std.specs.declared.alloc.Global.{Global}
-use Rattle.std.proofs.lemmas.Bool.{cases_eq}
-use Rattle.std.proofs.lemmas.List.{set-get_or}
-use Rattle.gs_model.specs.Classes.{ClassLists, IsClass}
-use Rattle.gs_model.specs.Frame.{Frame, round_of}
-use Rattle.gs_model.specs.Positions.{at_point}
+use Rattle.gs_model.specs.{Classes.{ClassLists, IsClass}, Frame.{Frame, round_of}, Positions.{at_point}}
 use Rattle.gs_best.specs.Tables.{moves_of}
-use Rattle.gs_play.specs.Plots.{cell_place}
-use Rattle.gs_play.specs.Tallies.{IsPicked, TellsMoves}
-use Rattle.gs_play.specs.declared.tally.Tally.{Tally}
+use Rattle.gs_play.specs.{Plots.{cell_place}, Tallies.{IsPicked, TellsMoves}, declared.tally.Tally.{Tally}}
 use Rattle.gs_play.proofs.Lists.{other_cell}
 
 module _ (f : Frame) (lists : ClassLists) where

@@ -1,22 +1,12 @@
 -- What one player is told where the other takes another move at a class: what ends pay changes by what both moves bring there.
-use Rattle.std.proofs.Common.{◌≡◌, ℕ, ◌+◌, ◌<◌, ◌≤◌, Bool, true, false, cond, refl, sym, ap, ◌∙◌, arith}
+use Rattle.std.proofs.{Common.{◌≡◌, ℕ, ◌+◌, ◌<◌, ◌≤◌, Bool, true, false, cond, refl, sym, ap, ◌∙◌, arith}, lemmas.Bool.Decides.{Decides-eqb}, lemmas.Int.{ints}}
 use Rattle.std.specs.Prelude.{◌==◌, ◌+ℤ◌}
-use Rattle.std.proofs.lemmas.Bool.Decides.{Decides-eqb}
-use Rattle.std.proofs.lemmas.Int.{ints}
-use Rattle.gs_model.specs.Classes.{ClassLists, IsClass, IsClasses}
-use Rattle.gs_model.specs.Frame.{Frame, end_count, move_count, other_player, payoff_to, point_count, round_of}
-use Rattle.gs_model.specs.FrameFacts.{InRange, IsWalked}
-use Rattle.gs_model.specs.Plans.{Plan}
-use Rattle.gs_model.specs.Positions.{Step, at_point}
+use Rattle.gs_model.specs.{Classes.{ClassLists, IsClass, IsClasses}, Frame.{Frame, end_count, move_count, other_player, payoff_to, point_count, round_of}}
+use Rattle.gs_model.specs.{FrameFacts.{InRange, IsWalked}, Plans.{Plan}, Positions.{Step, at_point}}
 use Rattle.gs_model.proofs.Basics.{not_eq}
 use Rattle.gs_seq.specs.Payoffs.{end_sum}
-use Rattle.gs_play.specs.PlanSums.{ArePlansAlike}
-use Rattle.gs_play.proofs.SumLaws.{kept_alike}
-use Rattle.gs_play.specs.Answers.{AreTakenBut, IsOtherMove, taken_plan}
-use Rattle.gs_play.specs.Pushes.{IsPushed, with_sign}
-use Rattle.gs_play.specs.Tables.{raise_sum}
-use Rattle.gs_play.proofs.Raised.{IsRaised, end_kept, end_raised}
-use Rattle.gs_play.proofs.Slotted.{at_or, here_no, here_yes, is_here}
+use Rattle.gs_play.specs.{PlanSums.{ArePlansAlike}, Answers.{AreTakenBut, IsOtherMove, taken_plan}, Pushes.{IsPushed, with_sign}, Tables.{raise_sum}}
+use Rattle.gs_play.proofs.{SumLaws.{kept_alike}, Raised.{IsRaised, end_kept, end_raised}, Slotted.{at_or, here_no, here_yes, is_here}}
 
 -- the plan that takes the given moves, but none at one class
 abbrev pub plan_without : ℕ → ℕ → (ℕ → ℕ → ℕ) → Plan

@@ -1,31 +1,16 @@
 -- The line of one class at an end turns, and the worth that it counts for changes as much: all that is kept of a player is right with the new numbers at ends.
-use Rattle.std.proofs.Common.{◌≡◌, ℕ, ◌<◌, Bool, true, false, cond, refl, sym, ap, ◌∙◌, subst, arith, Vec, length, get_or-set_same}
-use Rattle.std.specs.Prelude.{◌==◌, ℤ, pos, ◌+ℤ◌, ◌-ℤ◌, ◌*ℤ◌}
-use Rattle.std.specs.declared.alloc.Global.{Global}
-use Rattle.std.proofs.lemmas.Bool.Decides.{Decides-eqb}
-use Rattle.std.proofs.lemmas.Int.{ints}
-use Rattle.std.proofs.Math.IntN.{*ℤ_comm}
-use Rattle.std.proofs.Math.Path.{fun_ext}
-use Rattle.gs_model.specs.BestAnswers.{Values}
-use Rattle.gs_model.specs.Classes.{ClassLists, IsClass}
-use Rattle.gs_model.specs.Frame.{Frame, end_count, round_of}
-use Rattle.gs_model.specs.FrameFacts.{IsInside, IsWalked}
+use Rattle.std.proofs.{Common.{◌≡◌, ℕ, ◌<◌, Bool, true, false, cond, refl, sym, ap, ◌∙◌, subst, arith, Vec, length, get_or-set_same}, lemmas.Int.{ints}}
+use Rattle.std.specs.{Prelude.{◌==◌, ℤ, pos, ◌+ℤ◌, ◌-ℤ◌, ◌*ℤ◌}, declared.alloc.Global.{Global}}
+use Rattle.std.proofs.{lemmas.Bool.Decides.{Decides-eqb}, Math.IntN.{*ℤ_comm}, Math.Path.{fun_ext}}
+use Rattle.gs_model.specs.{BestAnswers.{Values}, Classes.{ClassLists, IsClass}, Frame.{Frame, end_count, round_of}, FrameFacts.{IsInside, IsWalked}}
 use Rattle.gs_model.specs.Positions.{Target, at_end, at_point}
 use Rattle.gs_model.proofs.Total.{mul-add_right}
-use Rattle.gs_best.specs.ClassTotals.{earlier_class}
-use Rattle.gs_best.specs.Tables.{moves_of}
-use Rattle.gs_play.specs.Lines.{wrapped}
-use Rattle.gs_play.specs.Plots.{LeadsTo, cell_place, worth_place}
-use Rattle.gs_play.specs.Tables.{AreSettledUntil}
+use Rattle.gs_best.specs.{ClassTotals.{earlier_class}, Tables.{moves_of}}
+use Rattle.gs_play.specs.{Lines.{wrapped}, Plots.{LeadsTo, cell_place, worth_place}, Tables.{AreSettledUntil}, declared.line.Line.{Line}}
 use Rattle.gs_play.specs.Tallies.{FeedsAbove, HasTallyRoom, HasWorths, IsFed, IsTally, at_part, risen, slope_part, slopes_of, up_of, zeros_of}
-use Rattle.gs_play.specs.declared.line.Line.{Line}
-use Rattle.gs_play.specs.declared.plot.Way.{Way}
-use Rattle.gs_play.specs.declared.tally.Tally.{Tally}
-use Rattle.gs_play.proofs.Feeds.{feeds_at, up_in}
-use Rattle.gs_play.proofs.Lists.{cell_inside, other_cell, worth_inside, worths_fed}
-use Rattle.gs_play.proofs.OneWay.{one_way}
+use Rattle.gs_play.specs.{declared.plot.Way.{Way}, declared.tally.Tally.{Tally}}
+use Rattle.gs_play.proofs.{Feeds.{feeds_at, up_in}, Lists.{cell_inside, other_cell, worth_inside, worths_fed}, OneWay.{one_way}, Wrapped.{wrapped_twice}}
 use Rattle.gs_play.proofs.Settling.{IsChanged, settled_turn}
-use Rattle.gs_play.proofs.Wrapped.{wrapped_twice}
 
 -- nothing more
 pub risen_none : (rise : ℕ → ℕ → ℤ) (z k : ℕ) → risen rise z k (pos 0) ≡ rise

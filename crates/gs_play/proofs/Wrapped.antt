@@ -1,7 +1,6 @@
 -- Numbers that wrap around at 64 bits, and their sums.
 use Rattle.std.proofs.Common.{◌≡◌, ℕ, ◌+◌, ◌-◌, ◌^◌, ◌<◌, ◌≤◌, sym, ap, ◌∙◌, arith}
-use Rattle.std.specs.Prelude.{ℤ, ◌+ℤ◌, unsigned_abs}
-use Rattle.std.specs.List.{range_with_len}
+use Rattle.std.specs.{Prelude.{ℤ, ◌+ℤ◌, unsigned_abs}, List.{range_with_len}}
 use Rattle.std.proofs.lemmas.Int.{SFits-int_wrap, fits_signed_from_abs, int_wrap-add_left, int_wrap-add_right, int_wrap_fits}
 use mir.Syntax.{w64}
 use Rattle.gs_model.specs.Sums.{sum_z}

@@ -1,17 +1,11 @@
 -- A player's answer: the moves that it takes, and the weights so far.
 use Rattle.std.specs.Prelude.{ℕ, ⊤, ◌+◌, ◌-◌, ◌<◌, ◌≤◌, ◌≡◌, ◌≢◌, ◌==◌, ◌&&◌, Bool, List, Option, Some, None, ℤ, false, length}
 use Rattle.std.specs.Prelude.{get_or, slice_index, if◌then◌else◌}
-use Rattle.gs_model.specs.Classes.{ClassLists, IsClass}
-use Rattle.gs_model.specs.Frame.{Frame, last_step, move_count, player_at, point_count, round_of}
-use Rattle.gs_model.specs.Plans.{Plan}
+use Rattle.gs_model.specs.{Classes.{ClassLists, IsClass}, Frame.{Frame, last_step, move_count, player_at, point_count, round_of}, Plans.{Plan}}
 use Rattle.gs_model.specs.Positions.{Step, at_point}
-use Rattle.gs_seq.specs.Payoffs.{end_sum}
-use Rattle.gs_seq.specs.Slots.{slot_count, slot_of}
-use Rattle.gs_best.specs.Tables.{moves_of, start_of}
-use Rattle.gs_best.specs.ClassTotals.{earlier_class}
-use Rattle.gs_play.specs.Tallies.{IsTally}
-use Rattle.gs_play.specs.declared.answers.Answer.{Answer}
-use Rattle.gs_play.specs.declared.tally.Tally.{Tally}
+use Rattle.gs_seq.specs.{Payoffs.{end_sum}, Slots.{slot_count, slot_of}}
+use Rattle.gs_best.specs.{Tables.{moves_of, start_of}, ClassTotals.{earlier_class}}
+use Rattle.gs_play.specs.{Tallies.{IsTally}, declared.answers.Answer.{Answer}, declared.tally.Tally.{Tally}}
 
 -- the answer takes its player's last step before a point, at the class above a class of the point; it comes there, too, if there is no such step
 abbrev pub IsReached : Frame → ClassLists → (ℕ → ℕ → ℕ) → Option Step → ℕ → ℕ → Type 0

@@ -1,11 +1,8 @@
 -- Numbers that move on straight lines from turn to turn.
-use Rattle.std.specs.Prelude.{ℕ, ◌<◌, ◌≤◌, Bool, List, get_or, length, ℤ, pos}
-use Rattle.std.specs.Int.{int_wrap}
+use Rattle.std.specs.{Prelude.{ℕ, ◌<◌, ◌≤◌, Bool, List, get_or, length, ℤ, pos}, Int.{int_wrap}}
 use mir.Syntax.{w64}
 use Rattle.gs_best.specs.Rows.{IsFirstGreatest}
-use Rattle.gs_play.specs.Jumps.{line}
-use Rattle.gs_play.specs.Lasting.{IsNotAhead}
-use Rattle.gs_play.specs.declared.line.Line.{Line}
+use Rattle.gs_play.specs.{Jumps.{line}, Lasting.{IsNotAhead}, declared.line.Line.{Line}}
 
 -- a number as it is kept in 64 bits: it wraps around
 abbrev pub wrapped : ℤ → ℤ

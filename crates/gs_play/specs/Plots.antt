@@ -1,17 +1,11 @@
 -- Where the numbers of a game stand, and what counts for what.
 use Rattle.std.specs.Prelude.{ℕ, ◌+◌, ◌-◌, ◌*◌, ◌<◌, ◌≤◌, ◌≡◌, ◌≢◌, List, length, get_or, option_map, set, slice_index, sum_by, Option, Some, None}
 use Rattle.std.specs.List.{range_with_len}
-use Rattle.gs_game.specs.Seen.{step_of}
-use Rattle.gs_game.specs.declared.positions.Step.{Step as StoredStep}
-use Rattle.gs_model.specs.Classes.{ClassLists, IsClass}
-use Rattle.gs_model.specs.Frame.{Frame, end_count, last_step, leads_to, move_count, player_at, point_count, round_of}
+use Rattle.gs_game.specs.{Seen.{step_of}, declared.positions.Step.{Step as StoredStep}}
+use Rattle.gs_model.specs.{Classes.{ClassLists, IsClass}, Frame.{Frame, end_count, last_step, leads_to, move_count, player_at, point_count, round_of}}
 use Rattle.gs_model.specs.Positions.{Step, Target, at_end, at_point}
-use Rattle.gs_best.specs.ClassTotals.{earlier_class}
-use Rattle.gs_best.specs.Tables.{classes_at, start_of}
-use Rattle.gs_play.specs.declared.plot.Plot.{Plot}
-use Rattle.gs_play.specs.declared.plot.Row.{Row}
-use Rattle.gs_play.specs.declared.plot.Span.{Span}
-use Rattle.gs_play.specs.declared.plot.Way.{Way}
+use Rattle.gs_best.specs.{ClassTotals.{earlier_class}, Tables.{classes_at, start_of}}
+use Rattle.gs_play.specs.{declared.plot.Plot.{Plot}, declared.plot.Row.{Row}, declared.plot.Span.{Span}, declared.plot.Way.{Way}}
 
 -- the place of a point's first worth
 abbrev pub worth_start : Frame → ClassLists → ℕ → ℕ

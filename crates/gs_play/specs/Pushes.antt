@@ -1,11 +1,8 @@
 -- What a move of the other player brings at ends.
 use Rattle.std.specs.Prelude.{ℕ, ◌<◌, ◌≡◌, Bool, Some, ℤ, neg_ℤ, pos, ◌+ℤ◌, ◌*ℤ◌, if◌then◌else◌}
-use Rattle.gs_model.specs.Classes.{ClassLists, IsClass}
-use Rattle.gs_model.specs.Frame.{Frame, end_count, last_step, other_player, round_of}
-use Rattle.gs_model.specs.Positions.{Step, at_end}
+use Rattle.gs_model.specs.{Classes.{ClassLists, IsClass}, Frame.{Frame, end_count, last_step, other_player, round_of}, Positions.{Step, at_end}}
 use Rattle.gs_seq.specs.declared.pair.Pair.{Pair}
-use Rattle.gs_play.specs.Tables.{raise_sum}
-use Rattle.gs_play.specs.declared.pushing.Stake.{Stake}
+use Rattle.gs_play.specs.{Tables.{raise_sum}, declared.pushing.Stake.{Stake}}
 
 -- a number that is added where a move is taken, and taken away where it is taken no more
 abbrev pub with_sign : Bool → ℤ → ℤ

@@ -3,9 +3,7 @@ use Rattle.std.specs.Prelude.{ℕ, pos, ◌+◌, ◌-◌, ◌<◌, ◌≤◌, Li
 use Rattle.gs_model.specs.{Classes.{ClassLists}, Frame.{Frame, other_player, point_count}, Plans.{IsClassPlan, Plan}, Play.{IsFictitiousPlay, IsFirstMoves}}
 use Rattle.gs_seq.specs.Payoffs.{end_sum}
 use Rattle.gs_best.specs.Tables.{moves_of}
-use Rattle.gs_play.specs.Answers.{AreRight, HasAnswer, answer_plan, plan_after}
-use Rattle.gs_play.specs.Tallies.{HasMoved, HasTallyRoom, IsTally}
-use Rattle.gs_play.specs.declared.seat.Seat.{Seat}
+use Rattle.gs_play.specs.{Answers.{AreRight, HasAnswer, answer_plan, plan_after}, Tallies.{HasMoved, HasTallyRoom, IsTally}, declared.seat.Seat.{Seat}}
 
 -- there is room for a player's answer and class totals in the turn `now`; the answer is a plan, and what it takes is right by the player's choices, of
 -- which none has changed since

@@ -1,13 +1,8 @@
 -- Class totals that move on straight lines: a table of numbers in turn 0 and a table of slopes.
 use Rattle.std.specs.Prelude.{ℕ, ◌<◌, ◌≤◌, ◌≡◌, ◌≢◌, ◌==◌, ℤ, pos, if◌then◌else◌}
-use Rattle.gs_model.specs.BestAnswers.{Values}
-use Rattle.gs_model.specs.Classes.{ClassLists, IsClass, classes_in}
+use Rattle.gs_model.specs.{BestAnswers.{Values}, Classes.{ClassLists, IsClass, classes_in}, Pairs.{pair_sum}, Positions.{Step, at_end, at_point}, Sums.{sum_z}}
 use Rattle.gs_model.specs.Frame.{Frame, choices_at, move_count, payoff_to, player_at, point_count, round_of}
-use Rattle.gs_model.specs.Pairs.{pair_sum}
-use Rattle.gs_model.specs.Positions.{Step, at_end, at_point}
-use Rattle.gs_model.specs.Sums.{sum_z}
-use Rattle.gs_best.specs.Rows.{IsFirstGreatest}
-use Rattle.gs_best.specs.ClassTotals.{earlier_class, total_worth}
+use Rattle.gs_best.specs.{Rows.{IsFirstGreatest}, ClassTotals.{earlier_class, total_worth}}
 use Rattle.gs_play.specs.Jumps.{line}
 
 -- what a move is worth to a class as a whole in a turn

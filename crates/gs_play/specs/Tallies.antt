@@ -1,24 +1,11 @@
 -- Class totals of a player that move with the turns, and worths that are kept with them.
 use Rattle.std.specs.Prelude.{ℕ, ◌+◌, ◌-◌, ◌*◌, ◌^◌, ◌<◌, ◌≤◌, ◌≡◌, ◌≢◌, ◌==◌, if◌then◌else◌, true, false, List, length, get_or, set, take, drop}
-use Rattle.std.specs.Prelude.{slice_index, ℤ, pos, ◌+ℤ◌, ◌-ℤ◌, ◌*ℤ◌, unsigned_abs}
-use Rattle.gs_model.specs.BestAnswers.{Values}
-use Rattle.gs_model.specs.Classes.{ClassLists, IsClass}
-use Rattle.gs_model.specs.Frame.{Frame, end_count, move_count, point_count, round_of}
-use Rattle.gs_model.specs.FrameFacts.{IsFrom, IsInside}
-use Rattle.gs_model.specs.Positions.{Target, at_end, at_point}
-use Rattle.gs_model.specs.Sums.{sum_z}
-use Rattle.std.specs.{Int.{div_ceil}, List.{range_with_len}}
-use Rattle.gs_best.specs.Tables.{moves_of, start_of}
-use Rattle.gs_best.specs.ClassTotals.{earlier_class, total_worth}
-use Rattle.gs_best.specs.Places.{IsFollowedFrom}
-use Rattle.gs_play.specs.DueTurns.{IsDues}
-use Rattle.gs_play.specs.Lines.{StaysFirst, flat, line_at, wrapped}
-use Rattle.gs_play.specs.Plots.{cell_place, worth_place, worth_start}
-use Rattle.gs_play.specs.Tables.{AreSettledUntil}
-use Rattle.gs_play.specs.declared.line.Line.{Line}
-use Rattle.gs_play.specs.declared.plot.Row.{Row}
-use Rattle.gs_play.specs.declared.plot.Way.{Way}
-use Rattle.gs_play.specs.declared.tally.Tally.{Tally}
+use Rattle.std.specs.{Prelude.{slice_index, ℤ, pos, ◌+ℤ◌, ◌-ℤ◌, ◌*ℤ◌, unsigned_abs}, Int.{div_ceil}, List.{range_with_len}}
+use Rattle.gs_model.specs.{BestAnswers.{Values}, Classes.{ClassLists, IsClass}, Frame.{Frame, end_count, move_count, point_count, round_of}, Sums.{sum_z}}
+use Rattle.gs_model.specs.{FrameFacts.{IsFrom, IsInside}, Positions.{Target, at_end, at_point}}
+use Rattle.gs_best.specs.{Tables.{moves_of, start_of}, ClassTotals.{earlier_class, total_worth}, Places.{IsFollowedFrom}}
+use Rattle.gs_play.specs.{DueTurns.{IsDues}, Lines.{StaysFirst, flat, line_at, wrapped}, Plots.{cell_place, worth_place, worth_start}, Tables.{AreSettledUntil}}
+use Rattle.gs_play.specs.{declared.line.Line.{Line}, declared.plot.Row.{Row}, declared.plot.Way.{Way}, declared.tally.Tally.{Tally}}
 
 -- the number of a line in turn 0
 abbrev pub at_part : Line → ℤ

@@ -1,7 +1,6 @@
 -- Each raw signal of a lawful game is dealt: it has a child in the next round, a last-round signal below it, and a deal.
 use Rattle.std.proofs.Common.{◌≡◌, ℕ, zero, suc, ◌+◌, ◌-◌, ◌*◌, ◌<◌, ◌≤◌, ◌++◌, ◌==◌, Bool, true, cond, List, [], ◌∷◌, map, length, get_or, sum, ℤ, refl, sym}
-use Rattle.std.proofs.Common.{ap, ◌∙◌, subst, inl, inr, arith}
-use Rattle.std.proofs.{lemmas.Bool.{cases_Bool, eqb-true, eq-eqb}, lemmas.List.{length-append, length-map, take_all}}
+use Rattle.std.proofs.{Common.{ap, ◌∙◌, subst, inl, inr, arith}, lemmas.Bool.{cases_Bool, eqb-true, eq-eqb}, lemmas.List.{length-append, length-map, take_all}}
 use Rattle.std.proofs.{lemmas.List.Elements.{All-from_recursion}, lemmas.List.Sums.{get_or-le-sum_by, sum_by-append, sum_by-cons}}
 use Rattle.std.specs.{Prelude.{filter, flat_map}, List.{AllByRecursion}}
 use Rattle.gs_game.proofs.{GroupDraws.{all_ways, leaves_sum}, Sequencing.{drawn, facing_ways, first_sizes, sizes_are}, Totals.{total}}

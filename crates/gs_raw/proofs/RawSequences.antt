@@ -1,8 +1,7 @@
 -- Over single signals a player has at most 64 sequences to a raw cell, and the empty one: a point has at most 64 points on each way to an end, and a signal is
 -- in some pair of each later round.
 use Rattle.std.proofs.Common.{◌≡◌, ℕ, zero, suc, ◌+◌, ◌-◌, ◌*◌, ◌<◌, ◌≤◌, ◌++◌, ◌==◌, ◌&&◌, Bool, true, cond, List, [], ◌∷◌, map, length, get_or, None, refl}
-use Rattle.std.proofs.Common.{sym, ap, ◌∙◌, subst, inl, inr, arith}
-use Rattle.std.proofs.{Math.Nat.{mul-le-mul_left, mul-le-mul_right}, lemmas.Bool.{cases_Bool, cases_lt, eq-eqb}}
+use Rattle.std.proofs.{Common.{sym, ap, ◌∙◌, subst, inl, inr, arith}, Math.Nat.{mul-le-mul_left, mul-le-mul_right}, lemmas.Bool.{cases_Bool, cases_lt, eq-eqb}}
 use Rattle.std.proofs.{lemmas.List.FromFn.{get_or-range_with_len, length-range_with_len}, lemmas.List.Sums.{get_or-le-sum_by, sum_by-cons}}
 use Rattle.std.specs.{Prelude.{count_by, sum_by}, List.{AllByRecursion, list_any, range_with_len}}
 use Rattle.gs_bet.specs.{Grammar.{are_sound, is_sound}, MoveLists.{count, has_move}}
@@ -14,9 +13,8 @@ use Rattle.gs_game.specs.Rules.{KeepsRules}
 use Rattle.gs_lossless.proofs.Descent.{first_end}
 use Rattle.gs_model.proofs.{Push.{le_greatest}, Ranges.{in_range, signal_count_is}, Tables.{kept}, Walked.{last_round_of, walked_one}}
 use Rattle.gs_model.specs.{Betting.{Bet, Moves, act, even, fold, move, none}, Classes.{ClassLists, class_count, class_of, classes_in, list_of}}
-use Rattle.gs_model.specs.Deals.{Deal, deals}
+use Rattle.gs_model.specs.{Deals.{Deal, deals}, Game.{Game, IsPlayable, Round, round_count}, Positions.{End, Point, at_point}, Signals.{first_child, signals}}
 use Rattle.gs_model.specs.Frame.{at_round, frame_of, last_round, move_count, player_at, point, point_count, round_of, signal_count, trees_of}
-use Rattle.gs_model.specs.{Game.{Game, IsPlayable, Round, round_count}, Positions.{End, Point, at_point}, Signals.{first_child, signals}}
 use Rattle.gs_model.specs.Walk.{Place, Walked, WalkedMoves, after_move, fold_end, walk, walk_moves, walk_rounds, walk_start, walk_tree}
 use Rattle.gs_raw.specs.Cells.{raw_cell_count}
 use Rattle.gs_seq.specs.{Cells.{meets, pair_count}, Slots.{sequence_count, slot_count, slots_at}}

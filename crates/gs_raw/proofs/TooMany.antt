@@ -1,6 +1,5 @@
 -- A valid game with more than 2^30 sequences over single signals has more than 16,777,216 raw cells.
-use Rattle.std.proofs.Common.{◌≡◌, ℕ, ◌<◌, true, List, [], ◌∷◌, map, subst, inl, inr, arith}
-use Rattle.std.proofs.lemmas.Bool.{cases_lt}
+use Rattle.std.proofs.{Common.{◌≡◌, ℕ, ◌<◌, true, List, [], ◌∷◌, map, subst, inl, inr, arith}, lemmas.Bool.{cases_lt}}
 use Rattle.std.specs.List.{AllByRecursion}
 use Rattle.gs_bet.specs.{Grammar.{is_sound}, TreeView.{plain}}
 use Rattle.gs_filter.specs.Filter.{single_classes}

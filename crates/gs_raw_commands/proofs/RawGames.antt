@@ -1,6 +1,5 @@
 -- Games that can be told: each raw signal of round 1 is dealt, and a player has few sequences over single signals.
-use Rattle.std.proofs.Common.{◌≡◌, ℕ, ◌+◌, ◌*◌, ◌<◌, ◌≤◌, true, List, [], ◌∷◌, map, All}
-use Rattle.std.proofs.lemmas.List.Elements.{All-head, All-tail}
+use Rattle.std.proofs.{Common.{◌≡◌, ℕ, ◌+◌, ◌*◌, ◌<◌, ◌≤◌, true, List, [], ◌∷◌, map, All}, lemmas.List.Elements.{All-head, All-tail}}
 use Rattle.std.specs.List.{AllByRecursion}
 use Rattle.gs_bet.specs.Grammar.{is_sound}
 use Rattle.gs_file.proofs.Dealt.{told_playable}

@@ -7,9 +7,8 @@ use Rattle.gs_game.specs.declared.faults.GameFault.{GameFault}
 use Rattle.gs_game.specs.declared.faults.GameFault.TheVariants as rules
 use Rattle.gs_model.specs.Classes.{ClassLists}
 use Rattle.gs_reply.specs.{Refusals.{Bad_game, Too_large}, Replies.{Answers, IsBadGame, OfReading, Reply, Prints, Refuses, StopsFor, Tells, of_seq_stop}}
-use Rattle.gs_reply.specs.{Troubles.{SaysLarge}}
+use Rattle.gs_reply.specs.{Troubles.{SaysLarge}, declared.refusals.Stop.{Stop}, declared.refusals.Limit.TheVariants.{Sequences, Cells}}
 use Rattle.gs_reply.specs.declared.refusals.Refusal.TheVariants as told
-use Rattle.gs_reply.specs.{declared.refusals.Stop.{Stop}, declared.refusals.Limit.TheVariants.{Sequences, Cells}}
 use Rattle.gs_reply.specs.declared.refusals.Stop.TheVariants as stop
 use Rattle.gs_seq.specs.{Stops.{IsUsualStop}, declared.stop.SeqStop.{SeqStop}, declared.stop.SeqStop.TheVariants.{TooManySequences, TooManyCells, Memory}}
 use Rattle.gs_strategy.specs.Values.{file_frame}

@@ -6,12 +6,10 @@ use Rattle.gs_seq.specs.{declared.stop.SeqStop.{SeqStop}, declared.stop.SeqStop.
 use Rattle.gs_strategy.specs.{Checks.{ReadResult, Reads}, Faults.{Fault as StrategyFault, IsFault as IsStoreFault}, Values.{Strategy}, Views.{parts_of}}
 use Rattle.gs_text.specs.FaultText.{IsFault}
 use Rattle.gs_reply.specs.Refusals.{Refusal, Bad_game, Unlike_pair, Overflows, Many_pivots, Too_large, Bad_strategy, Wrong_number, Bad_query, Other_game}
-use Rattle.gs_reply.specs.Refusals.{Bad_certificate}
-use Rattle.gs_reply.specs.declared.refusals.Refusal.{Refusal as Told}
+use Rattle.gs_reply.specs.{Refusals.{Bad_certificate}, declared.refusals.Refusal.{Refusal as Told}, declared.refusals.Limit.TheVariants.{Sequences, Cells}}
 use Rattle.gs_reply.specs.declared.refusals.Refusal.TheVariants as told
 use Rattle.gs_reply.specs.{declared.refusals.Stop.{Stop}, declared.refusals.Which.{Which}}
 use Rattle.gs_reply.specs.declared.refusals.Stop.TheVariants as stop
-use Rattle.gs_reply.specs.declared.refusals.Limit.TheVariants.{Sequences, Cells}
 
 -- a text to print, or a refusal
 pub data Reply : Type 0 where

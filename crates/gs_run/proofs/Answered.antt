@@ -3,12 +3,10 @@ use Rattle.std.proofs.Common.{◌≡◌, inl, inr, ℕ, ◌+◌, ◌≤◌, ◌+
 use Rattle.std.proofs.{Common.{[]}, KnownBytes.{Consumes-nil}, lemmas.List.{append-nil, length-append}}
 use Rattle.std.specs.{Io.KnownBytes.{Consumes, IsAtEnd}, declared.alloc.Global.{Global}}
 use Rattle.gs_reply.specs.Refusals.{Refusal, Bad_game, Unlike_pair, Overflows, Many_pivots, Too_large, Bad_strategy, Wrong_number, Bad_query, Other_game}
-use Rattle.gs_reply.specs.Refusals.{Bad_certificate, line_of}
-use Rattle.gs_reply.specs.Replies.{Reply, Prints, Refuses}
+use Rattle.gs_reply.specs.{Refusals.{Bad_certificate, line_of}, Replies.{Reply, Prints, Refuses}}
 use Rattle.gs_words.specs.{Requests.{request_of}, Tasks.{Task, Shrink, Check, Make, Evaluate, Query, Upgrade, Certify, Verify, Solve, Play, Path, Judge, Duel}}
-use Rattle.gs_run.specs.{Asking.{Asks, reads}, Deciding.{Holds}, Endings.{EndsSo}, Statuses.{status_of}}
+use Rattle.gs_run.specs.{Asking.{Asks, reads}, Deciding.{Holds}, Endings.{EndsSo}, Statuses.{status_of}, Running.{Writes, most_bytes, sinks}}
 use Rattle.gs_run.specs.Running.{Asked, Ends, Inputs, IsAnswered, IsRefused, NothingFailed, Quiet, ReadsInput, ReadsWhole, RunsTo, TellsLine, TookInput}
-use Rattle.gs_run.specs.Running.{Writes, most_bytes, sinks}
 use Rattle.gs_run.specs.declared.status.Status.{Status}
 use Rattle.gs_run.specs.declared.status.Status.TheVariants as status
 

@@ -14,9 +14,8 @@ use Rattle.gs_game_commands.specs.Solving.{Solves}
 use Rattle.gs_json.proofs.Feeds.{line_parted}
 use Rattle.gs_json.specs.FirstLine.{first_line}
 use Rattle.gs_run.proofs.Confirming.{no_trouble}
-use Rattle.gs_words.specs.{Made.{made_game}, declared.kind.Kind.{Kind}}
+use Rattle.gs_words.specs.{Made.{made_game}, declared.kind.Kind.{Kind}, declared.request.Grouping.{Grouping}}
 use Rattle.gs_words.specs.Tasks.{Task, Shrink, Check, Make, Evaluate, Query, Upgrade, Judge, Duel, Certify, Verify, Solve, Play, Path}
-use Rattle.gs_words.specs.declared.request.Grouping.{Grouping}
 use Rattle.gs_reply.specs.{Refusals.{Refusal, Unlike_pair}, Replies.{OfFile, OfRead, OfReading, Reply, Prints, Refuses}}
 use Rattle.gs_reply.specs.{declared.refusals.Which.{Which}, declared.refusals.Which.TheVariants.{Only, First, Second}}
 use Rattle.gs_strategy.proofs.{Only.{only}, Shape.{has_line}}

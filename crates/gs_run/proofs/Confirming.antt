@@ -9,12 +9,11 @@ use Rattle.gs_reply.specs.{declared.refusals.Limit.{Limit}, declared.refusals.Li
 use Rattle.gs_reply.specs.{Replies.{OfRead, Reply, Prints}, Troubles.{Passes}, declared.refusals.Which.TheVariants.{Only}, VerdictText.{verdict_text}}
 use Rattle.gs_seq.specs.{Stops.{IsSmall}, declared.plan.Plan.{Plan}}
 use Rattle.gs_game_commands.specs.Texts.{IsSettledText}
-use Rattle.gs_strategy.proofs.Only.{only}
+use Rattle.gs_strategy.proofs.{Only.{only}, Verdicts.{scale_some, verdicts_one}}
 use Rattle.gs_strategy.specs.{Checks.{ReadResult}, Confirmed.{AreNumbersOf, IsConfirmed, strategy_frame, raw_plan}, Laws.{IsStrategy}}
 use Rattle.gs_strategy.specs.{Texts.{strategy_text}, Values.{FractionParts, Numbers, Strategy, file_frame}}
 use Rattle.gs_file.proofs.Dealt.{told_dealt}
 use Rattle.gs_game_commands.proofs.Printed.{printed_strategy}
-use Rattle.gs_strategy.proofs.Verdicts.{scale_some, verdicts_one}
 
 -- the weight of all deals and both totals are above 0
 pub strategy_scale : (version : Version) (s : Strategy) → IsStrategy version s

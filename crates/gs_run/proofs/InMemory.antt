@@ -1,8 +1,7 @@
 -- What the program does with words and bytes in memory, from what is given for them.
 use Rattle.std.proofs.Common.{◌≡◌, ◌≢◌, inl, inr, ℕ, ◌<◌, ◌≤◌, [], List, Bool, length, Some, None, true, refl, sym, ap, ◌∙◌, subst, arith}
 use Rattle.gs_reply.specs.Refusals.{Refusal, Bad_game, Unlike_pair, Overflows, Many_pivots, Too_large, Bad_strategy, Wrong_number, Bad_query, Other_game}
-use Rattle.gs_reply.specs.Refusals.{Bad_certificate, line_of}
-use Rattle.gs_reply.specs.Replies.{Reply, Prints, Refuses}
+use Rattle.gs_reply.specs.{Refusals.{Bad_certificate, line_of}, Replies.{Reply, Prints, Refuses}}
 use Rattle.gs_words.specs.{Requests.{request_of}, Tasks.{Task, Solve}}
 use Rattle.gs_run.proofs.{Answering.{answers_one}, Answered.{one_task}, Concluded.{concludes}, Meant.{means_of, solution_of}, Theorem.{asked_for}}
 use Rattle.gs_run.specs.{Asking.{Asks, reads}, InMemory.{DoesInMemory, FitsLimit, GivesReply, GivesOutcome}, Running.{long_line, most_bytes, usage_line}}

@@ -14,18 +14,16 @@ use Rattle.gs_json.specs.FirstLine.{first_line}
 use Rattle.gs_raw_commands.proofs.RawGames.{hands_weigh}
 use Rattle.gs_game_commands.proofs.Printed.{printed_raw, printed_strategy}
 use Rattle.gs_strategy.proofs.Strategies.{reads_strategy, strategies_raw}
-use Rattle.gs_words.specs.{Made.{made_game}, declared.kind.Kind.{Kind}}
+use Rattle.gs_words.specs.{Made.{made_game}, declared.kind.Kind.{Kind}, declared.request.Grouping.{Grouping}}
 use Rattle.gs_words.specs.Tasks.{Task, Shrink, Check, Make, Evaluate, Query, Upgrade, Judge, Duel, Certify, Verify, Solve, Play, Path}
-use Rattle.gs_words.specs.declared.request.Grouping.{Grouping}
 use Rattle.gs_model.specs.{Classes.{ClassLists}, Plans.{lift}, Play.{IsFictitiousPlay}, Verdict.{IsVerdict}}
 use Rattle.gs_reply.specs.{Replies.{OfFile, OfRead, OfReading, Reply, Prints}, declared.refusals.Which.TheVariants.{Only, First, Second}}
 use Rattle.gs_reply.specs.VerdictText.{verdict_text}
 use Rattle.gs_seq.specs.{Slots.{plan_of}, declared.plan.Plan.{Plan}}
 use Rattle.gs_strategy.specs.{Checks.{ReadResult, Reads}, Confirmed.{IsConfirmed, over, raw_plan}, Laws.{IsStrategy}, Texts.{strategy_text}}
 use Rattle.gs_strategy.specs.{Values.{FractionParts, Numbers, Strategy, Weights, file_frame}, Views.{weights_of}}
-use Rattle.gs_run.specs.{Asking.{Asks}, Making.{Makes}}
+use Rattle.gs_run.specs.{Asking.{Asks}, Making.{Makes}, Meanings.{OfTwoFiles, OverLossless, ShowsSolution}}
 use Rattle.gs_run.specs.Meanings.{AreOnRawCards, IsDuelled, IsJudgedText, IsPlayedOut, IsStrategyFile, Means, OfCertifiedFile, OfGameFile, OfStrategyFile}
-use Rattle.gs_run.specs.Meanings.{OfTwoFiles, OverLossless, ShowsSolution}
 
 -- ---- texts
 

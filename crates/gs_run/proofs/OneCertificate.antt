@@ -1,7 +1,6 @@
 -- What is said of strategies with certificates is one: `certify` and `verify`.
 use Rattle.std.proofs.Common.{◌≡◌, ◌⊎◌, ℕ, zero, suc, ◌+◌, ◌-◌, ◌*◌, ◌<◌, ◌≤◌, ◌++◌, List, get_or, Err, codes, ℤ, pos, refl, sym, ap, ◌∙◌, subst, inl, inr}
-use Rattle.std.proofs.Common.{arith}
-use Rattle.std.proofs.{lemmas.Bool.{cases_lt}, lemmas.List.{get_or_default, same_lists}}
+use Rattle.std.proofs.{Common.{arith}, lemmas.Bool.{cases_lt}, lemmas.List.{get_or_default, same_lists}}
 use Rattle.std.specs.{Prelude.{unsigned_abs}, Fmt.{decimal}}
 use Rattle.gs_seq.proofs.SlotLaws.{sum_range_more}
 use Rattle.gs_best.specs.{Tables.{classes_at, start_of, table_of}, Answers.{AreBestValues}}
@@ -9,14 +8,11 @@ use Rattle.gs_certificate.proofs.{Bounds.{one_bound}, Holding.{faults_exclude, l
 use Rattle.gs_certificate.proofs.Only.{only as read_only, stated}
 use Rattle.gs_certificate.specs.{Checks.{IsFault, IsFaultOf, IsSound, IsSoundFor, sum_of}, FaultTexts.{cert_fault_text, cert_text_fault_text}}
 use Rattle.gs_certificate.specs.{Numbers.{IsFirstLow, IsHigh, IsLow}, Reading.{IsCanonicalCertificate, CertificateResult, ReadsCertificate, stated_at}}
-use Rattle.gs_certificate.specs.Texts.{Stated, certificate_text}
+use Rattle.gs_certificate.specs.{Texts.{Stated, certificate_text}, declared.text_fault.CertTextFault.{CertTextFault}}
 use Rattle.gs_certificate.specs.{Views.{certificate_view, fraction_parts}, declared.certificate.Certificate.{Certificate}, declared.fault.CertFault.{CertFault}}
-use Rattle.gs_certificate.specs.declared.text_fault.CertTextFault.{CertTextFault}
 use Rattle.gs_certificate.specs.declared.fault.CertFault.TheVariants as fault
-use Rattle.gs_strategy_commands.specs.Certificates.{Certifies, IsCertified, SaysCertified}
+use Rattle.gs_strategy_commands.specs.{Certificates.{Certifies, IsCertified, SaysCertified}, Commands.{OfConfirmed}, Troubles.{IsTooLarge}}
 use Rattle.gs_strategy_commands.specs.Verifying.{IsCertificateText, IsUnsound, IsVerified, SaysChecked, SaysVerified, Verifies, bounds_text}
-use Rattle.gs_strategy_commands.specs.Commands.{OfConfirmed}
-use Rattle.gs_strategy_commands.specs.Troubles.{IsTooLarge}
 use Rattle.gs_file.specs.{declared.version.Version.{Version}, declared.version.Version.TheVariants.{Two}, Reading.{file_rules}}
 use Rattle.gs_frac.specs.{Texts.{fraction_text}, declared.value.Fraction.{Fraction}}
 use Rattle.gs_json.proofs.Outcomes.{clash, same}
@@ -25,8 +21,7 @@ use Rattle.gs_model.proofs.{Basics.{product_positive}, BestOnce.{best_values_are
 use Rattle.gs_model.specs.{BestAnswers.{Values}, Certificate.{IsCertificate}, Classes.{ClassLists, IsClass, IsClasses}}
 use Rattle.gs_model.specs.{Frame.{Frame, point_count, round_of, total_weight}, FrameFacts.{IsWalked}, Plans.{Plan}, Positions.{at_point}}
 use Rattle.gs_reply.specs.Refusals.{Bad_game, Unlike_pair, Overflows, Many_pivots, Too_large, Bad_strategy, Wrong_number, Bad_query, Other_game}
-use Rattle.gs_reply.specs.Refusals.{Bad_certificate}
-use Rattle.gs_reply.specs.declared.refusals.Limit.{Limit}
+use Rattle.gs_reply.specs.{Refusals.{Bad_certificate}, declared.refusals.Limit.{Limit}}
 use Rattle.gs_reply.specs.{Replies.{Reply, Prints, Refuses}, Troubles.{IsUnlikePair}, declared.refusals.Which.TheVariants.{Only}}
 use Rattle.gs_strategy.specs.{Confirmed.{strategy_frame, raw_plan}, Laws.{IsStrategy}, Texts.{strategy_text}, Values.{FractionParts, Strategy}}
 use Rattle.gs_run.proofs.{Confirming.{small_passes, strategy_scale}, OneGame.{unlike_pair_one}, OneStrategy.{confirmed_one, limit_one, over_file}}

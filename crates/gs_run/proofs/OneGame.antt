@@ -1,7 +1,6 @@
 -- What is said of a game file is one: its classes, their first unlike pair, and the answers of `shrink`, `check` and `make`.
 use Rattle.std.proofs.Common.{◌≡◌, ◌⊎◌, ℕ, ◌+◌, ◌-◌, ◌<◌, ◌≤◌, Bool, true, false, List, [], length, get_or, Result, Ok, Err, sym, ap, ◌∙◌, subst, inl, inr}
-use Rattle.std.proofs.Common.{arith}
-use Rattle.std.proofs.{lemmas.Bool.{cases_lt}, lemmas.List.{ext_get_or}}
+use Rattle.std.proofs.{Common.{arith}, lemmas.Bool.{cases_lt}, lemmas.List.{ext_get_or}}
 use Rattle.gs_run.specs.Making.{Makes}
 use Rattle.gs_file.specs.{Faults.{Fault}, Reading.{FileGame, read_at, file_rules}}
 use Rattle.gs_game_commands.specs.{Checking.{Checks, ChecksGame, IsGrouping, SaysNotLossless}, Shrinking.{Shrinks, ShrinksGame, told}}

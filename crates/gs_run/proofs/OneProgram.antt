@@ -1,13 +1,11 @@
 -- Programs with the same numbers have the same paths.
 use Rattle.std.proofs.Common.{◌≡◌, ◌⊎◌, ℕ, zero, suc, ◌+◌, ◌-◌, ◌*◌, ◌<◌, ◌≤◌, false, List, [], ◌∷◌, length, slice_index_or, ℤ, pos, neg_ℤ, ◌*ℤ◌, ◌≤ℤ◌, ◌<ℤ◌}
-use Rattle.std.proofs.Common.{refl, sym, ap, ◌∙◌, subst, inl, inr, arith}
-use Rattle.std.proofs.{lemmas.Bool.{cases_lt, true≢false}, Math.Path.{fun_ext}}
+use Rattle.std.proofs.{Common.{refl, sym, ap, ◌∙◌, subst, inl, inr, arith}, lemmas.Bool.{cases_lt, true≢false}, Math.Path.{fun_ext}}
 use Rattle.std.specs.List.{HoldsAt}
 use Rattle.gs_simplex.specs.Path.{AllNarrow, Enters, IsFirstWide, IsPath, IsPivot, IsWhole, Leaves, NoneEnters, NoneLeaves, PathStop, PathStops, States, Stops}
-use Rattle.gs_simplex.specs.Path.{ends, pivots, unbounded, wide}
+use Rattle.gs_simplex.specs.{Path.{ends, pivots, unbounded, wide}, declared.answer.Best.{Best}}
 use Rattle.gs_simplex.specs.Program.{ColListed, IsFree, IsOpening, IsRowsOf, IsShaped, Listing, RowListed, aim_of, number, rows_of}
 use Rattle.gs_simplex.specs.{Rows.{IsAimRow, IsListedRow, IsNarrow, IsPrimitive, IsUnlistedRow}, declared.program.Program.{Program}, Answer.{IsBest, IsBestAt}}
-use Rattle.gs_simplex.specs.declared.answer.Best.{Best}
 use Rattle.gs_frac.proofs.OneForm.{one_form}
 use Rattle.gs_frac.specs.declared.value.Fraction.{Fraction}
 use Rattle.gs_simplex.proofs.{Agree.{Agree, rows_agree}, Bases.{IsFull, col_of, from_cols, in_cols}, OneStop.{stops_agree}, Opening.{path_trail}}

@@ -13,12 +13,10 @@ use Rattle.gs_strategy.specs.{Checks.{AreClasses}, Confirmed.{over}, Texts.{stra
 use Rattle.gs_words.specs.{declared.request.Grouping.{Grouping}, declared.request.Grouping.TheVariants.{Isomorphism, Coarsest, Single}}
 use Rattle.gs_play.proofs.OnePlay.{play_one}
 use Rattle.gs_run.proofs.{Confirming.{small_passes}, OneGame.{groupings_one, not_both, not_lossless_one}, OneStrategy.{limit_one}}
-use Rattle.gs_strategy.proofs.Verdicts.{verdicts_one}
-use Rattle.gs_file.proofs.Dealt.{told_dealt, told_playable}
+use Rattle.gs_strategy.proofs.Verdicts.{verdicts_one, scale_some}
+use Rattle.gs_file.proofs.{Dealt.{told_dealt, told_playable}, Told.{file_told}}
 use Rattle.gs_play.specs.PlanSums.{ArePlansAlike}
 use Rattle.gs_seq.proofs.PlanSlots.{place_at}
-use Rattle.gs_file.proofs.Told.{file_told}
-use Rattle.gs_strategy.proofs.Verdicts.{scale_some}
 
 -- ---- settling
 

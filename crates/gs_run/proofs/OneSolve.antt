@@ -14,10 +14,9 @@ use Rattle.gs_simplex.proofs.OneStop.{stops_agree}
 use Rattle.gs_seq.specs.{Slots.{plan_of}, declared.plan.Plan.{Plan}}
 use Rattle.gs_solve.proofs.{Chosen.{filter_tests, map_same}, GameEnd.{some_of}, Least.{multiple_divides_totals, multiple_is_least}, Multiples.{lcm_some}}
 use Rattle.gs_solve.proofs.Numbering.{set_below}
-use Rattle.gs_solve.specs.{GamePrograms.{IsGameOpening, sequences_by}, Openings.{is_chosen, opening_of}}
+use Rattle.gs_solve.specs.{GamePrograms.{IsGameOpening, sequences_by}, Openings.{is_chosen, opening_of}, Solutions.{most_pivots, table_numbers}}
 use Rattle.gs_solve.specs.{Programs.{Sizes, first_answer, first_bound, first_slack}, Sequences.{constraints, form_sizes, payoffs, sequence_of}}
 use Rattle.gs_solve.specs.Solutions.{AreEndPlans, AreShares, IsFirstOver, IsGamePath, IsGameSolution, IsLeastPlan, IsLcmOfFirst, IsTotalOver, IsLcmWithin}
-use Rattle.gs_solve.specs.Solutions.{most_pivots, table_numbers}
 use Rattle.gs_solve.specs.Weights.{sequence_weight}
 use Rattle.gs_strategy.specs.{Values.{Weights}, Views.{weights_of}, Values.{file_frame}}
 use Rattle.gs_play.proofs.{OnePlay.{best_same}, PlansAlike.{firsts_same}}
@@ -27,10 +26,8 @@ use Rattle.gs_strategy.proofs.OneReading.{one_least}
 use Rattle.gs_file.proofs.Dealt.{told_playable}
 use Rattle.gs_file.specs.{Reading.{FileGame, file_rules}, declared.version.Version.TheVariants.{Two}}
 use Rattle.gs_reply.specs.Refusals.{Refusal, Overflows, Many_pivots, Too_large, Bad_game, Unlike_pair, Bad_strategy, Wrong_number, Bad_query, Other_game}
-use Rattle.gs_reply.specs.Refusals.{Bad_certificate}
-use Rattle.gs_reply.specs.declared.refusals.Limit.TheVariants.{Sequences, Cells, TableNumbers, RawCells}
-use Rattle.gs_reply.specs.declared.refusals.Overflow.TheVariants.{AtStep, AtTotal}
-use Rattle.gs_reply.specs.Replies.{Reply, Prints, Refuses}
+use Rattle.gs_reply.specs.{Refusals.{Bad_certificate}, declared.refusals.Limit.TheVariants.{Sequences, Cells, TableNumbers, RawCells}}
+use Rattle.gs_reply.specs.{declared.refusals.Overflow.TheVariants.{AtStep, AtTotal}, Replies.{Reply, Prints, Refuses}}
 use Rattle.gs_game_commands.specs.{Solving.{SaysStopped, SaysUnsolved, Solves}, Settling.{Settles}}
 use Rattle.gs_words.specs.declared.request.Grouping.{Grouping}
 

@@ -1,7 +1,6 @@
 -- What is said of strategy files is one: `evaluate`, `upgrade`, `query` and `judge`.
 use Rattle.std.proofs.Common.{◌≡◌, ◌⊎◌, ℕ, suc, ◌*◌, ◌<◌, ◌≤◌, ◌++◌, true, List, [], ◌∷◌, map, Some, Ok, Err, All, codes, pos, refl, sym, ap, ◌∙◌, subst, inl}
-use Rattle.std.proofs.Common.{inr, arith}
-use Rattle.std.proofs.{lemmas.Nat.Gcd.{dvd_antisymm}, lemmas.Bool.{cases_lt}, lemmas.List.Elements.{All-head, All-tail}}
+use Rattle.std.proofs.{Common.{inr, arith}, lemmas.Nat.Gcd.{dvd_antisymm}, lemmas.Bool.{cases_lt}, lemmas.List.Elements.{All-head, All-tail}}
 use Rattle.std.specs.{Prelude.{slice_get, sum_by}, List.{AllByRecursion, flat_map}, Int.{IsGcd}}
 use Rattle.gs_frac.proofs.{GcdLaws.{is_gcd_of}, OneForm.{divides_factor}}
 use Rattle.gs_game.proofs.{MoneyLaws.{tree_sound}, LineLaws.{named}}
@@ -18,18 +17,16 @@ use Rattle.gs_model.proofs.{Ranges.{signal_count_is}, Walked.{last_round_of, wal
 use Rattle.gs_model.specs.{Classes.{ClassLists}, Frame.{Frame, choices_at, player_at, point, point_count, round_of, total_weight, trees_of}}
 use Rattle.gs_model.specs.{Game.{Round, round_count}, Plans.{IsShare, Plan as RawPlan}, Positions.{at_point}}
 use Rattle.gs_reply.specs.Refusals.{Refusal, Bad_game, Unlike_pair, Overflows, Many_pivots, Too_large, Bad_strategy, Wrong_number, Bad_query, Other_game}
-use Rattle.gs_reply.specs.Refusals.{Bad_certificate}
+use Rattle.gs_reply.specs.{Refusals.{Bad_certificate}, declared.refusals.Which.TheVariants.{Only}, VerdictText.{mix_text, verdict_text}}
 use Rattle.gs_reply.specs.{declared.refusals.Limit.{Limit}, declared.refusals.Limit.TheVariants.{Sequences, Cells, TableNumbers, RawCells}}
 use Rattle.gs_reply.specs.{Replies.{OfFile, OfRead, Reply, Prints, Refuses}, Troubles.{IsUnlikePair, Passes}, declared.refusals.Which.{Which}}
-use Rattle.gs_reply.specs.{declared.refusals.Which.TheVariants.{Only}, VerdictText.{mix_text, verdict_text}}
 use Rattle.gs_seq.specs.Stops.{IsSmall}
 use Rattle.gs_strategy.specs.{Checks.{ReadResult, Reads}, Confirmed.{strategy_frame, raw_plan}, Laws.{IsStrategy}}
 use Rattle.gs_strategy.specs.Values.{FractionParts, Numbers, Strategy, file_frame}
 use Rattle.gs_tree.proofs.Named.{text_once}
 use Rattle.gs_run.proofs.{Confirming.{no_trouble, small_passes, strategy_numbers}, OneGame.{unlike_pair_one}}
-use Rattle.gs_strategy.proofs.Verdicts.{verdicts_one}
+use Rattle.gs_strategy.proofs.{Verdicts.{verdicts_one, scale_some}, OneReading.{reads_one}, Strategies.{reads_strategy}}
 use Rattle.gs_file.proofs.Dealt.{told_dealt, told_playable}
-use Rattle.gs_strategy.proofs.{OneReading.{reads_one}, Strategies.{reads_strategy}, Verdicts.{scale_some}}
 
 -- ---- files
 

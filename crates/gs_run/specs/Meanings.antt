@@ -5,7 +5,7 @@ use Rattle.gs_strategy_commands.specs.{Certificates.{IsCertified}, Verifying.{Is
 use Rattle.gs_raw_commands.specs.Judging.{AreHandValues, hands_text}
 use Rattle.gs_file.specs.{Reading.{FileGame, file_rules}, States.{FileStates}, declared.version.Version.{Version}, declared.version.Version.TheVariants.{Two}}
 use Rattle.gs_game_commands.specs.{Checking.{IsChecked, IsGrouping}, Shrinking.{IsShrunk}, Paths.{IsPathShown}, Solving.{IsSolved}}
-use Rattle.gs_strategy.specs.RawPlans.{AreRawPlans}
+use Rattle.gs_strategy.specs.{RawPlans.{AreRawPlans}, Confirmed.{IsConfirmed, over, raw_plan}, Values.{AreFractions}, Laws.{IsStrategy}, Texts.{strategy_text}}
 use Rattle.gs_words.specs.{Made.{made_game}, Commands.{entry_of}, Plain.{Given, are_plain, given_for, option_words}, Requests.{task_for}}
 use Rattle.gs_words.specs.Tasks.{Task, Shrink, Check, Make, Evaluate, Query, Upgrade, Judge, Duel, Certify, Verify, Solve, Play, Path}
 use Rattle.gs_words.specs.{declared.names.CommandName.{CommandName}, declared.request.Grouping.{Grouping}}
@@ -13,7 +13,6 @@ use Rattle.gs_model.specs.{Classes.{ClassLists}, Frame.{signal_count}, Lossless.
 use Rattle.gs_model.specs.Verdict.{IsVerdict}
 use Rattle.gs_raw.specs.Cells.{raw_cell_count}
 use Rattle.gs_seq.specs.{Slots.{plan_of}, Stops.{IsSmall}}
-use Rattle.gs_strategy.specs.{Confirmed.{IsConfirmed, over, raw_plan}, Values.{AreFractions}, Laws.{IsStrategy}, Texts.{strategy_text}}
 use Rattle.gs_strategy.specs.Values.{FractionParts, Numbers, Strategy, file_frame}
 use Rattle.gs_reply.specs.VerdictText.{verdict_text}
 

@@ -6,9 +6,8 @@ use borrow.Author.Differences.{product_is}
 use Rattle.gs_lossless.specs.{Amounts.{AreAmounts, amount}, Sums.{weight_at}, declared.parts.Part.{Part}, declared.sides.Side.TheVariants.{Deals}}
 use Rattle.gs_model.specs.{Classes.{ClassLists, InOneClass, class_of}, Deals.{Deal}, Frame.{Frame, at_round, last_round, signal_count, signals_in}}
 use Rattle.gs_model.specs.{Lossless.{IsLossless, weight_against, weight_with}, Pairs.{pair_sum}, Sums.{sum_z}}
-use Rattle.gs_model.proofs.{ClassTotals.{class_size_of, class_total, class_total_is}, Flow.{by_ancestor}, Known.{Tabled}}
+use Rattle.gs_model.proofs.{ClassTotals.{class_size_of, class_total, class_total_is}, Flow.{by_ancestor}, Known.{Tabled}, Basics.{sum-same, sum-cond}}
 use Rattle.gs_model.proofs.{Lift.{both_out, one_guard, pair_exact, pair_test}, RawBound.{range_once}, Regroup.{alike_total}, Total.{sum_z-same}}
-use Rattle.gs_model.proofs.Basics.{sum-same, sum-cond}
 use Rattle.gs_seq.proofs.ClassRows.{alike_lists}
 
 module _ (f : Frame) (h : Tabled f) (lists : ClassLists) (g : IsLossless f lists) (round : ℕ) (some : 0 < round) (top : round ≤ last_round f) where

@@ -1,9 +1,8 @@
 -- What an end pays at a class, over the pairs of its row.
 use Rattle.std.proofs.Common.{◌≡◌, ◌≢◌, ℕ, ℤ, pos, neg_ℤ, ◌+◌, ◌-◌, ◌*◌, ◌<◌, ◌≤◌, ◌^◌, Bool, true, false, cond, List, [], length, get_or, refl, sym, ap, ◌∙◌}
-use Rattle.std.proofs.Common.{arith, eqb, take, ⊎_elim}
+use Rattle.std.proofs.{Common.{arith, eqb, take, ⊎_elim}, lemmas.List.Sums.{get_or-le-sum_by, sum_by-cons, sum_by-take-le}}
 use Rattle.std.proofs.{Math.Nat.{mul-le-mul_left, mul-le-mul_right}, Math.IntN.{*ℤ_comm, *ℤ-zero}, lemmas.Bool.Decides.{Decides-eqb}}
 use Rattle.std.proofs.{lemmas.Int.{ints, unsigned_abs-mul}, lemmas.List.Elements.{All-take}, lemmas.List.FromFn.{get_or-range_with_len, length-range_with_len}}
-use Rattle.std.proofs.lemmas.List.Sums.{get_or-le-sum_by, sum_by-cons, sum_by-take-le}
 use Rattle.std.specs.{Prelude.{◌==◌, ◌*ℤ◌, ◌⊎◌, All, unsigned_abs}, List.{range_with_len}}
 use borrow.Author.Differences.{abs_is, neg_is, product_is}
 use Rattle.gs_model.specs.Classes.{ClassLists, IsClass, IsClasses, class_count, classes_in}

@@ -10,9 +10,8 @@ use Rattle.gs_model.specs.{FrameFacts.{InRange, IsWalked}, Game.{round_count}, L
 use Rattle.gs_model.proofs.{Ranges.{in_range as in_range_of, signal_count_is}, Walked.{last_round_of}}
 use Rattle.gs_tree.specs.{Trees.{rules_of}, declared.signals.Signals.{Signals}}
 use Rattle.gs_seq.specs.{Abstracts.{abstract_frame, game_in, lists_of}, Games.{frame_in}, declared.form.Abstract.{Abstract}}
-use Rattle.gs_seq.proofs.{Ends.{end_reads, end_round}, FewMoves.{AreFewMoves, moves_few}}
+use Rattle.gs_seq.proofs.{Ends.{end_reads, end_round}, FewMoves.{AreFewMoves, moves_few}, Sizes.{AreModest, modest}, SlotLaws.{class_few, over}}
 use Rattle.gs_seq.proofs.Points.{Reads, length-points, playable, point_reads, walked as walked_by}
-use Rattle.gs_seq.proofs.{Sizes.{AreModest, modest}, SlotLaws.{class_few, over}}
 
 -- what holds of one frame and classes holds of the same
 pub carried : {f g : Frame} {ls ms : ClassLists} (P : Frame → ClassLists → Type 0) → f ≡ g → ls ≡ ms → P f ls → P g ms

@@ -1,10 +1,9 @@
 -- Rows from the sums of one member of a class: what they hold for a class, and that their classes ascend.
 use Rattle.std.proofs.Common.{◌⊎◌, ⊎_elim, ◌≡◌, ℕ, ℤ, pos, ◌+◌, ◌-◌, ◌*◌, ◌<◌, ◌≤◌, Bool, true, false, cond, List, [], ◌∷◌, ◌++◌, length, length-take, get_or}
-use Rattle.std.proofs.Common.{set, take, reverse, refl, sym, ap, ◌∙◌, arith, sum_by, FitsSigned, ◌^◌}
+use Rattle.std.proofs.{Common.{set, take, reverse, refl, sym, ap, ◌∙◌, arith, sum_by, FitsSigned, ◌^◌}, Math.IntN.{*ℤ-zero}}
 use Rattle.std.proofs.{lemmas.Bool.{cases_eq}, lemmas.Bool.Decides.{Decides-eqb}, lemmas.Cmp.{ranked}, Math.Nat.{mul-le-mul_left, mul-le-mul_right}}
 use Rattle.std.proofs.{Math.Seq.{set-append_seam}, lemmas.Int.{ints, unsigned_abs-mul}}
 use Rattle.std.proofs.{lemmas.List.{length-reverse, reverse-append, reverse-reverse, take_more}, lemmas.List.Sums.{sum_by-cons, sum_by_more_le}}
-use Rattle.std.proofs.Math.IntN.{*ℤ-zero}
 use Rattle.std.specs.{Prelude.{◌==◌, ◌+ℤ◌, ◌*ℤ◌, unsigned_abs}, Ordering.{nat_cmp, ordering_then, int_cmp}, declared.cmp.Ordering.{Ordering}}
 use Rattle.std.specs.{declared.cmp.Ordering.TheVariants.{Less, Equal, Greater}, Int.{w8}}
 use Rattle.gs_lossless.specs.{Sums.{key_cmp}, declared.parts.Part.{Part}}

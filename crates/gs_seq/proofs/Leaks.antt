@@ -1,7 +1,6 @@
 -- Sums of weights side by side, and the first place where they do not add up.
 use Rattle.std.proofs.Common.{◌≡◌, ℕ, ◌+◌, ◌-◌, ◌*◌, ◌<◌, ◌≤◌, ◌^◌, List, length, take, drop, get_or, sum, sum_by, refl, sym, ap, ◌∙◌, subst, arith}
-use Rattle.std.proofs.Common.{length-drop, true, false, ⊎_elim}
-use Rattle.std.proofs.{Math.Nat.{mul-le-mul_right}, lemmas.Bool.Decides.{Decides-eqb}, lemmas.Bool.{cases_eq}}
+use Rattle.std.proofs.{Common.{length-drop, true, false, ⊎_elim}, Math.Nat.{mul-le-mul_right}, lemmas.Bool.Decides.{Decides-eqb}, lemmas.Bool.{cases_eq}}
 use Rattle.std.proofs.{lemmas.List.{get_or-drop, get_or-take, length-take}, lemmas.List.FromFn.{fill_by_all}, lemmas.List.Sums.{sum-map}}
 use Rattle.std.specs.{Prelude.{◌==◌}, List.{range_with_len}}
 use Rattle.gs_filter.specs.Filter.{Filter}

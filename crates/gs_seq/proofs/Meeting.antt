@@ -1,8 +1,7 @@
 -- A row has one pair for each class that its class meets.
 use Rattle.std.proofs.Common.{◌≡◌, ℕ, pos, zero, suc, ◌+◌, ◌-◌, ◌<◌, ◌≤◌, Bool, true, false, cond, List, [], ◌∷◌, length, get_or, refl, sym, ap, ◌∙◌, subst}
-use Rattle.std.proofs.Common.{arith, sum_by, count_by, eqb, nat_lt, Vec}
+use Rattle.std.proofs.{Common.{arith, sum_by, count_by, eqb, nat_lt, Vec}, lemmas.List.Sums.{sum_by-cons}}
 use Rattle.std.proofs.{lemmas.Bool.{lt-ltb}, lemmas.Bool.Decides.{Decides-eqb}, lemmas.Int.{ints}, lemmas.List.Elements.{recursion_from_All}}
-use Rattle.std.proofs.lemmas.List.Sums.{sum_by-cons}
 use Rattle.std.specs.{Prelude.{◌==◌, ◌&&◌, ◌||◌, ◌*ℤ◌, All}, List.{AllByRecursion, list_any, range_with_len}, declared.alloc.Global.{Global}}
 use borrow.Author.Differences.{product_is}
 use Rattle.gs_model.specs.{Classes.{ClassLists, IsClass, IsClasses, class_count, class_of, classes_in}, Deals.{Deal}, Frame.{Frame, at_round, last_round}}

@@ -3,8 +3,7 @@ use Rattle.std.proofs.Common.{◌≡◌, ℕ, ◌+◌, ◌-◌, ◌*◌, ◌<◌
 use Rattle.gs_game.specs.declared.valid.ValidGame.{ValidGame}
 use Rattle.gs_model.specs.{Classes.{ClassLists, IsClass}, Frame.{Frame, move_count, player_at, point_count, round_of}, Positions.{at_point}}
 use Rattle.gs_seq.specs.{Abstracts.{abstract_frame, game_in, lists_of}, Games.{frame_in}, Slots.{sequence_count, slot_of, slots_before}}
-use Rattle.gs_seq.specs.Stops.{HasSequencesWithin}
-use Rattle.gs_seq.specs.declared.form.Abstract.{Abstract}
+use Rattle.gs_seq.specs.{Stops.{HasSequencesWithin}, declared.form.Abstract.{Abstract}}
 use Rattle.gs_seq.proofs.{Coming.{slot_before}, Points.{players}}
 
 -- where a move of a point stands, and that its slot is small

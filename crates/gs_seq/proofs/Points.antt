@@ -1,8 +1,7 @@
 -- What the points of a valid game say of its frame, and how many there are.
 use Rattle.std.proofs.Common.{◌≡◌, ℕ, ◌+◌, ◌<◌, ◌≤◌, ◌^◌, List, [], ◌∷◌, ◌++◌, length, map, get_or, refl, sym, ap, ◌∙◌, arith, length-append, Option, None}
-use Rattle.std.proofs.Common.{Some, sum_by, subst, ⊎_elim}
+use Rattle.std.proofs.{Common.{Some, sum_by, subst, ⊎_elim}, lemmas.List.Sorted.{sum_by-IsPermutation}, lemmas.List.Sums.{sum_by-cons}}
 use Rattle.std.proofs.{lemmas.Bool.{cases_eq}, lemmas.List.{get_or-map, length-map}, lemmas.List.FromFn.{length-range_with_len}}
-use Rattle.std.proofs.{lemmas.List.Sorted.{sum_by-IsPermutation}, lemmas.List.Sums.{sum_by-cons}}
 use Rattle.std.specs.{Prelude.{◌⊎◌, flat_map, option_map}, List.{range_with_len}}
 use Rattle.gs_game.specs.{Games.{game_of, plain_trees, round_rules}, Seen.{OwnPoint, own_point, point_of, step_of}}
 use Rattle.gs_game.specs.{declared.positions.Point.{Point as StoredPoint}, declared.positions.Step.{Step as StoredStep}, declared.valid.ValidGame.{ValidGame}}

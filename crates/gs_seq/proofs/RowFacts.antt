@@ -1,8 +1,7 @@
 -- What a row holds, pair by pair: its classes, weights and signed weights, and how much they weigh.
 use Rattle.std.proofs.Common.{◌≡◌, ℕ, ℤ, pos, zero, suc, ◌+◌, ◌*◌, ◌<◌, ◌≤◌, Bool, true, false, cond, List, [], ◌∷◌, length, get_or, refl, sym, ap, ◌∙◌, arith}
-use Rattle.std.proofs.Common.{sum_by, eqb, ⊎_elim}
+use Rattle.std.proofs.{Common.{sum_by, eqb, ⊎_elim}, lemmas.Int.{ints, unsigned_abs-mul}, lemmas.List.Sums.{sum_by-cons}}
 use Rattle.std.proofs.{Math.Nat.{mul-le-mul_left}, Math.IntN.{+ℤ_idl, +ℤ_idr}, lemmas.Bool.{cases_lt}, lemmas.Bool.Decides.{Decides-eqb}}
-use Rattle.std.proofs.{lemmas.Int.{ints, unsigned_abs-mul}, lemmas.List.Sums.{sum_by-cons}}
 use Rattle.std.specs.{Prelude.{◌==◌, ◌+ℤ◌, ◌*ℤ◌, All, unsigned_abs}, List.{range_with_len}}
 use borrow.Author.Differences.{abs_is, product_is}
 use Rattle.gs_model.specs.{Classes.{ClassLists, IsClass, IsClasses, class_count, class_of}, Deals.{Deal}, Frame.{Frame, at_round, last_round, total_weight}}

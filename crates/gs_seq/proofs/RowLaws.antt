@@ -1,7 +1,6 @@
 -- The row of a class is its row by definition.
 use Rattle.std.proofs.Common.{◌≡◌, ℕ, ℤ, pos, zero, suc, ◌*◌, ◌<◌, ◌≤◌, Bool, true, false, cond, List, [], ◌∷◌, length, get_or, refl, sym, ap, ◌∙◌, arith}
-use Rattle.std.proofs.Common.{count_by, eqb}
-use Rattle.std.proofs.{Math.IntN.{*ℤ_comm, *ℤ-zero}, Math.Nat.{mul-le-mul_right}, lemmas.Bool.Decides.{Decides-eqb}, lemmas.Int.{ints}}
+use Rattle.std.proofs.{Common.{count_by, eqb}, Math.IntN.{*ℤ_comm, *ℤ-zero}, Math.Nat.{mul-le-mul_right}, lemmas.Bool.Decides.{Decides-eqb}, lemmas.Int.{ints}}
 use Rattle.std.proofs.{lemmas.List.Elements.{All-from_recursion}, lemmas.List.FromFn.{fill_by_all}, lemmas.List.Sums.{get_or-le-sum_by}}
 use Rattle.std.specs.{Prelude.{◌==◌, ◌*ℤ◌}, List.{AllByRecursion, range_with_len}, declared.cmp.Ordering.TheVariants.{Less}}
 use borrow.Author.Differences.{product_is}

@@ -5,10 +5,8 @@ use Rattle.std.proofs.{Math.Nat.{mul-le-mul_left}, lemmas.Bool.{cases_Bool}, lem
 use Rattle.std.specs.{Prelude.{All, pos, neg_ℤ, nat_lt, slice_index, unsigned_abs}, List.{enumerate_from}}
 use borrow.Author.Differences.{abs_is}
 use borrow.Author.Tests.{ltb-false}
-use Rattle.gs_game.specs.{Games.{game_of}, Money.{first_of, most_in}}
+use Rattle.gs_game.specs.{Games.{game_of}, Money.{first_of, most_in}, Refusals.{too_many_lines, uneven_refusal}, declared.valid.ValidGame.{ValidGame}}
 use Rattle.gs_game.specs.Refusals.{Refusal, betting_refusal, card_refusal, deal_refusal, even_refusal, first_refusal, lines_refusal, put_refusal, put_too_large}
-use Rattle.gs_game.specs.Refusals.{too_many_lines, uneven_refusal}
-use Rattle.gs_game.specs.declared.valid.ValidGame.{ValidGame}
 use Rattle.gs_model.specs.{Numbering.{greatest}, Deals.{Deal, deal_of, deals, pairings}, Frame.{Frame, end_at, end_count, total_weight, trees_of}}
 use Rattle.gs_model.specs.{Game.{Game, round_count}, Positions.{End, Show}, Signals.{Signal, signals}, Walk.{walk}}
 use Rattle.gs_game.proofs.{Evenly.{neither}, Playable.{puts_within}, Checked.{some-category}}

@@ -1,7 +1,6 @@
 -- The row of a class of a round before the last, from the deals of its first member where the game stops after the round.
 use Rattle.std.proofs.Common.{◌≡◌, ℕ, ℤ, pos, ◌+◌, ◌*◌, ◌<◌, ◌≤◌, ◌^◌, Bool, true, false, cond, List, [], ◌∷◌, length, get_or, map, refl, sym, ap, ◌∙◌, subst}
-use Rattle.std.proofs.Common.{arith, sum_by}
-use Rattle.std.proofs.{Math.Nat.{mul-div_cancel_left, mul-le-mul_right, mul-le-mul_left}, lemmas.List.Elements.{recursion_from_All}}
+use Rattle.std.proofs.{Common.{arith, sum_by}, Math.Nat.{mul-div_cancel_left, mul-le-mul_right, mul-le-mul_left}, lemmas.List.Elements.{recursion_from_All}}
 use Rattle.std.proofs.lemmas.List.Sums.{sum_by-cons}
 use Rattle.std.specs.{Prelude.{◌==◌, ◌/◌, ◌*ℤ◌}, List.{AllByRecursion, range_with_len}, Ordering.{int_eq}, declared.cmp.Ordering.TheVariants.{Less}}
 use Rattle.gs_filter.specs.Filter.{Filter}

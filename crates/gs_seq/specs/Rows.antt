@@ -1,7 +1,6 @@
 -- The pairs of a class as a list, one for each class of the other player that it meets.
 use Rattle.std.specs.Prelude.{All, map, filter, ℕ, ◌+◌, ◌-◌, ◌*◌, ◌^◌, ◌<◌, ◌≤◌, ◌≡◌, ◌==◌, List, [], ◌∷◌, length, ℤ, pos, ◌+ℤ◌, ◌*ℤ◌, unsigned_abs, get_or}
-use Rattle.std.specs.Prelude.{if◌then◌else◌, sum_by, Vec, vec_len}
-use Rattle.std.specs.{declared.alloc.Global.{Global}, List.{range_with_len}}
+use Rattle.std.specs.{Prelude.{if◌then◌else◌, sum_by, Vec, vec_len}, declared.alloc.Global.{Global}, List.{range_with_len}}
 use Rattle.gs_filter.specs.Filter.{Filter}
 use Rattle.gs_model.specs.{Classes.{ClassLists, class_count, class_of, first_member, IsClass, list_of}, Frame.{Frame, last_round}, Sums.{sum_z}}
 use Rattle.gs_lossless.specs.declared.parts.Part.{Part}

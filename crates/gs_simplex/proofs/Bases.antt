@@ -3,9 +3,8 @@ use Rattle.std.proofs.Common.{◌≡◌, ℕ, suc, ◌+◌, ◌-◌, ◌<◌, �
 use Rattle.std.proofs.lemmas.Bool.{cases_eq, cases_lt}
 use Rattle.gs_simplex.specs.declared.program.Program.{Program}
 use Rattle.gs_simplex.specs.{Program.{number, aim_of, IsFree, Listing, IsListed, RowListed, ColListed, IsRowsOf, IsRegularList}, Path.{IsPivot, States}}
-use Rattle.gs_simplex.proofs.Steps.{IsList}
+use Rattle.gs_simplex.proofs.{Steps.{IsList}, Solutions.{InCols, IsTable, find_col}, Turns.{IsState, next_feasible}, Circle.{IsRun, no_circle}}
 use Rattle.gs_simplex.proofs.Pivots.{IsOnce, IsPlace, any_default, listed_set_here, listed_set_old, turn_is_list, turn_is_once, turn_is_regular}
-use Rattle.gs_simplex.proofs.{Solutions.{InCols, IsTable, find_col}, Turns.{IsState, next_feasible}, Circle.{IsRun, no_circle}}
 use Rattle.gs_simplex.proofs.Turns as Turns
 
 -- what holds of every list from the end of the opening on

@@ -1,12 +1,10 @@
 -- No run of pivots by Bland's rule comes back to the listed columns that it began with.
 use Rattle.std.proofs.Common.{◌≡◌, ◌≢◌, ℕ, zero, suc, ◌+◌, ◌-◌, ◌<◌, ◌≤◌, ◌⊎◌, inl, inr, ℤ, pos, ◌+ℤ◌, ◌-ℤ◌, ◌*ℤ◌, neg_ℤ, ◌≤ℤ◌, ◌<ℤ◌, refl, sym, ap, subst, ◌∙◌}
-use Rattle.std.proofs.Common.{arith}
-use Rattle.std.proofs.lemmas.Bool.{cases_eq, cases_lt}
+use Rattle.std.proofs.{Common.{arith}, lemmas.Bool.{cases_eq, cases_lt}}
 use Rattle.gs_simplex.specs.Sums.{sum_to}
 use Rattle.gs_simplex.proofs.Ring.{ring, linear, sign_of, times_zero, zero_times, times_nonneg, times_pos, cancel, cancel_zero, cancel_pos, cancel_nonneg}
-use Rattle.gs_simplex.proofs.{Ring.{times_left, times_neg}, Sums.{cases_last}}
+use Rattle.gs_simplex.proofs.{Ring.{times_left, times_neg}, Sums.{cases_last}, Solutions.{table_solves, row_sum_two, placed, listed_vector, common_values}}
 use Rattle.gs_simplex.proofs.Solutions.{IsKilled, InCols, IsTable, IsBasic, find_col, row_at_basic, basic_exists, aim_dot, aim_at_two, aim_at_basic}
-use Rattle.gs_simplex.proofs.Solutions.{table_solves, row_sum_two, placed, listed_vector, common_values}
 use Rattle.gs_simplex.proofs.Turns.{IsState, IsPivot, out_before, left_out, aim_not_falls, basic_back}
 use lib.IntN.{*ℤ_comm}
 

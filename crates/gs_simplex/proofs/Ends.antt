@@ -1,6 +1,5 @@
 -- Where a path ends its values are feasible and its prices have multipliers; where it is unbounded the aim has no bound.
-use Rattle.std.proofs.Common.{◌≡◌, ℕ, suc, ◌+◌, ◌<◌, List, inl, inr, slice_index_or, ℤ, pos, neg_ℤ, ◌+ℤ◌, ◌-ℤ◌, ◌*ℤ◌, ◌≤ℤ◌, ◌<ℤ◌, sym, ap, subst, ◌∙◌}
-use Rattle.std.proofs.Common.{arith}
+use Rattle.std.proofs.Common.{◌≡◌, ℕ, suc, ◌+◌, ◌<◌, List, inl, inr, slice_index_or, ℤ, pos, neg_ℤ, ◌+ℤ◌, ◌-ℤ◌, ◌*ℤ◌, ◌≤ℤ◌, ◌<ℤ◌, sym, ap, subst, ◌∙◌, arith}
 use Rattle.gs_simplex.proofs.Ring.{ring, linear, times_times, zero_times, times_nonneg, times_pos, cancel, cancel_nonneg}
 use Rattle.gs_simplex.proofs.{Solutions.{IsKilled, IsBasic, find_col, row_at_basic, basic_exists, aim_at_basic}, Turns.{IsState}}
 use Rattle.gs_simplex.proofs.{Bases.{IsFull, RowsFeasible, col_of, col_listed, in_cols, from_cols, state_of}, Opening.{trail_at}, Agree.{Agree, rows_agree}}

@@ -1,11 +1,9 @@
 -- What holds of a table's rows holds of the rows that they are multiples of.
 use Rattle.std.proofs.Common.{◌≡◌, ◌≢◌, ℕ, suc, ◌+◌, ◌<◌, ◌≤◌, ℤ, pos, ◌*ℤ◌, ◌<ℤ◌, ◌≤ℤ◌, refl, sym, ap, subst, ◌∙◌, arith}
 use Rattle.gs_simplex.specs.{declared.program.Program.{Program}, Rows.{IsNarrow}, Program.{Listing, IsPairList, IsRowsOf}}
-use Rattle.gs_simplex.specs.{Path.{Enters, NoneEnters, Leaves, NoneLeaves, AllNarrow}}
-use Rattle.gs_simplex.specs.Table.{table_aim, IsTable, IsKept, IsTableOf}
-use Rattle.gs_simplex.proofs.PairLists.{pair_list_is_list}
+use Rattle.gs_simplex.specs.{Path.{Enters, NoneEnters, Leaves, NoneLeaves, AllNarrow}, Table.{table_aim, IsTable, IsKept, IsTableOf}}
+use Rattle.gs_simplex.proofs.{PairLists.{pair_list_is_list}, Tables.{flipped_abs}}
 use Rattle.gs_simplex.proofs.Multiples.{multiple_of_equal, down_narrow, down_pos, down_nonpos, down_zero, up_pos, up_zero, down_ratio, up_tie}
-use Rattle.gs_simplex.proofs.Tables.{flipped_abs}
 
 -- the rows of a table themselves
 pub kept_self : (p : Program) (l : Listing) (grid : ℕ → ℕ → ℤ) → IsRowsOf p l (grid) (table_aim p grid) → IsTableOf p l grid

@@ -1,7 +1,6 @@
 -- The places that may have a number other than 0 in a pivot.
-use Rattle.std.proofs.Common.{◌≡◌, ◌≢◌, ℕ, ◌+◌, ◌-◌, ◌<◌, ◌≤◌, inl, inr, List, length, slice_index, slice_set, sym, ap, ◌∙◌, arith}
+use Rattle.std.proofs.{Common.{◌≡◌, ◌≢◌, ℕ, ◌+◌, ◌-◌, ◌<◌, ◌≤◌, inl, inr, List, length, slice_index, slice_set, sym, ap, ◌∙◌, arith}, lemmas.Bool.{cases_lt}}
 use Rattle.std.proofs.Common.{get_or-set_other, get_or-set_same, below_more}
-use Rattle.std.proofs.lemmas.Bool.{cases_lt}
 use Rattle.gs_simplex.specs.Columns.{AreStands}
 
 -- the places of the first `count` columns

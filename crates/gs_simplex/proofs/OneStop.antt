@@ -1,9 +1,8 @@
 -- The path of a program from an opening stops in one way only.
 use Rattle.std.proofs.Common.{◌≡◌, ℕ, ◌+◌, ◌-◌, ◌<◌, ◌≤◌, ◌⊎◌, inl, inr, length, ℤ, pos, ◌≤ℤ◌, ◌<ℤ◌, refl, sym, ap, subst, ◌∙◌, arith}
 use Rattle.std.proofs.lemmas.Bool.{cases_order, cases_lt}
-use Rattle.gs_simplex.specs.{declared.program.Program.{Program}, Rows.{IsNarrow}, Program.{Listing, IsRowsOf, IsOpening}}
+use Rattle.gs_simplex.specs.{declared.program.Program.{Program}, Rows.{IsNarrow}, Program.{Listing, IsRowsOf, IsOpening}, Path.{Stops, PathStops}}
 use Rattle.gs_simplex.specs.Path.{Enters, Leaves, States, IsPath, NoneEnters, NoneLeaves, AllNarrow, IsFirstWide, PathStop, ends, wide, pivots, unbounded}
-use Rattle.gs_simplex.specs.Path.{Stops, PathStops}
 use Rattle.gs_simplex.proofs.{Ring.{linear}, Steps.{rows_same}, Bases.{IsFull}, Opening.{opened, trail_at}, PairLists.{row_decided, opened_pair_list}}
 use Rattle.gs_simplex.proofs.Agree.{Agree, enters_same, lists_same, paths_agree}
 

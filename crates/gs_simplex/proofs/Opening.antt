@@ -2,9 +2,8 @@
 use Rattle.std.proofs.Common.{◌≡◌, ℕ, zero, suc, ◌+◌, ◌-◌, ◌<◌, ◌≤◌, ◌⊎◌, inl, inr, [], ◌∷◌, ◌++◌, length, slice_index_or, take, ℤ, pos, ◌*ℤ◌, neg_ℤ, ◌≤ℤ◌}
 use Rattle.std.proofs.Common.{◌<ℤ◌, sym, ap, subst, ◌∙◌, arith}
 use Rattle.std.proofs.{lemmas.Bool.{cases_lt}, Math.Seq.{take-length}, lemmas.List.{take_more, length_push, get_or_append_left, get_or_push}}
-use Rattle.gs_simplex.specs.{declared.program.Program.{Program}, Sums.{sum_to}}
+use Rattle.gs_simplex.specs.{declared.program.Program.{Program}, Sums.{sum_to}, Path.{IsPivot, States, IsPath}}
 use Rattle.gs_simplex.specs.Program.{number, Listing, IsListed, RowListed, ColListed, IsRowsOf, CanTake, IsTakenInTurn, IsSolution, IsOpening, IsRegularList}
-use Rattle.gs_simplex.specs.Path.{IsPivot, States, IsPath}
 use Rattle.gs_simplex.proofs.{States.{later}, Ring.{ring, linear, times_nonneg, cancel_nonneg}, Sums.{sum_same}, Steps.{IsList, take_is_list, take_is_regular}}
 use Rattle.gs_simplex.proofs.{Pivots.{IsOnce, any_default}, Solutions.{IsKilled, IsBasic, placed, row_at_basic}}
 use Rattle.gs_simplex.proofs.Bases.{IsFull, IsTrail, RowsFeasible, col_of, col_is, in_cols, table_of, turn_is_full, turn_is_feasible, trail_columns_differ}

@@ -1,11 +1,9 @@
 -- Lists of basic pairs: what stands in them, their rows, that a pivot keeps them regular, and that the aim's last number is its value.
 use Rattle.std.proofs.Common.{◌≡◌, ℕ, suc, ◌+◌, ◌<◌, ◌≤◌, ◌⊎◌, inl, inr, length, slice_index, slice_index_or, slice_set, ℤ, pos, ◌-ℤ◌, ◌*ℤ◌, neg_ℤ, sym, ap}
-use Rattle.std.proofs.Common.{subst, ◌∙◌}
-use Rattle.std.proofs.Common.{List, arith, get_or-set_other, get_or-set_same}
+use Rattle.std.proofs.Common.{subst, ◌∙◌, List, arith, get_or-set_other, get_or-set_same}
 use Rattle.std.proofs.{lemmas.Bool.{cases_eq}, lemmas.List.{length-set}, Math.Seq.{take-length}}
-use Rattle.gs_simplex.specs.{declared.program.Program.{Program}, Sums.{sum_to}}
+use Rattle.gs_simplex.specs.{declared.program.Program.{Program}, Sums.{sum_to}, Path.{IsPivot}}
 use Rattle.gs_simplex.specs.Program.{aim_of, Listing, IsListed, RowListed, ColListed, IsPairList, IsRowsOf, IsRegularList, IsTakenInTurn, IsSolution}
-use Rattle.gs_simplex.specs.Path.{IsPivot}
 use Rattle.gs_simplex.proofs.{Ring.{ring, linear, times_zero, zero_times}, Sums.{sum_same, sum_zero}, Steps.{IsList, rows_same}}
 use Rattle.gs_simplex.proofs.{Pivots.{IsOnce, IsPlace, any_default, turn_is_list, turn_is_once, turn_is_regular}, Solutions.{find_col, aim_dot}}
 use Rattle.gs_simplex.proofs.{Opening.{IsOpened, opened, solution_killed}, Exists.{rows_exist}}

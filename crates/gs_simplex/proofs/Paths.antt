@@ -2,10 +2,9 @@
 use Rattle.std.proofs.Common.{◌≡◌, ◌≢◌, ℕ, suc, ◌+◌, ◌<◌, ◌≤◌, inl, inr, [], ◌∷◌, ◌++◌, length, take, slice_index_or, slice_set, ℤ, pos}
 use Rattle.std.proofs.Common.{neg_ℤ, ◌<ℤ◌, ◌≤ℤ◌, Option, Some, None, IfNone, MatchOption, refl, sym, ap, subst, ◌∙◌, arith}
 use Rattle.std.proofs.{lemmas.List.{take_more}, Math.Seq.{take-length}}
-use Rattle.gs_simplex.specs.{declared.program.Program.{Program}, Rows.{IsPrimitive}, Elimination.{IsEliminated}}
+use Rattle.gs_simplex.specs.{declared.program.Program.{Program}, Rows.{IsPrimitive}, Elimination.{IsEliminated}, Path.{unbounded, PathStops}}
 use Rattle.gs_simplex.specs.Program.{Listing, IsPairList, IsRowsOf, CanTake, IsTakenInTurn, IsOpening}
 use Rattle.gs_simplex.specs.Path.{States, IsPath, IsWhole, IsPivot, Enters, NoneEnters, Leaves, NoneLeaves, AllNarrow, IsFirstWide, ends, wide, pivots}
-use Rattle.gs_simplex.specs.{Path.{unbounded, PathStops}}
 use Rattle.gs_simplex.specs.Table.{table_aim, IsTable, IsKept, IsTableOf, IsTableAfter, stated, IsWideAfter}
 use Rattle.gs_simplex.specs.{State.{IsSoFar, IsPivoted, IsWidePivot}, Choice.{IsLeaving}}
 use Rattle.gs_simplex.proofs.{Ring.{linear}, Steps.{IsList, take_rows}, Pivots.{IsPlace, turn_rows}, Opening.{opened}, Extend.{longer, last_step, path_longer}}

@@ -1,7 +1,6 @@
 -- What each row is after a pivot, the pivot row, the others and the aim's, and that proportional primitive rows are one row.
 use Rattle.std.proofs.Common.{◌≡◌, ◌≢◌, ℕ, zero, suc, ◌+◌, ◌-◌, ◌*◌, ◌<◌, ◌≤◌, inl, inr, ℤ, pos, negsuc, ◌+ℤ◌, ◌-ℤ◌, ◌*ℤ◌, neg_ℤ, ◌<ℤ◌, unsigned_abs, sym, ap}
-use Rattle.std.proofs.Common.{◌∙◌, arith}
-use Rattle.std.proofs.{lemmas.Bool.{cases_eq, cases_order}, lemmas.Int.{ints, unsigned_abs-mul}, Math.Nat.{dvd-mul_right}}
+use Rattle.std.proofs.{Common.{◌∙◌, arith}, lemmas.Bool.{cases_eq, cases_order}, lemmas.Int.{ints, unsigned_abs-mul}, Math.Nat.{dvd-mul_right}}
 use Rattle.gs_simplex.specs.{Rows.{IsCombination, IsUnlistedRow, IsListedRow, IsAimRow, IsPrimitive}, Sums.{sum_to}}
 use Prim.Native.Nat.{◌∣◌}
 use Rattle.gs_simplex.proofs.{Ring.{ring, linear, one_times, times_zero, sum_times, times_pos, cancel, cancel_zero}, Sums.{sum_same, sum_scale}}

@@ -1,8 +1,6 @@
 -- A pivot on rows by places: from the row that is taken to the rows that are cleared, and the lead's number put at its own place.
 use Rattle.std.proofs.Common.{◌≡◌, ◌≢◌, ℕ, ◌+◌, ◌-◌, ◌*◌, ◌<◌, ◌≤◌, ◌⊎◌, inl, inr, List, length, slice_index, ℤ, pos, ◌*ℤ◌, neg_ℤ, ◌<ℤ◌, ◌≤ℤ◌, unsigned_abs}
-use Rattle.std.proofs.Common.{refl, sym}
-use Rattle.std.proofs.Common.{ap, subst, ◌∙◌, arith}
-use Rattle.std.proofs.lemmas.{Bool.{cases_eq}, Int.{ints}, List.Edits.{Swapped}}
+use Rattle.std.proofs.{Common.{refl, sym, ap, subst, ◌∙◌, arith}, lemmas.Bool.{cases_eq}, lemmas.Int.{ints}, lemmas.List.Edits.{Swapped}}
 use Rattle.gs_simplex.specs.{Rows.{IsNarrow}, Numbers.{at, cell, AreNarrowNumbers, IsAtMost, AreTops}}
 use Rattle.gs_simplex.specs.Columns.{IsSwapped, IsRowCleared, IsRowLed, IsLiveRow, IsLive, AreRowsCleared, AreRowsClearedTo, IsPivotDone, IsPivotWide}
 use Rattle.gs_simplex.proofs.{Ring.{times_zero}, Places.{at_most_same, row_apart, lead_by}, Standing.{slot_freed_same, row_cleared_same}}

@@ -1,7 +1,6 @@
 -- The list after a turn, with one pair changed: what is listed there, its rows after the elimination, and that it stays regular.
 use Rattle.std.proofs.Common.{◌≡◌, ◌≢◌, ℕ, ◌+◌, ◌<◌, ◌≤◌, ◌⊎◌, inl, inr, length, slice_index_or, slice_set, ℤ, pos, ◌<ℤ◌, refl, sym, ap, subst, ◌∙◌, arith}
-use Rattle.std.proofs.Common.{get_or-set_other, get_or-set_same}
-use Rattle.std.proofs.{lemmas.Bool.{cases_eq}, lemmas.List.{length-set, get_or_default}}
+use Rattle.std.proofs.{Common.{get_or-set_other, get_or-set_same}, lemmas.Bool.{cases_eq}, lemmas.List.{length-set, get_or_default}}
 use Rattle.gs_simplex.specs.{declared.program.Program.{Program}, Elimination.{IsEliminated}, Program.{Listing, IsListed, ColListed, IsRowsOf, IsRegularList}}
 use Rattle.gs_simplex.proofs.{Ring.{linear}, Rows.{regular_swap}, Pivot.{pivot_self_listed}, Lists.{IsChange, rows_after, listed_renamed}}
 use Rattle.gs_simplex.proofs.Steps.{IsList, change_is_list}

@@ -1,16 +1,13 @@
 -- Numbers of rows that stand one after the other in one list, and what is at each place after a part was written.
 use Rattle.std.proofs.Common.{◌≡◌, ◌≢◌, ℕ, suc, ◌+◌, ◌-◌, ◌*◌, ◌<◌, ◌≤◌, ◌⊎◌, inl, inr, List, [], ◌++◌, length, take, drop, map, Vec, vec_items, Global, get_or}
 use Rattle.std.proofs.Common.{slice_index, slice_index_or, slice_set, ℤ, pos, neg_ℤ, ◌-ℤ◌, ◌*ℤ◌, ◌<ℤ◌, unsigned_abs, refl, sym, ap, subst, ◌∙◌, arith}
-use Rattle.std.proofs.Common.{below_more, get_or-set_other, get_or-set_same}
-use Rattle.std.proofs.lemmas.Bool.{cases_order, cases_lt}
+use Rattle.std.proofs.{Common.{below_more, get_or-set_other, get_or-set_same}, lemmas.Bool.{cases_order, cases_lt}, lemmas.List.{length-drop, length-map}}
 use Rattle.std.proofs.lemmas.List.{get_or_append_left, get_or-append_right, get_or_default, get_or-drop, get_or-take, length-take-le, length-append}
-use Rattle.std.proofs.lemmas.List.{length-drop, length-map}
 use Rattle.std.proofs.Math.ListN.{get_or-map}
 use Prim.Native.Nat.{◌∣◌}
 use borrow.Rule.Slice.PartMut.{put_mid}
-use Rattle.gs_simplex.specs.Rows.{IsNarrow, IsPrimitive}
+use Rattle.gs_simplex.specs.{Rows.{IsNarrow, IsPrimitive}, Numbers.{IsLeadOf}}
 use Rattle.gs_simplex.specs.Numbers.{at, cell, AreNarrowNumbers, IsAtMost, IsMultiple, IsDivided, cleared_by, IsReduced, IsTurned}
-use Rattle.gs_simplex.specs.Numbers.{IsLeadOf}
 use Rattle.gs_simplex.proofs.{Ring.{linear}, Multiples.{down_nonneg}}
 
 -- the numbers of a row of a list of rows

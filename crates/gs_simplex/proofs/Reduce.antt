@@ -7,9 +7,8 @@ use Prim.Native.Nat.{◌∣◌}
 use Rattle.std.specs.Int.{IsGcd}
 use Rattle.gs_simplex.proofs.{Ring.{ring, linear, one_times, times_pos, times_times, cancel, cancel_zero}, Sums.{cases_last}}
 use Rattle.gs_simplex.proofs.Primitive.{over, over_times, zero_abs}
-use Rattle.gs_simplex.specs.Rows.{IsNarrow, IsPrimitive}
+use Rattle.gs_simplex.specs.{Rows.{IsNarrow, IsPrimitive}, Numbers.{IsMixed, IsReduced, IsWideReduced}}
 use Rattle.gs_simplex.specs.Numbers.{at, AreNarrowNumbers, AllAtMost, IsAtMost, IsDivisor, IsShared, IsQuotient, HasWideQuotient, IsMultiple, IsDivided}
-use Rattle.gs_simplex.specs.Numbers.{IsMixed, IsReduced, IsWideReduced}
 
 -- one more number among those divided, which may be 0
 pub one_more : (f : ℕ → ℤ) (i found next m : ℕ) → m ≡ unsigned_abs (f i) → IsGcd found m next → IsDivisor i f found → IsDivisor (i + 1) f next

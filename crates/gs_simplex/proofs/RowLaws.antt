@@ -3,9 +3,8 @@ use Rattle.std.proofs.Common.{◌≡◌, ℕ, suc, ◌+◌, ◌<◌, ◌≤◌, 
 use Rattle.std.proofs.{lemmas.Bool.{cases_eq}, lemmas.Int.{ints}}
 use Rattle.gs_simplex.specs.{Rows.{IsRegular, IsAimRow}, Sums.{sum_to}}
 use Rattle.gs_simplex.proofs.Ring.{ring, linear, times_zero, zero_times, times_nonneg, times_pos, cancel_zero, cancel_pos, cancel_nonneg, times_neg}
-use Rattle.gs_simplex.proofs.{Sums.{sum_same, sum_zero, sum_add, sum_scale}, Rows.{sum_mix}}
+use Rattle.gs_simplex.proofs.{Sums.{sum_same, sum_zero, sum_add, sum_scale}, Rows.{sum_mix}, Circle.{IsDirection, direction_exists}}
 use Rattle.gs_simplex.proofs.{Solutions.{dot, IsKilled, IsBasic, find_col, row_at_basic, basic_exists, aim_at_two}, Turns.{IsState}}
-use Rattle.gs_simplex.proofs.Circle.{IsDirection, direction_exists}
 use lib.IntN.{*ℤ_comm}
 
 module _ {m n : ℕ} {A : ℕ → ℕ → ℤ} {aim a : ℕ → ℤ} where

@@ -3,8 +3,7 @@ use Rattle.std.proofs.Common.{◌≡◌, ℕ, ◌+◌, ◌-◌, ◌*◌, ◌<◌
 use Rattle.std.proofs.Common.{subst, ◌∙◌, arith, below_more}
 use Rattle.std.proofs.{lemmas.Bool.{cases_eq, cases_lt}, lemmas.List.{length-append, get_or_append_left, get_or-append_right}}
 use Rattle.gs_simplex.specs.{declared.program.Program.{Program}, Rows.{IsNarrow}, Program.{number, aim_of, IsShaped}, State.{raw, AreOnly}}
-use Rattle.gs_simplex.specs.Numbers.{at, cell, AreNarrowNumbers}
-use Rattle.gs_simplex.specs.Columns.{place_in, at_place, AreStands, AreSlots, IsSetRow}
+use Rattle.gs_simplex.specs.{Numbers.{at, cell, AreNarrowNumbers}, Columns.{place_in, at_place, AreStands, AreSlots, IsSetRow}}
 use Rattle.gs_simplex.proofs.{Places.{row_inside}, Standing.{placed, number_inside}}
 
 -- ---- the program's rows

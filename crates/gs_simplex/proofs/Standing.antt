@@ -3,10 +3,9 @@ use Rattle.std.proofs.Common.{◌≡◌, ◌≢◌, ℕ, ◌+◌, ◌-◌, ◌<�
 use Rattle.std.proofs.Common.{unsigned_abs, refl, sym, ap, subst, ◌∙◌, arith}
 use Rattle.std.proofs.{lemmas.Bool.{cases_eq, cases_lt, cases_order}, lemmas.Nat.Gcd.{dvd-zero}, lemmas.List.{length-take-le, get_or-take}}
 use Prim.Native.Nat.{◌∣◌}
-use Rattle.gs_simplex.specs.{Rows.{IsNarrow, IsPrimitive}, Support.{IsSupport}}
+use Rattle.gs_simplex.specs.{Rows.{IsNarrow, IsPrimitive}, Support.{IsSupport}, Columns.{IsRowCleared, IsRowLed, IsFirstWideOf}}
 use Rattle.gs_simplex.specs.Numbers.{cleared_by, IsMultiple, IsDivided, IsMixed, IsReduced, IsLeadOf, IsCleared, IsClearedTo}
 use Rattle.gs_simplex.specs.Columns.{place_in, at_place, in_columns, AreStands, IsCovered, AreStandsAfter, AreLivePlaces, IsSwapped, IsSlotFreed, IsOwnFreed}
-use Rattle.gs_simplex.specs.Columns.{IsRowCleared, IsRowLed, IsFirstWideOf}
 use Rattle.gs_simplex.proofs.{Ring.{linear, ring, times_zero, cancel_zero}, Places.{multiple_same, divided_same, lead_by}}
 
 -- ---- the place of a column, and the number there

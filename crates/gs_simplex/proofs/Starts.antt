@@ -1,15 +1,12 @@
 -- The program's rows, each divided, are the table that a path starts from.
 use Rattle.std.proofs.Common.{◌≡◌, inl, inr, ℕ, suc, ◌+◌, ◌-◌, ◌*◌, ◌<◌, ◌≤◌, ◌^◌, List, [], length, slice_index, ℤ, pos, neg_ℤ, refl, sym, ap, subst}
-use Rattle.std.proofs.Common.{◌∙◌, arith}
-use Rattle.std.proofs.lemmas.Bool.{cases_lt}
+use Rattle.std.proofs.{Common.{◌∙◌, arith}, lemmas.Bool.{cases_lt}}
 use Rattle.gs_simplex.specs.{declared.program.Program.{Program}, Rows.{IsNarrow, IsPrimitive}, Program.{IsRowsOf}}
 use Rattle.gs_simplex.specs.{Numbers.{cell, AreNarrowNumbers, AreTops, IsDivided}, Table.{table_aim, HasRoom, IsTable, IsTableOf}}
-use Rattle.gs_simplex.specs.{State.{raw, AreRaw, IsStart}, declared.table.Table.{Table}}
-use Rattle.gs_simplex.specs.Columns.{place_in, in_columns, AreStands, IsCovered}
-use Rattle.gs_simplex.proofs.{Exists.{empty_rows_from}, Ring.{cancel_zero}, Places.{row_inside, divided_same}}
+use Rattle.gs_simplex.specs.{State.{raw, AreRaw, IsStart}, declared.table.Table.{Table}, Columns.{place_in, in_columns, AreStands, IsCovered}}
+use Rattle.gs_simplex.proofs.{Exists.{empty_rows_from}, Ring.{cancel_zero}, Places.{row_inside, divided_same}, Relisting.{laid_by}}
 use Rattle.gs_simplex.proofs.Tables.{flipped_at, flipped_other, primitive_shorter}
 use Rattle.gs_simplex.proofs.{Standing.{looked_along, looked_divided}, Slots.{raw_row, raw_zero, raw_aim, raw_last, raw_multiple}, Kept.{kept_self}}
-use Rattle.gs_simplex.proofs.Relisting.{laid_by}
 
 -- a bound above every narrow number
 pub wide_tops : (count w : ℕ) (xs : List ℤ) (tops : List ℕ) → length xs ≡ count * w → AreNarrowNumbers xs

@@ -1,7 +1,6 @@
 -- Rows that are 0 outside some places.
 use Rattle.std.proofs.Common.{◌≡◌, ◌≢◌, ℕ, ◌+◌, ◌<◌, ◌≤◌, ◌⊎◌, inl, inr, List, length, slice_index, slice_set, ℤ, pos, ◌-ℤ◌, ◌*ℤ◌, sym, ap, subst, ◌∙◌, arith}
-use Rattle.std.proofs.Common.{get_or-set_other, get_or-set_same}
-use Rattle.std.proofs.{lemmas.Bool.{cases_lt}}
+use Rattle.std.proofs.{Common.{get_or-set_other, get_or-set_same}, lemmas.Bool.{cases_lt}}
 use Rattle.gs_simplex.specs.{Numbers.{at, IsDivided}, Support.{IsSupport, IsChange}}
 use Rattle.gs_simplex.proofs.{Ring.{linear, one_times, times_zero, cancel_zero}, Solutions.{find_col}}
 

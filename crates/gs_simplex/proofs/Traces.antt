@@ -1,7 +1,6 @@
 -- The pivots and bases noted on the way, with the aim's value at both ends, are the trace of the path; no basis comes twice.
 use Rattle.std.proofs.Common.{◌≡◌, ℕ, ◌+◌, ◌<◌, ◌≤◌, List, Vec, Global, inl, inr, [], ◌∷◌, ◌++◌, length, slice_index, slice_index_or, slice_set, suc, ℤ, ◌*ℤ◌}
-use Rattle.std.proofs.Common.{refl, sym, ap}
-use Rattle.std.proofs.Common.{subst, ◌∙◌, arith}
+use Rattle.std.proofs.Common.{refl, sym, ap, subst, ◌∙◌, arith}
 use Rattle.std.proofs.{lemmas.Bool.{cases_lt}, lemmas.List.{length_push, get_or_append_left, get_or_push, get_or_default, take_all}}
 use Rattle.std.specs.{Prelude.{Contains}, List.{HoldsAt}}
 use Rattle.gs_frac.specs.declared.value.Fraction.{Fraction}
@@ -10,8 +9,7 @@ use Rattle.gs_simplex.specs.{Path.{States, IsPath, NoneEnters, ends, Stops, Path
 use Rattle.gs_simplex.specs.{Table.{table_aim, IsTable}, State.{IsSoFar, IsTurnAt}, Answer.{IsSmallTable}}
 use Rattle.gs_simplex.specs.Trace.{IsBasis, IsBasisAt, IsAimValue, IsTurnOf, IsShown, IsTrace, IsReachedBy, AreTurns, AreBases, without_bases}
 use Rattle.gs_simplex.proofs.{Opening.{path_trail, bases_differ}, PairLists.{pair_list_is_list, pivot_keeps_regular_lem, taken_is_regular_lem}}
-use Rattle.gs_simplex.proofs.Agree.{Agree, lists_same, paths_agree}
-use Rattle.gs_simplex.proofs.{Multiples.{down_fraction}, Paths.{turn_same_as, ends_stops}}
+use Rattle.gs_simplex.proofs.{Agree.{Agree, lists_same, paths_agree}, Multiples.{down_fraction}, Paths.{turn_same_as, ends_stops}}
 
 -- the listed columns among the first `count`, counted from 1, in rising order
 pub record IsBasisBelow (l : Listing) (count : ℕ) (columns : List ℕ) : Type 0 where

@@ -1,9 +1,7 @@
 -- Where the columns of a table stand. A column that may be other than 0 in several rows has a slot: one place in every row. A column that is 0 in all rows
 -- but one may be that row's own column. A row has its own number first, then its slots, and last a spare place.
-use Rattle.std.specs.Prelude.{◌≡◌, ◌≢◌, ℕ, ◌+◌, ◌-◌, ◌<◌, ◌≤◌, ◌^◌, ◌⊎◌, List, length, slice_index, ℤ, pos, ◌*ℤ◌, unsigned_abs, nat_eq, nat_lt}
-use Rattle.std.specs.Prelude.{if◌then◌else◌}
-use Rattle.gs_simplex.specs.{Rows.{IsNarrow}, Support.{IsSupport}}
-use Rattle.gs_simplex.specs.Numbers.{at, cell, AreNarrowNumbers, IsMixed, IsLeadOf, IsWideReduced}
+use Rattle.std.specs.Prelude.{◌≡◌, ◌≢◌, ℕ, ◌+◌, ◌-◌, ◌<◌, ◌≤◌, ◌^◌, ◌⊎◌, List, length, slice_index, ℤ, pos, ◌*ℤ◌, unsigned_abs, nat_eq, nat_lt, if◌then◌else◌}
+use Rattle.gs_simplex.specs.{Rows.{IsNarrow}, Support.{IsSupport}, Numbers.{at, cell, AreNarrowNumbers, IsMixed, IsLeadOf, IsWideReduced}}
 
 -- The place of a column in row i, or `width` if it has none there. `stand` is the row whose own column it is, or above `rows` it is `rows` plus its slot.
 abbrev pub place_in : ℕ → ℕ → ℕ → ℕ → ℕ

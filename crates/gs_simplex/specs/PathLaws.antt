@@ -1,8 +1,7 @@
 -- What follows from the definitions, for every program.
 use Rattle.std.specs.Prelude.{◌≡◌, ℕ, suc, ◌+◌, ◌<◌, ◌≤◌, ◌↔◌, length, ℤ, pos, ◌*ℤ◌}
-use Rattle.gs_simplex.specs.{declared.program.Program.{Program}, Sums.{sum_to}}
+use Rattle.gs_simplex.specs.{declared.program.Program.{Program}, Sums.{sum_to}, Path.{IsPivot, States, IsPath, PathStop, PathStops}}
 use Rattle.gs_simplex.specs.Program.{aim_of, Listing, ColListed, IsPairList, IsRowsOf, IsRegularList, IsTakenInTurn, IsSolution, IsOpening}
-use Rattle.gs_simplex.specs.Path.{IsPivot, States, IsPath, PathStop, PathStops}
 
 -- a regular list and the program determine the rows
 abbrev pub RowsAreDetermined : Type 0

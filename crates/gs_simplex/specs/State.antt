@@ -1,9 +1,8 @@
 -- The state of the method after some steps, and what comes next: the path ends, is unbounded, or goes on with a pivot.
 use Rattle.std.specs.Prelude.{◌≡◌, ℕ, ◌+◌, ◌*◌, ◌<◌, ◌≤◌, ◌⊎◌, [], List, ℤ, pos, length, slice_index_or, slice_set, Some, nat_eq, nat_lt, if◌then◌else◌}
-use Rattle.gs_simplex.specs.{declared.program.Program.{Program}, Program.{number, aim_of, Listing, IsPairList}}
+use Rattle.gs_simplex.specs.{declared.program.Program.{Program}, Program.{number, aim_of, Listing, IsPairList}, Columns.{IsSetRow}}
 use Rattle.gs_simplex.specs.{Path.{States, IsPath, Enters, NoneEnters, NoneLeaves}, Choice.{IsLeaving}, declared.answer.Turn.{Turn}}
 use Rattle.gs_simplex.specs.{declared.path.Choice.{Choice}, declared.path.Choice.TheVariants.{Ends, Unbounded, Leaves}, Numbers.{at, cell, AreNarrowNumbers}}
-use Rattle.gs_simplex.specs.Columns.{IsSetRow}
 use Rattle.gs_simplex.specs.{Table.{grid_of, table_aim, IsTable, IsHeld, IsKept, IsTableOf, IsTableAfter, IsWideAfter}, declared.table.Table.{Table}}
 
 -- row i of the program with its right side and 0; or, for i ≡ rows, the aim with 0 and 1

@@ -5,8 +5,7 @@ use Rattle.std.specs.{Prelude.{◌==◌, ◌&&◌}, Bool.{Decides}, Ordering.{in
 use Rattle.gs_model.specs.{Classes.{ClassLists, class_of, first_member}, Frame.{Frame, frame_of, last_round}, Game.{Game, round_count}}
 use Rattle.gs_model.specs.{Lossless.{weight_against, weight_with}, Signals.{signals}}
 use Rattle.gs_model.proofs.Ranges.{signal_count_is}
-use Rattle.gs_lossless.specs.{Amounts.{HaveEqualAmounts, AgreesWithFirst, AreSideFirsts, amount}, declared.parts.Part.{Part}}
-use Rattle.gs_lossless.specs.declared.sides.Side.{Side}
+use Rattle.gs_lossless.specs.{Amounts.{HaveEqualAmounts, AgreesWithFirst, AreSideFirsts, amount}, declared.parts.Part.{Part}, declared.sides.Side.{Side}}
 use Rattle.gs_lossless.specs.declared.sides.Side.TheVariants.{Deals, Children}
 use Rattle.gs_split.specs.Turns.{AreSettled, AreSideNumbers, AreTurnNumbers, HaveSameSums, IsSettled}
 

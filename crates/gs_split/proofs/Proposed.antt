@@ -7,10 +7,9 @@ use Rattle.std.proofs.{lemmas.List.FromFn.{map-range_with_len_more}, lemmas.List
 use Rattle.std.specs.{Prelude.{◌==◌, ◌%◌, ◌/◌, ◌^◌, ◌+ℤ◌, ◌*ℤ◌, All, filter, slice_index}, Int.{int_rem_euclid}, List.{range_with_len}}
 use borrow.Author.Differences.{product_is}
 use Rattle.gs_boards.specs.{Boards.{deal_sum, paid}, declared.pays.Pays.TheVariants.{Showdown}}
-use Rattle.gs_model.specs.{Classes.{ClassLists, InOneClass, class_of, list_of}, Deals.{Deal, deals}}
+use Rattle.gs_model.specs.{Classes.{ClassLists, InOneClass, class_of, list_of}, Deals.{Deal, deals}, Sums.{sum_z}}
 use Rattle.gs_model.specs.{Frame.{Frame, ancestor, frame_of, last_round, parents_of, signal_count, signals_in}, FrameFacts.{InRange}}
 use Rattle.gs_model.specs.{Game.{Game, IsPlayable, round_count}, Lossless.{IsLossless}, Refinement.{IsCoarsestLossless, Refines}, Signals.{parents}}
-use Rattle.gs_model.specs.Sums.{sum_z}
 use Rattle.gs_model.proofs.{Alike.{alike_items, fair_children, fair_last}, Lift.{by_pair, pair_exact, pair_test}, Ranges.{parents_at}, RawBound.{All-range}}
 use Rattle.gs_model.proofs.{Regroup.{sum_z-pos}, Total.{mul_assoc_z, sum_z-same}, Basics.{pos-injective, not_eq}, Walked.{last_round_of}}
 use Rattle.gs_lossless.proofs.Descent.{parent_is, tabled}

@@ -1,13 +1,10 @@
 -- From the keys of a round to the new classes of all rounds, and to a turn.
-use Rattle.std.proofs.Common.{◌≡◌, ◌↔◌, ℕ, suc, ◌+◌, ◌-◌, ◌<◌, ◌≤◌, List, [], ◌∷◌, ◌++◌, length, map, get_or, sym, ap, ◌∙◌, subst, arith, ⊎_elim}
-use Rattle.std.proofs.Common.{length-append}
-use Rattle.std.proofs.Common.{Vec, Global, Result, Ok, Err}
-use Rattle.std.proofs.{lemmas.Bool.{cases_eq, cases_lt}, lemmas.List.{get_or_append_left, get_or_default, get_or_push}}
+use Rattle.std.proofs.Common.{◌≡◌, ◌↔◌, ℕ, suc, ◌+◌, ◌-◌, ◌<◌, ◌≤◌, List, [], ◌∷◌, ◌++◌, length, map, get_or, sym, ap, ◌∙◌, subst, arith, ⊎_elim, length-append}
+use Rattle.std.proofs.{Common.{Vec, Global, Result, Ok, Err}, lemmas.Bool.{cases_eq, cases_lt}, lemmas.List.{get_or_append_left, get_or_default, get_or_push}}
 use Rattle.std.proofs.lemmas.List.Elements.{All-from_recursion}
 use Rattle.std.specs.{Prelude.{IfOk}, List.{All, AllByRecursion}}
-use Rattle.gs_model.specs.Classes.{ClassLists, IsClasses, IsFilter, class_of, list_of}
+use Rattle.gs_model.specs.{Classes.{ClassLists, IsClasses, IsFilter, class_of, list_of}, RefinementTurn.{IsTurn}, Signals.{children, parents}, Rows.{rows}}
 use Rattle.gs_model.specs.{Frame.{Frame, ancestor, ancestor_up, frame_of, last_round, parents_of, signal_count}, Game.{Game, round_at, round_count}}
-use Rattle.gs_model.specs.{RefinementTurn.{IsTurn}, Signals.{children, parents}, Rows.{rows}}
 use Rattle.gs_model.proofs.Ranges.{in_range, parents_at}
 use Rattle.gs_filter.proofs.RowLaws.{length-rows, row_read}
 use Rattle.gs_tree.specs.{Trees.{rules_of}, declared.signals.Signals.{Signals}}

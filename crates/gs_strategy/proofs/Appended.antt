@@ -1,7 +1,6 @@
 -- The text of a strategy, piece by piece.
 use Rattle.std.proofs.Common.{◌≡◌, ℕ, zero, suc, Bool, true, false, List, [], ◌∷◌, ◌++◌, append_assoc, ap, ◌∙◌}
-use Rattle.serde_json.specs.Data.{Data, Items, item}
-use Rattle.serde_json.specs.Written.{comma_if, compact_text, items_text}
+use Rattle.serde_json.specs.{Data.{Data, Items, item}, Written.{comma_if, compact_text, items_text}}
 
 -- whether something stands before the place
 abbrev pub is_later : ℕ → Bool

@@ -4,8 +4,7 @@ use Rattle.std.proofs.{lemmas.Bool.{cases_lt}, lemmas.List.{get_or-take}}
 use Rattle.gs_file.specs.{Reading.{FileGame}, declared.version.Version.{Version}}
 use Rattle.gs_filter.proofs.Kept.{classes_kept}
 use Rattle.gs_filter.specs.Faults.{Agree, AllNumbered, AreFirstApart, AreFirstApartIn, AreTogether, IsFaultOf as IsClassFaultOf, IsFirstLength, IsFirstUnseen}
-use Rattle.gs_filter.specs.Faults.{first_beside}
-use Rattle.gs_filter.specs.{Tallies.{IsFirstUnseenIn}, declared.fault.ClassFault.{ClassFault}}
+use Rattle.gs_filter.specs.{Faults.{first_beside}, Tallies.{IsFirstUnseenIn}, declared.fault.ClassFault.{ClassFault}}
 use Rattle.gs_filter.specs.declared.fault.ClassFault.TheVariants as class
 use Rattle.gs_json.specs.{Differences.{IsFirstDifference}, Steps.{Then}}
 use Rattle.gs_model.specs.{Classes.{ClassLists, list_of}, Frame.{Frame}, Numbering.{IsNumbered}, Plans.{Plan}}
@@ -14,9 +13,8 @@ use Rattle.gs_seq.specs.{Faults.{FlowsAt, IsFaultOf as IsPlanFaultOf, IsFirstLea
 use Rattle.gs_seq.specs.declared.fault.PlanFault.TheVariants as slot
 use Rattle.serde_json.specs.Data.{Data}
 use Rattle.gs_strategy.specs.Checks.{AreClasses, After, Checked, IsCanonical, IsClassFault, IsPlanFault, Reads, ReadResult, ReadsClasses, ReadsParts, ReadsPlan}
-use Rattle.gs_strategy.specs.Faults.{Fault, classes, not_canonical, plan}
+use Rattle.gs_strategy.specs.{Faults.{Fault, classes, not_canonical, plan}, Texts.{strategy_text}, Values.{ArePlanWeights, Strategy, Weights, file_frame}}
 use Rattle.gs_strategy.specs.Reading.{Whole, class_lists_at, stored_game_at, json_at, numbers_at, parts_at, stored_version_at, weights_at}
-use Rattle.gs_strategy.specs.{Texts.{strategy_text}, Values.{ArePlanWeights, Strategy, Weights, file_frame}}
 use Rattle.gs_strategy.specs.declared.fault.FilePart.{FilePart}
 use Rattle.gs_strategy.specs.declared.fault.FilePart.TheVariants as part
 

@@ -13,18 +13,14 @@ use Rattle.gs_model.proofs.{Push.{le_greatest}, Ranges.{in_range}, Walked.{walke
 use Rattle.gs_model.proofs.{Gather.{known_from, firsts_from, plan_by}, Alike.{keeps_from}}
 use Rattle.gs_model.specs.{Classes.{ClassLists, list_of}, Frame.{Frame, last_round}, FrameFacts.{InRange, IsWalked}, Game.{IsPlayable}, Plans.{IsRawPlan}}
 use Rattle.gs_strategy.specs.Checks.{AreClasses, After, Checked, ChecksClasses, ChecksPlan, IsCanonical, IsClassFault, IsPlanFault, Reads, ReadsClasses}
-use Rattle.gs_strategy.specs.Checks.{ReadsParts, ReadsPlan}
-use Rattle.gs_strategy.specs.{Confirmed.{raw_plan}, Faults.{Fault, classes, fraction as no_fraction, plan, shape}}
-use Rattle.gs_strategy.specs.Laws.{AreWeights, IsStrategy}
+use Rattle.gs_strategy.specs.{Checks.{ReadsParts, ReadsPlan}, Confirmed.{raw_plan}, Faults.{Fault, classes, fraction as no_fraction, plan, shape}}
+use Rattle.gs_strategy.specs.{Laws.{AreWeights, IsStrategy}, Reading.{stored_version_at, weights_at}, Texts.{strategy_data, strategy_text}}
 use Rattle.gs_strategy.specs.Reading.{Whole, class_lists_at, fraction_at, json_at, numbers_at, of_fraction, of_game, parts_at, stored_game_at}
-use Rattle.gs_strategy.specs.Reading.{stored_version_at, weights_at}
-use Rattle.gs_strategy.specs.Texts.{strategy_data, strategy_text}
 use Rattle.gs_strategy.specs.Values.{AreFractions, ArePlanWeights, FractionParts, IsFractionOf, Numbers, Strategy, Weights, file_frame}
-use Rattle.gs_strategy.specs.declared.fault.FilePart.{FilePart}
+use Rattle.gs_strategy.specs.{declared.fault.FilePart.{FilePart}, RawPlans.{AreRawPlans}}
 use Rattle.gs_strategy.proofs.OneText.{classes_are, game_is, json_is, numbers_are, parts_are, parts_of, version_is, weights_are}
 use Rattle.gs_strategy.proofs.{Parts.{all_parts}, Steps.{then_is}}
 use Rattle.gs_strategy.specs.declared.fault.FilePart.TheVariants as part
-use Rattle.gs_strategy.specs.RawPlans.{AreRawPlans}
 use Rattle.gs_file.proofs.{Dealt.{few_signals, told_dealt, told_playable}, Told.{json_told}}
 use Rattle.gs_frac.proofs.Fractions.{read_fraction}
 use Rattle.gs_seq.proofs.PlanSlots.{weights_within}

@@ -12,9 +12,8 @@ use Rattle.gs_json.specs.FirstLine.{first_line}
 use Rattle.gs_json.proofs.Feeds.{line_parted}
 use Rattle.gs_model.specs.{Certificate.{IsCertificate}, Classes.{ClassLists}, Frame.{Frame}, Plans.{Plan}}
 use Rattle.gs_reply.specs.Refusals.{Bad_game, Unlike_pair, Overflows, Many_pivots, Too_large, Bad_strategy, Wrong_number, Bad_query, Other_game}
-use Rattle.gs_reply.specs.Refusals.{Bad_certificate}
+use Rattle.gs_reply.specs.{Refusals.{Bad_certificate}, Replies.{OfRead, Reply, Prints, Refuses}, Troubles.{Passes}, declared.refusals.Which.TheVariants.{Only}}
 use Rattle.gs_reply.specs.{declared.refusals.Limit.{Limit}, declared.refusals.Limit.TheVariants.{Sequences, Cells, TableNumbers, RawCells}}
-use Rattle.gs_reply.specs.{Replies.{OfRead, Reply, Prints, Refuses}, Troubles.{Passes}, declared.refusals.Which.TheVariants.{Only}}
 use Rattle.gs_strategy.specs.{Checks.{ReadResult}, Confirmed.{IsConfirmed, strategy_frame, raw_plan}, Laws.{IsStrategy}, Texts.{strategy_data, strategy_text}}
 use Rattle.gs_strategy.specs.Values.{Strategy}
 use Rattle.gs_strategy.proofs.{Only.{only}, Shape.{has_line}}

@@ -10,15 +10,12 @@ use Rattle.gs_lossless.specs.declared.checking.Lossless.{Lossless}
 use Rattle.gs_model.specs.{Lossless.{IsLossless}, Verdict.{IsVerdict}}
 use Rattle.gs_reply.proofs.Refused.{answers_more, stops_more}
 use Rattle.gs_reply.specs.{Refusals.{Too_large, Unlike_pair, Wrong_number}, Replies.{Answers, Reply, StopsFor, Tells}, Troubles.{SaysLarge, SaysUnlike}}
-use Rattle.gs_reply.specs.{declared.refusals.Stop.{Stop}}
+use Rattle.gs_reply.specs.{declared.refusals.Stop.{Stop}, declared.refusals.WrongNumber.{WrongNumber}}
 use Rattle.gs_reply.specs.declared.refusals.Refusal.TheVariants as told
-use Rattle.gs_reply.specs.declared.refusals.WrongNumber.{WrongNumber}
 use Rattle.gs_seq.specs.{Games.{frame_in}, Plans.{lifted}, Stops.{IsSmall}}
-use Rattle.gs_strategy.specs.{Confirmed.{AreNumbersOf, IsConfirmed, strategy_frame}, Values.{Strategy}}
-use Rattle.gs_strategy.specs.Views.{numbers_of, parts_of, stored_view}
+use Rattle.gs_strategy.specs.{Confirmed.{AreNumbersOf, IsConfirmed, strategy_frame}, Values.{Strategy}, Views.{numbers_of, parts_of, stored_view}}
 use Rattle.gs_strategy.specs.declared.stored.Stored.{Stored}
-use Rattle.gs_strategy_commands.specs.{Held.{HoldsStrategy}, Commands.{OfConfirmed}}
-use Rattle.gs_strategy_commands.specs.Troubles.{IsFirstWrong, IsUnconfirmed, SaysTooLarge, SaysWrong}
+use Rattle.gs_strategy_commands.specs.{Held.{HoldsStrategy}, Commands.{OfConfirmed}, Troubles.{IsFirstWrong, IsUnconfirmed, SaysTooLarge, SaysWrong}}
 
 -- ---- refusals
 

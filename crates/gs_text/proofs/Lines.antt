@@ -1,9 +1,8 @@
 -- The lines of classes, as they grow member by member.
 use Rattle.std.proofs.Common.{◌≡◌, ◌∙◌, ℕ, Bool, ◌+◌, ◌-◌, ◌≤◌, ◌<◌, ◌==◌, List, [], ◌∷◌, ◌++◌, length, get_or, take, codes, if◌then◌else◌, sym, ap, subst}
-use Rattle.std.proofs.Common.{append_assoc, arith, eq-eqb, suc, zero, ⊎_elim}
+use Rattle.std.proofs.{Common.{append_assoc, arith, eq-eqb, suc, zero, ⊎_elim}, lemmas.Slice.Zip.{get_or-zip, seconds-zip}}
 use Rattle.std.proofs.{lemmas.Bool.{cases_lt}, lemmas.List.{append-nil, length-map, map-id, take_all, take_more}}
 use Rattle.std.proofs.lemmas.List.{Concat.{flat_map-append, flat_map-cons}, FromFn.{map-range_with_len_more}}
-use Rattle.std.proofs.lemmas.Slice.Zip.{get_or-zip, seconds-zip}
 use Rattle.std.specs.{Prelude.{flat_map}, List.{zip, range_with_len}}
 use Rattle.gs_model.specs.Classes.{ClassLists, class_of, list_of}
 use Rattle.gs_model.proofs.Basics.{not_eq}

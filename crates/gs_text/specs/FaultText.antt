@@ -6,9 +6,8 @@ use Rattle.gs_card.specs.declared.faults.DeckFault.{DeckFault}
 use Rattle.gs_card.specs.declared.faults.DeckFault.TheVariants as cards
 use Rattle.gs_game.specs.Refusals.{Refusal, rounds, no_private, ranking_cards, not_enough_cards, no_even, uneven, put_too_large, too_many_lines, too_heavy}
 use Rattle.gs_game.specs.Refusals.{too_many_signals, too_many_deals}
-use Rattle.gs_file.specs.Answers.{Fails}
+use Rattle.gs_file.specs.{Answers.{Fails}, Keys.{key_text}, Reading.{FileGame}, declared.fault.FileFault.{FileFault}, declared.fault.Place.{Place}}
 use Rattle.gs_file.specs.Faults.{Fault, not_text, not_toml, missing_key, unknown_key, wrong_type, bad_version, range, deck, tree_text as tree_in, game}
-use Rattle.gs_file.specs.{Keys.{key_text}, Reading.{FileGame}, declared.fault.FileFault.{FileFault}, declared.fault.Place.{Place}}
 
 -- the round of a key, unless the key stands outside the rounds
 abbrev pub in_round : ℕ → List ℕ

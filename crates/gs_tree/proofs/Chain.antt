@@ -1,7 +1,6 @@
 -- The signals of a board, one after another.
 use Rattle.std.proofs.Common.{◌≡◌, ◌+◌, ◌-◌, ◌<◌, ◌≤◌, ◌∙◌, ℕ, zero, suc, Bool, true, false, cond, List, [], ◌∷◌, ◌++◌, append_assoc, append-nil, get_or, map}
-use Rattle.std.proofs.Common.{sym, ap, arith, ⊎_elim}
-use Rattle.std.proofs.lemmas.Bool.{cases_lt}
+use Rattle.std.proofs.{Common.{sym, ap, arith, ⊎_elim}, lemmas.Bool.{cases_lt}}
 use Rattle.std.specs.{Prelude.{filter}, List.{range_with_len}}
 use Rattle.gs_model.specs.{Game.{Game, round_count}, Signals.{signal_at}}
 use Rattle.gs_model.proofs.Basics.{range_step, range_end}

@@ -1,9 +1,8 @@
 -- Numbers of lists of cards, and a table of the last place with each list.
 use Rattle.std.proofs.Common.{◌≡◌, ◌≢◌, ℕ, zero, suc, ◌+◌, ◌*◌, ◌^◌, ◌<◌, ◌≤◌, ◌++◌, List, [], ◌∷◌, length, take, get_or, set, replicate, refl, sym, ap, ◌∙◌}
 use Rattle.std.proofs.Common.{arith, subst, ⊎_elim, Bool, true, false, cond, Some, None, All, get_or-set_same, get_or-set_other, length-set}
-use Rattle.std.proofs.{lemmas.Bool.{cases_lt, lt-ltb, ltb-true}, lemmas.Grind.{get_or_default_zero}}
+use Rattle.std.proofs.{lemmas.Bool.{cases_lt, lt-ltb, ltb-true}, lemmas.Grind.{get_or_default_zero}, Math.Nat.{pow-zero, pow-succ'}}
 use Rattle.std.proofs.{lemmas.List.{get_or-replicate, length-replicate, length-take-le}, lemmas.List.Elements.{All-take, recursion_from_All}}
-use Rattle.std.proofs.Math.Nat.{pow-zero, pow-succ'}
 use Rattle.std.specs.{List.{AllByRecursion}, Prelude.{nat_eq, nat_lt}}
 use lib.Pointwise.{pointwise}
 use Rattle.gs_card.specs.Decks.{DeckValue, IsDeck, kinds}

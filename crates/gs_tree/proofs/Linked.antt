@@ -1,8 +1,7 @@
 -- Tables of equal keys: for each place the first one with its key and the next one, made place by place.
 use Rattle.std.proofs.Common.{◌≡◌, ◌≢◌, ◌⊎◌, inl, inr, ⊎_elim, ℕ, zero, suc, ◌+◌, ◌<◌, ◌≤◌, ◌++◌, List, [], ◌∷◌, length, take, take_all, get_or, set, replicate}
 use Rattle.std.proofs.Common.{refl, sym, ap, ◌∙◌, arith, subst, Bool, true, false, cond, Option, Some, None, length-append, length-set, get_or-set_same}
-use Rattle.std.proofs.Common.{get_or-set_other, get_or-take}
-use Rattle.std.proofs.{lemmas.Bool.{cases_eq, cases_lt, true≢false}, lemmas.Bool.Decides.{Decides-eqb}}
+use Rattle.std.proofs.{Common.{get_or-set_other, get_or-take}, lemmas.Bool.{cases_eq, cases_lt, true≢false}, lemmas.Bool.Decides.{Decides-eqb}}
 use Rattle.std.proofs.{lemmas.List.{get_or_append_left, get_or-replicate, length-replicate, take_more, take_more_set}, lemmas.Slice.Eq.{slice_eq-Decides}}
 use Rattle.std.proofs.Math.Seq.{get_or-append_seam}
 use Rattle.std.specs.{Bool.{Decides}, Prelude.{IfSome, nat_eq, slice_set}}

@@ -1,7 +1,6 @@
 -- The text of a signal tells it from the others of its round.
 use Rattle.std.proofs.Common.{◌≡◌, ℕ, zero, suc, ◌/◌, ◌%◌, ◌<◌, ◌≤◌, List, [], ◌∷◌, ◌++◌, length, get_or, refl, sym, ap, ◌∙◌, arith, subst, All, ⊎_elim}
-use Rattle.std.proofs.Common.{length-append}
-use Rattle.std.proofs.lemmas.Bool.{cases_lt}
+use Rattle.std.proofs.{Common.{length-append}, lemmas.Bool.{cases_lt}}
 use Rattle.gs_card.specs.Decks.{DeckValue, IsDeck, card_text, kinds}
 use Rattle.gs_card.proofs.{KindLaws.{number_of_places, some_suits, row_below}, Letters.{one_place}}
 use Rattle.gs_model.specs.{Game.{Game}, Signals.{Seen, Signal, signals, signal_at, parents}}

@@ -1,9 +1,8 @@
 -- The pairs of last-round signals by number: row by row, all of them, one row, one step.
 use Rattle.std.proofs.Common.{◌≡◌, ◌≢◌, ℕ, zero, suc, ◌+◌, ◌-◌, ◌*◌, ◌/◌, ◌%◌, ◌<◌, ◌≤◌, List, [], ◌∷◌, ◌++◌, length, map, get_or, refl, sym, ap, ◌∙◌, arith}
-use Rattle.std.proofs.Common.{Bool, true, false, cond, nat_lt, eqb, ⊎_elim}
+use Rattle.std.proofs.{Common.{Bool, true, false, cond, nat_lt, eqb, ⊎_elim}, lemmas.Nat.{div-mul-add, mod-mul-add}, lemmas.Simd.{map-map}}
 use Rattle.std.proofs.{lemmas.Bool.{cases_eq}, lemmas.List.{map-append, append-nil}, lemmas.List.Folds.{flat_map-map}}
 use Rattle.std.proofs.{lemmas.List.FromFn.{fill_by_all, length-enumerate_from, get_or-enumerate_from}, lemmas.Bool.Decides.{Decides-eqb}}
-use Rattle.std.proofs.{lemmas.Nat.{div-mul-add, mod-mul-add}, lemmas.Simd.{map-map}}
 use Rattle.std.specs.{Prelude.{filter, flat_map, ◌==◌}, List.{range_with_len, enumerate_from}}
 use Rattle.gs_model.specs.{Deals.{Deal, deal_of, deals, pairings}, Game.{Game, round_count}, Signals.{Signal, signal_at, signals}}
 use Rattle.gs_model.proofs.{Exchanged.{filter-flat_map}, Basics.{flat_map-same, range_step, range_end}, Sparse.{range_append}}

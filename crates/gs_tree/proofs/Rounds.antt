@@ -1,7 +1,6 @@
 -- What the tables tell of the signals of the next round, and what is kept of these from the round before.
 use Rattle.std.proofs.Common.{◌≡◌, ℕ, zero, suc, ◌-◌, ◌*◌, ◌^◌, ◌<◌, ◌≤◌, ◌++◌, List, [], ◌∷◌, length, map, get_or, replicate, refl, sym, ap, ◌∙◌, arith, subst}
-use Rattle.std.proofs.Common.{All}
-use Rattle.std.proofs.{lemmas.Grind.{get_or_default_zero}, lemmas.List.{get_or-map, get_or-replicate, length-map, length-replicate}}
+use Rattle.std.proofs.{Common.{All}, lemmas.Grind.{get_or_default_zero}, lemmas.List.{get_or-map, get_or-replicate, length-map, length-replicate}}
 use Rattle.std.specs.Global.{Vec}
 use Rattle.gs_game.specs.Limits.{IsDealable}
 use Rattle.gs_model.specs.{Deals.{path_weight}, Game.{Game, round_count}}

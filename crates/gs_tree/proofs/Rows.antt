@@ -1,9 +1,7 @@
 -- Lists of equal parts, and the rounds of a signal.
 use Rattle.std.proofs.Common.{◌≡◌, ℕ, zero, suc, ◌+◌, ◌-◌, ◌*◌, ◌^◌, ◌/◌, ◌<◌, ◌≤◌, ◌++◌, List, [], ◌∷◌, length, map, take, drop, get_or, refl, sym, ap, ◌∙◌}
-use Rattle.std.proofs.Common.{arith, subst, length-append, ⊎_elim, All}
-use Rattle.std.proofs.lemmas.Bool.{cases_lt}
+use Rattle.std.proofs.{Common.{arith, subst, length-append, ⊎_elim, All}, lemmas.Bool.{cases_lt}, lemmas.List.{length_push}}
 use Rattle.std.proofs.lemmas.List.{take_at, drop_at, take_more, drop_more, take-append-drop, get_or_append_left, get_or_push, get_or-map, length-map}
-use Rattle.std.proofs.lemmas.List.{length_push}
 use Rattle.std.proofs.{lemmas.List.Concat.{flat_map-append}, lemmas.Slice.{between_from_start}, Math.Nat.{pow-succ', mul-div_cancel_left}}
 use Rattle.std.specs.{Prelude.{flat_map, max}, List.{between}}
 use Rattle.gs_model.specs.{Cards.{ways, left_after}, Deals.{own_ways}, Betting.{even}, Game.{Game, Round, round_at, round_count}}

@@ -1,7 +1,6 @@
 -- Steps of the walk: pairs that are passed over weigh nothing.
 use Rattle.std.proofs.Common.{◌≡◌, ⊎_elim, ℕ, zero, suc, ◌+◌, ◌-◌, ◌*◌, ◌%◌, ◌<◌, ◌≤◌, List, [], ◌∷◌, get_or, sym, ap, ◌∙◌, arith, true, false, cond, nat_lt}
-use Rattle.std.proofs.Common.{subst}
-use Rattle.std.proofs.{lemmas.Bool.{cases_lt, lt-ltb}, lemmas.Nat.{div-mul-add, mod-mul-add, mul-add-lt}}
+use Rattle.std.proofs.{Common.{subst}, lemmas.Bool.{cases_lt, lt-ltb}, lemmas.Nat.{div-mul-add, mod-mul-add, mul-add-lt}}
 use Rattle.gs_model.specs.{Deals.{Deal, path_weight, own_ways}, Game.{Game, round_count}, Signals.{signal_at, left_by}}
 use Rattle.gs_model.proofs.Basics.{product_le}
 use Rattle.gs_tree.specs.{Boards.{AreBoards}, Walk.{deal_at, deals_between, last_count, pair_at, pair_number, shows_same, IsOnWalk, IsRowStart, IsNextPair}}

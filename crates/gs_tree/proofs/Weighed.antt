@@ -1,10 +1,8 @@
 -- What the deals of a plain game weigh: one for each two signals on a board.
 use Rattle.std.proofs.Common.{◌≡◌, ◌+◌, ◌-◌, ◌*◌, ◌<◌, ◌≤◌, ℕ, List, [], ◌∷◌, length, get_or, refl, sym, ap, ◌∙◌, arith, Bool, true, false, cond, eqb}
-use Rattle.std.proofs.Common.{suc, ⊎_elim}
-use Rattle.std.proofs.{lemmas.Bool.{cases_eq, cases_lt}, lemmas.Grind.{common_steps}, lemmas.List.Sums.{sum_by-cons}}
+use Rattle.std.proofs.{Common.{suc, ⊎_elim}, lemmas.Bool.{cases_eq, cases_lt}, lemmas.Grind.{common_steps}, lemmas.List.Sums.{sum_by-cons}}
 use Rattle.std.proofs.lemmas.Nat.Bits.{bit_at-zero, bit_at_and, same_from_bits}
-use Rattle.std.specs.{Int.{bit_at}, Prelude.{All, ◌&&◌, min, sum_by}}
-use Rattle.std.specs.Int.RustNames.{bit_and}
+use Rattle.std.specs.{Int.{bit_at}, Prelude.{All, ◌&&◌, min, sum_by}, Int.RustNames.{bit_and}}
 use Rattle.gs_model.specs.{Cards.{left_after, ways}, Deals.{own_ways, path_weight, same_cards, same_public}, Game.{Game, round_count}}
 use Rattle.gs_model.specs.Signals.{Seen, Signal, edge, left_by, own_cards, public_cards, signal_at}
 use Rattle.gs_model.proofs.{Exchanged.{and_both, same_cards-is}, Facing.{leaves_are_deals, signals_differ}, Basics.{factors_positive, product_positive}}

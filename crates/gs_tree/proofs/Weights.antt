@@ -1,8 +1,7 @@
 -- A deal weighs no more than all deals.
 use Rattle.std.proofs.Common.{◌≡◌, ℕ, zero, suc, ◌+◌, ◌-◌, ◌*◌, ◌/◌, ◌%◌, ◌<◌, ◌≤◌, List, [], ◌∷◌, length, map, get_or, sym, ap, ◌∙◌, arith, subst, Bool, true}
-use Rattle.std.proofs.Common.{false, cond, nat_lt, ⊎_elim}
+use Rattle.std.proofs.{Common.{false, cond, nat_lt, ⊎_elim}, lemmas.List.Sums.{sum_by-cons}, lemmas.Nat.{div-mul-add, mod-mul-add, mul-add-lt}}
 use Rattle.std.proofs.{lemmas.Bool.{cases_lt, lt-ltb}, lemmas.List.FromFn.{get_or-map-range_with_len, length-map-range_with_len}}
-use Rattle.std.proofs.{lemmas.List.Sums.{sum_by-cons}, lemmas.Nat.{div-mul-add, mod-mul-add, mul-add-lt}}
 use Rattle.std.specs.{Prelude.{filter, sum_by}, List.{range_with_len}}
 use Rattle.gs_model.specs.{Deals.{Deal}, Frame.{frame_of, total_weight}, Game.{Game}}
 use Rattle.gs_tree.specs.Walk.{deal_at, last_count, pair_at}

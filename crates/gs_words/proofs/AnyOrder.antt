@@ -1,7 +1,6 @@
 -- Options in any order, as a parse of a command reads them.
 use Rattle.std.proofs.Common.{◌≡◌, ◌==◌, ◌++◌, ◌||◌, not, Bool, true, false, refl, List, [], ◌∷◌, fold, codes, if◌then◌else◌, ap, ◌∙◌, sym, append_assoc}
-use Rattle.std.proofs.Common.{append-nil, inl, inr}
-use Rattle.std.proofs.{lemmas.Bool.{and_parts, cases_Bool}, lemmas.Bool.Decides.{nat_tests}, Common.{arith}}
+use Rattle.std.proofs.{Common.{append-nil, inl, inr, arith}, lemmas.Bool.{and_parts, cases_Bool}, lemmas.Bool.Decides.{nat_tests}}
 use Rattle.std.specs.{List.{list_all}, Str.{bytes_eq}}
 use Rattle.clap.specs.Walk.{Held, Row, Rule, Text, finished, has_row, is_empty, nothing_held, reacted, settled, used, walk_from, walked, with_default}
 use Rattle.clap.specs.{Simple.{Shape}, Faults.{check_fault, default_fault, defaults_fault, given_default_fault, level_fault, settle_fault, walk_fault}}

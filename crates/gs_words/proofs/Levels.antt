@@ -3,18 +3,15 @@ use Rattle.std.proofs.Common.{◌≡◌, ◌++◌, ℕ, Bool, true, false, refl,
 use Rattle.std.proofs.Common.{append-nil}
 use Rattle.std.specs.{Prelude.{find}, List.{list_all}, Str.{bytes_eq}}
 use Rattle.clap.specs.{Facts.{unwrap_or_range}, Lexer.{long_of}, Words.{App, Row, Rule, Text, built, fault_of, new_rule, subcommand_of}}
-use Rattle.clap.specs.Simple.{Shape, entered, label_of, names_of}
+use Rattle.clap.specs.{Simple.{Shape, entered, label_of, names_of}, Walk.{takes_values, walk_from, walked}}
 use Rattle.clap.specs.Walk.{Held, Names, Walk, action_of, answers_to, arg_by_id, arg_by_long, finished, idle, most_values, nothing_held, settled, stop_after}
-use Rattle.clap.specs.Walk.{takes_values, walk_from, walked}
 use Rattle.clap.specs.{Faults.{built_fault, check_fault, defaults_fault, level_fault, turn_fault, values_fault, walk_fault}, Kinds.{Kinds}}
 use Rattle.clap.specs.{declared.builder.ArgAction.{ArgAction}, declared.builder.range.ValueRange.{ValueRange}}
 use Rattle.clap.specs.declared.builder.ArgAction.TheVariants.{Set, SetTrue}
 use Rattle.clap.proofs.{FaultLemmas.{past, stopped_fault}, OnLiterals.{clap_on_literals}}
-use Rattle.gs_words.specs.{Commands.{command_of, command_word, options_of}, Program.{program}, Requests.{request_of, task_in}}
-use Rattle.gs_words.specs.declared.names.CommandName.{CommandName}
+use Rattle.gs_words.specs.{Commands.{command_of, command_word, options_of}, Program.{program}, Requests.{request_of, task_in}, Plain.{long_word}}
+use Rattle.gs_words.specs.{declared.names.CommandName.{CommandName}, declared.names.CommandName.TheVariants.{Path}}
 use Rattle.gs_words.specs.declared.names.CommandName.TheVariants.{Shrink, Check, Solve, Play, Evaluate, Query, Make, Upgrade, Judge, Duel, Certify, Verify}
-use Rattle.gs_words.specs.declared.names.CommandName.TheVariants.{Path}
-use Rattle.gs_words.specs.Plain.{long_word}
 use Rattle.gs_words.proofs.{AnyOrder.{has_good_default}, Obeyed.{AreKnown}, Options.{IsFlag, IsNamed, IsValued}}
 
 -- words after a command's name are kept for it

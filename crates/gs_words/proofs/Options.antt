@@ -1,9 +1,8 @@
 -- One option, as a parse of a command reads it.
 use Rattle.std.proofs.Common.{◌≡◌, ◌==◌, ◌++◌, ◌||◌, ℕ, Bool, true, false, refl, List, [], ◌∷◌, Some, None, fold, codes, ap, ◌∙◌, append-nil}
 use Rattle.std.specs.Str.{bytes_eq}
-use Rattle.clap.specs.{Facts.{unwrap_or_range}, Lexer.{long_of, short_of}}
+use Rattle.clap.specs.{Facts.{unwrap_or_range}, Lexer.{long_of, short_of}, Walk.{reading_by, settled, takes_values, used, walk_from, walked, without}}
 use Rattle.clap.specs.Walk.{Held, Row, Rule, Text, Walk, option, action_of, arg_by_id, arg_by_long, at_row, has_row, more_values, most_values, reacted}
-use Rattle.clap.specs.Walk.{reading_by, settled, takes_values, used, walk_from, walked, without}
 use Rattle.clap.specs.{Simple.{Shape}, Kinds.{or_else}, Faults.{settle_fault, turn_fault, use_fault, values_fault, walk_fault}}
 use Rattle.clap.specs.{declared.builder.ArgAction.TheVariants.{Set, SetTrue}, declared.parser.matches.ValueSource.TheVariants.{CommandLine}}
 use Rattle.clap.proofs.FaultLemmas.{past}

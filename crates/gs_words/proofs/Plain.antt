@@ -1,7 +1,6 @@
 -- Plain words are a request.
 use Rattle.std.proofs.Common.{◌≡◌, ◌&&◌, ◌||◌, not, ℕ, Bool, true, false, refl, List, [], ◌∷◌, Option, Some, None, is_some, IsTrue, IsSome, codes, ap, ◌∙◌, inl}
-use Rattle.std.proofs.Common.{inr}
-use Rattle.std.proofs.lemmas.Bool.{and_parts, cases_Bool, false≢true}
+use Rattle.std.proofs.{Common.{inr}, lemmas.Bool.{and_parts, cases_Bool, false≢true}}
 use Rattle.std.specs.{Prelude.{option_and_then, option_map}, List.{list_all, list_any}, Str.{bytes_eq}}
 use Rattle.clap.specs.{Words.{Row, Text, built, first_of}, Takes.{is_given}, Walk.{finished}, Faults.{check_fault}}
 use Rattle.gs_words.specs.{Commands.{OptionOf, command_word, options_of}, Plain.{Given, are_plain, given_for, name_of, option_words, stand_once}}

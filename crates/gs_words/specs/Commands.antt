@@ -1,8 +1,7 @@
 -- The commands of the program and the options of each.
 use Rattle.std.specs.{Prelude.{ℕ, Bool, true, false, List, [], ◌∷◌, find, Option, Some, None, is_some, codes}, Str.{bytes_eq}}
-use Rattle.gs_words.specs.{Values.{grouping_of, kind_of, number_in}, declared.names.CommandName.{CommandName}}
+use Rattle.gs_words.specs.{Values.{grouping_of, kind_of, number_in}, declared.names.CommandName.{CommandName}, declared.names.CommandName.TheVariants.{Path}}
 use Rattle.gs_words.specs.declared.names.CommandName.TheVariants.{Shrink, Check, Solve, Play, Evaluate, Query, Make, Upgrade, Judge, Duel, Certify, Verify}
-use Rattle.gs_words.specs.declared.names.CommandName.TheVariants.{Path}
 
 -- an option of a command: a flag, or an option whose value obeys a rule
 pub record OptionOf : Type 0 where

@@ -1,14 +1,12 @@
 -- A program in three rows and its path, step by step.
 use Rattle.std.proofs.Common.{◌≡◌, ◌≢◌, ℕ, zero, suc, ◌+◌, ◌<◌, ◌≤◌, ◌&&◌, Bool, true, false, List, [], ◌∷◌, length, take, refl, sym, ap, ◌∙◌, subst, inr}
-use Rattle.std.proofs.{Common.{arith, nat_lt, unsigned_abs}, lemmas.Int.{ints}}
-use Rattle.std.proofs.{Math.Nat.{eq-one_of_dvd-one}, lemmas.Bool.{and_parts, ltb-true}}
+use Rattle.std.proofs.{Common.{arith, nat_lt, unsigned_abs}, lemmas.Int.{ints}, Math.Nat.{eq-one_of_dvd-one}, lemmas.Bool.{and_parts, ltb-true}}
 use Rattle.std.specs.Prelude.{IsTrue, ℤ, pos, negsuc, ◌-ℤ◌, ◌*ℤ◌, ◌≤ℤ◌, ◌<ℤ◌, slice_index_or}
 use Prim.Native.Nat.{◌∣◌}
 use Rattle.gs_simplex.proofs.{Agree.{enters_same, leaves_same, rows_agree}, Bases.{IsFull}, Opening.{opening_is_full}}
-use Rattle.gs_simplex.specs.{declared.program.Program.{Program}, Sums.{sum_to}}
+use Rattle.gs_simplex.specs.{declared.program.Program.{Program}, Sums.{sum_to}, Rows.{IsAimRow, IsListedRow, IsNarrow, IsPrimitive, IsUnlistedRow}}
 use Rattle.gs_simplex.specs.Path.{AllNarrow, Enters, IsPath, IsPivot, Leaves, NoneEnters, PathStops, States, ends}
 use Rattle.gs_simplex.specs.Program.{CanTake, ColListed, IsFree, IsListed, IsOpening, IsRowsOf, Listing, RowListed, aim_of, number}
-use Rattle.gs_simplex.specs.Rows.{IsAimRow, IsListedRow, IsNarrow, IsPrimitive, IsUnlistedRow}
 use Rattle.gs_worked.specs.Pivots.{IsTied, each_own}
 
 -- ---- the program's numbers

@@ -5,8 +5,7 @@ use Rattle.gs_best.specs.{LaterRows.{AreModestFrom}, Places.{AreBestFrom}}
 use Rattle.gs_best.specs.{Sides.{frame_at, lists_at, picks_at, plan_at, totals_at}, Tables.{classes_at, start_of}}
 use Rattle.gs_seq.proofs.SlotLaws.{sum_range_le}
 use Rattle.gs_best.proofs.{BackSteps.{set_before, set_front}, Behind.{merged_later, modest_later}, Modest.{known_modest}, Placed.{IsRow, row_next}}
-use Rattle.gs_best.proofs.{Players.{walked}, Stepping.{step_best}}
-use Rattle.gs_best.proofs.walk.fill_point.Goals.{After-class_total-count, After-fill_row}
+use Rattle.gs_best.proofs.{Players.{walked}, Stepping.{step_best}, walk.fill_point.Goals.{After-class_total-count, After-fill_row}}
 use Rattle.gs_best.proofs.walk.fill_point.Goals as goal
 
 row : (c : After-class_total-count) → let s = c.args.side.now in

@@ -2,8 +2,7 @@ use Rattle.std.proofs.Common.{◌≡◌, ◌+◌, ◌-◌, ◌≤◌, length, �
 use Rattle.std.specs.Prelude.{pos}
 use Rattle.gs_model.specs.Frame.{last_round}
 use Rattle.gs_best.specs.{ClassTotals.{total_worth}, Spots.{frame_on, lists_on, totals_on}}
-use Rattle.gs_best.proofs.{Greatest.{merged_rows}, Slices.{part_long, put_behind, put_here, wide_through}}
-use Rattle.gs_best.proofs.walk.fill_row.Goals.{After-merge_moves}
+use Rattle.gs_best.proofs.{Greatest.{merged_rows}, Slices.{part_long, put_behind, put_here, wide_through}, walk.fill_row.Goals.{After-merge_moves}}
 use Rattle.gs_best.proofs.walk.fill_row.Goals as goal
 
 pub merge_moves-requires-clause-best : goal.merge_moves-requires-clause-best

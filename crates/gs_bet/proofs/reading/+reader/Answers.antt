@@ -1,8 +1,7 @@
 use Rattle.std.proofs.{Common.{◌≡◌, ◌-◌, ℕ, length, refl, Ok, true, ◌+◌, arith, rules}, lemmas.Result.{err_from_is_err_and}}
 use Rattle.gs_model.specs.Betting.{none}
-use Rattle.gs_bet.specs.{TreeView.{plain_moves}, Reading.{act_with, inner_at, act_at, moves_at, more_at}}
+use Rattle.gs_bet.specs.{TreeView.{plain_moves}, Reading.{act_with, inner_at, act_at, moves_at, more_at, move_at}}
 use Rattle.gs_bet.proofs.{TreeLaws.{plain-made}, ReadingLaws.{act_is, fails_here, more_room, plain_push, Pushed, pushed_fails, pushed_ends, pushed_goes}}
-use Rattle.gs_bet.specs.Reading.{move_at}
 use Rattle.gs_bet.proofs.reading.+reader.Goals as goal
 use Rattle.gs_bet.proofs.reading.+reader.Goals.{moves_of-After-len}
 

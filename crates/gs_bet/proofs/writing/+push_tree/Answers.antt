@@ -1,5 +1,4 @@
-use Rattle.std.proofs.Common.{◌≡◌, ℕ, List, ◌++◌, ◌∷◌, [], ◌<◌, ◌+◌, ap, ◌∙◌, arith, append_assoc}
-use Rattle.std.proofs.lemmas.Grind.{common_steps}
+use Rattle.std.proofs.{Common.{◌≡◌, ℕ, List, ◌++◌, ◌∷◌, [], ◌<◌, ◌+◌, ap, ◌∙◌, arith, append_assoc}, lemmas.Grind.{common_steps}}
 use Rattle.std.specs.{String.{string_bytes}, Prelude.{encode_utf8}}
 use Rattle.gs_model.specs.Betting.{act}
 use Rattle.gs_bet.specs.{Grammar.{Prints}, TreeView.{plain, plain_moves}, declared.shape.Act.{out-Act}}

@@ -1,5 +1,4 @@
-use Rattle.std.proofs.Common.{◌≡◌, ◌/◌, ◌%◌, length, Some, None, sym, ◌∙◌, ap, arith}
-use Rattle.std.proofs.lemmas.Grind.{common_steps}
+use Rattle.std.proofs.{Common.{◌≡◌, ◌/◌, ◌%◌, length, Some, None, sym, ◌∙◌, ap, arith}, lemmas.Grind.{common_steps}}
 use Rattle.gs_card.proofs.KindLaws.{some_suits, place_of_rank, place_of_suit, letters_of_places, number_of_places}
 use Rattle.gs_card.proofs.decks.number_of.Goals as goal
 

@@ -1,5 +1,4 @@
-use Rattle.std.proofs.Common.{◌≡◌, ℕ, ◌+◌, ◌-◌, ◌<◌, ◌≤◌, ◌∷◌, [], ◌++◌, length, take, sym, ap, ◌∙◌, subst, arith}
-use Rattle.std.proofs.lemmas.List.{get_or-take, length-take-le}
+use Rattle.std.proofs.{Common.{◌≡◌, ℕ, ◌+◌, ◌-◌, ◌<◌, ◌≤◌, ◌∷◌, [], ◌++◌, length, take, sym, ap, ◌∙◌, subst, arith}, lemmas.List.{get_or-take, length-take-le}}
 use Rattle.std.specs.Prelude.{pos}
 use Rattle.gs_model.specs.{Classes.{class_count}, Frame.{end_count, round_of}, Positions.{at_end}}
 use Rattle.gs_seq.specs.Plans.{class_plan}

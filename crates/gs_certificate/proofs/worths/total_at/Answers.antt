@@ -2,21 +2,16 @@ use Rattle.gs_seq.proofs.Forms.{form_classes}
 use Rattle.gs_best.specs.Sides.{frame_at, lists_at}
 use Rattle.gs_certificate.specs.Claims.{first_place_of}
 use Rattle.gs_best.proofs.Shares.{some_member}
-use Rattle.gs_certificate.proofs.{Compared.{kept}, Together.{end_small, place_in, size_few, way_round}}
-use Rattle.gs_certificate.proofs.worths.total_at.Goals.{In-Point}
-use Rattle.std.proofs.Common.{◌≡◌, ◌+◌, ◌-◌, ◌^◌, ◌<◌, ◌≤◌, length, get_or, ap, ◌∙◌, subst, arith, of_z, ◌*◌}
+use Rattle.gs_certificate.proofs.{Compared.{kept}, Together.{end_small, place_in, size_few, way_round}, worths.total_at.Goals.{In-Point}}
+use Rattle.std.proofs.{Common.{◌≡◌, ◌+◌, ◌-◌, ◌^◌, ◌<◌, ◌≤◌, length, get_or, ap, ◌∙◌, subst, arith, of_z, ◌*◌}, lemmas.Int.{to_z-of_z, unsigned_abs-mul}}
 use Rattle.std.specs.Prelude.{ℤ, pos, unsigned_abs}
-use Rattle.std.proofs.lemmas.Int.{to_z-of_z, unsigned_abs-mul}
 use borrow.Author.Differences.{abs_is}
 use mir.Syntax.{w128}
 use mir.Val.{to_z}
 use Rattle.std.proofs.Math.Nat.{mul-le-mul_left, mul-le-mul_right}
 use Rattle.gs_model.proofs.Basics.{product_le}
 use Rattle.gs_game.specs.Seen.{target_of}
-use Rattle.gs_model.specs.Classes.{IsClass, class_size}
-use Rattle.gs_model.specs.Frame.{end_count, point_count, round_of}
-use Rattle.gs_model.specs.FrameFacts.{IsInside}
-use Rattle.gs_model.specs.Positions.{at_end, at_point}
+use Rattle.gs_model.specs.{Classes.{IsClass, class_size}, Frame.{end_count, point_count, round_of}, FrameFacts.{IsInside}, Positions.{at_end, at_point}}
 use Rattle.gs_certificate.proofs.worths.total_at.Goals as goal
 
 pub size_of-members-requires-clause-some : goal.size_of-members-requires-clause-some

@@ -1,8 +1,5 @@
-use Rattle.std.proofs.Common.{◌≡◌, ◌+◌, ◌-◌, ◌*◌, ◌^◌, ap, ◌∙◌, arith, of_z, sum_by}
-use Rattle.std.specs.Prelude.{◌+ℤ◌, unsigned_abs}
-use Rattle.std.specs.List.{range_with_len}
-use Rattle.std.proofs.Math.Nat.{mul-le-mul_right}
-use Rattle.std.proofs.lemmas.Int.{to_z-of_z}
+use Rattle.std.proofs.{Common.{◌≡◌, ◌+◌, ◌-◌, ◌*◌, ◌^◌, ap, ◌∙◌, arith, of_z, sum_by}, Math.Nat.{mul-le-mul_right}, lemmas.Int.{to_z-of_z}}
+use Rattle.std.specs.{Prelude.{◌+ℤ◌, unsigned_abs}, List.{range_with_len}}
 use mir.Syntax.{w128}
 use mir.Val.{to_z}
 use Rattle.gs_game.specs.Seen.{target_of}

@@ -1,9 +1,7 @@
 use Rattle.std.proofs.Common.{◌≡◌, ◌-◌, ◌*◌, ◌^◌, ◌≤◌, sum_by}
-use Rattle.std.specs.Prelude.{unsigned_abs}
-use Rattle.std.specs.List.{range_with_len}
+use Rattle.std.specs.{Prelude.{unsigned_abs}, List.{range_with_len}}
 use Rattle.gs_game.specs.Seen.{target_of}
-use Rattle.gs_model.specs.Classes.{class_size}
-use Rattle.gs_model.specs.Sums.{sum_z}
+use Rattle.gs_model.specs.{Classes.{class_size}, Sums.{sum_z}}
 use Rattle.gs_best.specs.Sides.{lists_at}
 use Rattle.gs_certificate.specs.Claims.{claimed_totals}
 use Rattle.gs_certificate.proofs.worths.totals_between.Given as goal

@@ -1,6 +1,5 @@
-use Rattle.std.proofs.Common.{◌≡◌, ◌<◌, ◌^◌, get_or, refl, sym, ap, ◌∙◌, subst, arith}
+use Rattle.std.proofs.{Common.{◌≡◌, ◌<◌, ◌^◌, get_or, refl, sym, ap, ◌∙◌, subst, arith}, Math.Nat.{mul-le-mul_right}}
 use Rattle.std.specs.Prelude.{unsigned_abs}
-use Rattle.std.proofs.Math.Nat.{mul-le-mul_right}
 use Rattle.gs_game.specs.{Seen.{target_of}, declared.positions.Target.TheVariants.{Point}}
 use Rattle.gs_model.specs.{Classes.{IsClass}, Frame.{leads_to, move_count}}
 use Rattle.gs_seq.proofs.{Forms.{form_classes, form_in_range}, Signed.{read_back}}

@@ -1,5 +1,4 @@
-use Rattle.std.proofs.Common.{arith}
-use Rattle.std.proofs.lemmas.Grind.{common_steps}
+use Rattle.std.proofs.{Common.{arith}, lemmas.Grind.{common_steps}}
 use Rattle.serde_json.proofs.Views.{view-Array}
 use Rattle.gs_file.proofs.json_form.numbers_value.Goals as goal
 

@@ -1,5 +1,4 @@
-use Rattle.std.proofs.Common.{arith, rules}
-use Rattle.std.proofs.lemmas.Grind.{common_steps}
+use Rattle.std.proofs.{Common.{arith, rules}, lemmas.Grind.{common_steps}}
 use Rattle.gs_file.specs.Reading.{stated_fields_at}
 use Rattle.gs_file.proofs.ranges.stated_of.Goals as goal
 

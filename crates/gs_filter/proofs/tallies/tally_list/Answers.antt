@@ -1,5 +1,4 @@
-use Rattle.std.proofs.Common.{◌++◌, length, ap, ◌∙◌}
-use Rattle.std.proofs.lemmas.List.{append-nil}
+use Rattle.std.proofs.{Common.{◌++◌, length, ap, ◌∙◌}, lemmas.List.{append-nil}}
 use Rattle.gs_filter.specs.Tallies.{single_tallies}
 use Rattle.gs_filter.proofs.Singles.{tallies_single, numbered_single}
 use Rattle.gs_filter.proofs.tallies.tally_list.Goals as goal

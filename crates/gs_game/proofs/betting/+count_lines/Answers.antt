@@ -1,5 +1,4 @@
-use Rattle.std.proofs.Common.{◌-◌, ◌^◌, ◌∙◌, length, take, drop, arith}
-use Rattle.std.proofs.lemmas.Grind.{common_steps}
+use Rattle.std.proofs.{Common.{◌-◌, ◌^◌, ◌∙◌, length, take, drop, arith}, lemmas.Grind.{common_steps}}
 use Rattle.gs_bet.specs.TreeView.{plain}
 use Rattle.gs_game.specs.{Counts.{ends_in}, Games.{plain_trees}}
 use Rattle.gs_game.proofs.{EndLaws.{cap_rest}, RoundSteps.{split_first}}

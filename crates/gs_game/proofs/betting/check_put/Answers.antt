@@ -1,5 +1,4 @@
-use Rattle.std.proofs.Common.{◌≡◌, ◌+◌, ◌∙◌, arith}
-use Rattle.std.proofs.lemmas.Grind.{common_steps}
+use Rattle.std.proofs.{Common.{◌≡◌, ◌+◌, ◌∙◌, arith}, lemmas.Grind.{common_steps}}
 use Rattle.gs_game.specs.{Games.{plain_trees}, Money.{most_in}}
 use Rattle.gs_game.proofs.Deciding.{put_over, put_within}
 use Rattle.gs_game.proofs.betting.check_put.Goals as goal

@@ -1,5 +1,4 @@
-use Rattle.std.proofs.Common.{arith}
-use Rattle.std.proofs.lemmas.Grind.{common_steps}
+use Rattle.std.proofs.{Common.{arith}, lemmas.Grind.{common_steps}}
 use Rattle.gs_game.specs.Refusals.{card_refusal, rounds_refusal, private_refusal, ranking_refusal, copies_refusal}
 use Rattle.gs_game.proofs.cards.check_cards.Goals as goal
 

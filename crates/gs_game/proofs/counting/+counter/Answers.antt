@@ -1,6 +1,5 @@
 use Rattle.std.proofs.Common.{◌≡◌, ◌<◌, ◌-◌, ◌∙◌, ℕ, List, count_by, drop, length-drop, nat_lt, refl, sym, ap, min, length, slice_index, get_or, take, take_all}
-use Rattle.std.proofs.lemmas.Grind.{common_steps}
-use Rattle.std.proofs.Common.{arith}
+use Rattle.std.proofs.{lemmas.Grind.{common_steps}, Common.{arith}}
 use Rattle.gs_game.proofs.{CountSteps.{count_rest, last_kinds, nothing_more, with_card, rest_more, rest_all, next_group, restored}, RoundSteps.{split_number}}
 use Rattle.gs_game.specs.Sequences.{count_sequences}
 use Rattle.gs_game.proofs.counting.+counter.Goals as goal

@@ -1,5 +1,4 @@
-use Rattle.std.proofs.lemmas.Grind.{common_steps}
-use Rattle.std.proofs.{Common.{◌≡◌, List, map, sum, ap, ◌∙◌, arith}, lemmas.Result.{err_from_is_err_and}}
+use Rattle.std.proofs.{lemmas.Grind.{common_steps}, Common.{◌≡◌, List, map, sum, ap, ◌∙◌, arith}, lemmas.Result.{err_from_is_err_and}}
 use Rattle.gs_game.specs.{Games.{round_rules}, declared.game.Round.{Round}, Sequences.{deal_sizes}}
 use Rattle.gs_game.proofs.DealChecks.{cards_pass, sizes_few, copies_few, weight_over, weight_within, counts_fault, counts_within}
 use Rattle.gs_game.proofs.deals.check_deals.Goals as goal

@@ -1,5 +1,4 @@
-use Rattle.std.proofs.Common.{ap, ◌∙◌, arith}
-use Rattle.std.proofs.lemmas.Grind.{common_steps}
+use Rattle.std.proofs.{Common.{ap, ◌∙◌, arith}, lemmas.Grind.{common_steps}}
 use Rattle.gs_game.specs.Money.{has_even}
 use Rattle.gs_bet.proofs.TreeLaws.{plain-act, plain_act-out}
 use Rattle.gs_game.proofs.money.+has_even.Goals as goal

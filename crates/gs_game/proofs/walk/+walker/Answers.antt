@@ -1,5 +1,4 @@
-use Rattle.std.proofs.Common.{◌≡◌, ◌∙◌, refl, ap, length, length-append, ◌+◌, arith, rules}
-use Rattle.std.proofs.lemmas.Grind.{common_steps}
+use Rattle.std.proofs.{Common.{◌≡◌, ◌∙◌, refl, ap, length, length-append, ◌+◌, arith, rules}, lemmas.Grind.{common_steps}}
 use Rattle.gs_model.specs.{Walk.{show_end, fold_end}, Betting.{act}}
 use Rattle.gs_bet.specs.{TreeView.{plain, plain_act, plain_moves}, declared.shape.Act.{out-Act}}
 use Rattle.gs_bet.proofs.TreeLaws.{plain-fold, plain_act-out}

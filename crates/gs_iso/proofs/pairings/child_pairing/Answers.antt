@@ -2,8 +2,7 @@ use Rattle.std.proofs.{Common.{◌+◌, ◌∙◌, length, ap, arith}, lemmas.Re
 use Rattle.gs_model.specs.Signals.{signal_at}
 use Rattle.gs_tree.specs.Trees.{rules_of}
 use Rattle.gs_iso.specs.Pairings.{IsPaired, IsPairingAnswer}
-use Rattle.gs_iso.proofs.Paired.{child_answer, children_few}
-use Rattle.gs_iso.proofs.Exact.{child_eq}
+use Rattle.gs_iso.proofs.{Paired.{child_answer, children_few}, Exact.{child_eq}}
 use Rattle.gs_iso.proofs.pairings.child_pairing.Goals as goal
 
 pub match_equals-requires-clause-few_ones : goal.match_equals-requires-clause-few_ones

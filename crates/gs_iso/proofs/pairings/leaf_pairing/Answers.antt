@@ -2,8 +2,7 @@ use Rattle.std.proofs.{Common.{◌∙◌, length, ap, arith}, lemmas.Result.{IfO
 use Rattle.gs_model.specs.{Game.{round_count}, Signals.{signal_at}}
 use Rattle.gs_tree.specs.Trees.{rules_of}
 use Rattle.gs_iso.specs.Pairings.{IsPaired, IsPairingAnswer}
-use Rattle.gs_iso.proofs.Paired.{leaf_answer, leaves_few}
-use Rattle.gs_iso.proofs.Exact.{leaf_eq}
+use Rattle.gs_iso.proofs.{Paired.{leaf_answer, leaves_few}, Exact.{leaf_eq}}
 use Rattle.gs_iso.proofs.pairings.leaf_pairing.Goals as goal
 
 pub match_equals-requires-clause-few_ones : goal.match_equals-requires-clause-few_ones

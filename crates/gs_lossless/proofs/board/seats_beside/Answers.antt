@@ -1,5 +1,4 @@
-use Rattle.std.proofs.Common.{◌-◌, ◌<◌, ◌∙◌, ◌++◌, ◌∷◌, [], ◌≡◌, ℕ, List, length, subst, sym, ap, arith, get_or}
-use Rattle.std.proofs.lemmas.List.{length-map}
+use Rattle.std.proofs.{Common.{◌-◌, ◌<◌, ◌∙◌, ◌++◌, ◌∷◌, [], ◌≡◌, ℕ, List, length, subst, sym, ap, arith, get_or}, lemmas.List.{length-map}}
 use Rattle.gs_model.specs.{Game.{Game, round_count}, Signals.{signals}, ViewTree.{signal_strength}}
 use Rattle.gs_tree.specs.{Trees.{rules_of}, Walk.{last_count}}
 use Rattle.gs_lossless.specs.{Boards.{seat_of}, declared.board.Seat.{Seat}}

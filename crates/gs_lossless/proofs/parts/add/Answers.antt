@@ -2,9 +2,8 @@ use Rattle.std.proofs.Common.{◌≡◌, ◌+◌, ◌-◌, ◌∷◌, ◌++◌, 
 use Rattle.std.proofs.{lemmas.Int.{ints}, lemmas.List.{set-get_or}}
 use mir.Syntax.{w8}
 use Rattle.gs_lossless.specs.{Sums.{is_at, put_last}, declared.parts.Part.{Part}}
-use Rattle.gs_lossless.proofs.Merge.{join_last, push_last, exact, not_at}
+use Rattle.gs_lossless.proofs.{Merge.{join_last, push_last, exact, not_at}, parts.add.Goals.{else-last-part-via-else-last-part, else-count-gt0}}
 use Rattle.gs_lossless.proofs.parts.add.Goals.{then-count-gt0+else-last-part, else-last-part-via-then-last-part+else-last-part-2}
-use Rattle.gs_lossless.proofs.parts.add.Goals.{else-last-part-via-else-last-part, else-count-gt0}
 use Rattle.gs_lossless.proofs.parts.add.Goals as goal
 
 pub returns-then-last-part-2 : goal.returns-then-last-part-2

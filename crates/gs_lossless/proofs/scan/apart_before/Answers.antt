@@ -1,10 +1,8 @@
-use Rattle.std.proofs.Common.{true≢false, ◌≡◌, ◌<◌, ◌≤◌, ◌∙◌, ℕ, List, ap, arith, get_or, inl, length, subst, sym}
-use Rattle.std.proofs.lemmas.Grind.{common_steps}
+use Rattle.std.proofs.{Common.{true≢false, ◌≡◌, ◌<◌, ◌≤◌, ◌∙◌, ℕ, List, ap, arith, get_or, inl, length, subst, sym}, lemmas.Grind.{common_steps}}
 use Rattle.gs_model.specs.{Classes.{class_of, first_member, list_of}, Frame.{frame_of}, Numbering.{IsNumbered}, Signals.{signals}}
 use Rattle.gs_filter.proofs.ClassLaws.{greatest_before}
 use Rattle.gs_tree.specs.Trees.{rules_of}
-use Rattle.gs_lossless.proofs.Scanned.{agree_more, agree_self, side_classes, side_in, stood_agrees}
-use Rattle.gs_lossless.proofs.scan.apart_before.Goals.{Start}
+use Rattle.gs_lossless.proofs.{Scanned.{agree_more, agree_self, side_classes, side_in, stood_agrees}, scan.apart_before.Goals.{Start}}
 use Rattle.gs_lossless.proofs.scan.apart_before.Goals as goal
 
 -- the list of the round has a class for each signal, and numbers them as they are first seen

@@ -1,5 +1,4 @@
-use Rattle.std.proofs.Common.{◌≡◌, ◌==◌, ◌∙◌, ◌-◌, ℕ, List, Vec, Global, ap, arith, length, refl, sym, subst, true≢false, ⊎_elim}
-use Rattle.std.proofs.lemmas.List.{length-set}
+use Rattle.std.proofs.{Common.{◌≡◌, ◌==◌, ◌∙◌, ◌-◌, ℕ, List, Vec, Global, ap, arith, length, refl, sym, subst, true≢false, ⊎_elim}, lemmas.List.{length-set}}
 use Rattle.gs_model.specs.Frame.{frame_of}
 use Rattle.gs_tree.specs.Trees.{rules_of}
 use Rattle.gs_lossless.specs.{Amounts.{AreAmounts}, declared.parts.Part.{Part}}

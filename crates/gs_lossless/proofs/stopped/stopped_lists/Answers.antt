@@ -1,5 +1,4 @@
-use Rattle.std.proofs.Common.{arith}
-use Rattle.std.proofs.lemmas.Grind.{common_steps}
+use Rattle.std.proofs.{Common.{arith}, lemmas.Grind.{common_steps}}
 use Rattle.gs_lossless.proofs.stopped.stopped_lists.Goals as goal
 
 pub loop-list-preserved : goal.loop-list-preserved

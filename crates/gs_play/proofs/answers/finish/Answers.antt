@@ -2,9 +2,7 @@ use Rattle.std.proofs.Common.{◌≡◌, ◌+◌, ◌<◌, refl, sym, ◌∙◌,
 use Rattle.gs_model.specs.{Frame.{player_at, point_count}}
 use Rattle.gs_seq.specs.Slots.{plan_of}
 use Rattle.gs_seq.proofs.Forms.{form_moves}
-use Rattle.gs_play.specs.PlanSums.{ArePlansAlike}
-use Rattle.gs_play.specs.Answers.{plan_after}
-use Rattle.gs_play.specs.Sides.{side_frame, side_lists}
+use Rattle.gs_play.specs.{PlanSums.{ArePlansAlike}, Answers.{plan_after}, Sides.{side_frame, side_lists}}
 use Rattle.gs_play.proofs.{PlansAlike.{alike_on}, PlotRows.{row_at, row_player}, Started.{IsStoppedBefore, stopped_more, stopped_other, stopped_plan}}
 use Rattle.gs_play.proofs.answers.finish.Goals.{After-index, else-index-side, then-index-side}
 use Rattle.gs_play.proofs.answers.finish.Goals as goal

@@ -4,8 +4,7 @@ use Rattle.gs_model.specs.Frame.{player_at, point_count}
 use Rattle.gs_seq.specs.Slots.{slot_count}
 use Rattle.gs_seq.proofs.Forms.{form_classes, form_in_range, form_moves, form_walked}
 use Rattle.gs_best.specs.Tables.{start_of}
-use Rattle.gs_play.specs.Answers.{AreKeptBut}
-use Rattle.gs_play.specs.Sides.{side_frame, side_lists}
+use Rattle.gs_play.specs.{Answers.{AreKeptBut}, Sides.{side_frame, side_lists}}
 use Rattle.gs_play.proofs.{FirstMoves.{AreFirstBefore, before_more, before_none, before_other}, PlotRows.{row_at, row_player}, Started.{IsFresh, fresh_has}}
 use Rattle.gs_play.proofs.answers.first_answer.Goals.{After-index, In_ok-taken, In_ok-vec-3, else-index-side, then-index-side}
 use Rattle.gs_play.proofs.answers.first_answer.Goals as goal

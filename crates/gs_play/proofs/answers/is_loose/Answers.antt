@@ -1,11 +1,8 @@
-use Rattle.std.proofs.Common.{◌≡◌, ◌<◌, false, get_or, None, Some, refl, sym, ap, ◌∙◌, arith}
-use Rattle.std.proofs.lemmas.List.{get_or_default}
+use Rattle.std.proofs.{Common.{◌≡◌, ◌<◌, false, get_or, None, Some, refl, sym, ap, ◌∙◌, arith}, lemmas.List.{get_or_default}}
 use Rattle.gs_game.specs.Seen.{step_of}
-use Rattle.gs_model.specs.Frame.{point_count}
-use Rattle.gs_model.specs.Positions.{Step}
+use Rattle.gs_model.specs.{Frame.{point_count}, Positions.{Step}}
 use Rattle.gs_play.specs.Sides.{side_frame}
-use Rattle.gs_play.proofs.Gates.{gate_before}
-use Rattle.gs_play.proofs.answers.is_loose.Goals.{In-Some}
+use Rattle.gs_play.proofs.{Gates.{gate_before}, answers.is_loose.Goals.{In-Some}}
 use Rattle.gs_play.proofs.answers.is_loose.Goals as goal
 
 inside : (c : In-Some) → c.in-Some.step.point < point_count (side_frame c.args.side.now)

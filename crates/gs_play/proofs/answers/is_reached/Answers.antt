@@ -2,15 +2,11 @@ use Rattle.std.proofs.Common.{◌≡◌, ◌+◌, ◌-◌, ◌<◌, length, get_
 use Rattle.std.specs.Prelude.{◌↔◌, ◌==◌, IsTrue, true, option_map, slice_index}
 use Rattle.std.proofs.lemmas.{Bool.Decides.{Decides-eqb}, List.{get_or_default}}
 use Rattle.gs_game.specs.Seen.{step_of}
-use Rattle.gs_model.specs.Frame.{last_step, player_at, round_of}
-use Rattle.gs_model.specs.Positions.{at_point}
+use Rattle.gs_model.specs.{Frame.{last_step, player_at, round_of}, Positions.{at_point}}
 use Rattle.gs_best.specs.Tables.{moves_of}
 use Rattle.gs_best.proofs.PointStarts.{starts_few}
-use Rattle.gs_play.specs.Answers.{IsReached}
-use Rattle.gs_play.specs.Plots.{cell_above, cell_place}
-use Rattle.gs_play.specs.Sides.{side_frame, side_lists}
-use Rattle.gs_play.proofs.Gates.{gate_cell, gate_inside, gate_there}
-use Rattle.gs_play.proofs.answers.is_reached.Goals.{After-index-up, In-Some, Start}
+use Rattle.gs_play.specs.{Answers.{IsReached}, Plots.{cell_above, cell_place}, Sides.{side_frame, side_lists}}
+use Rattle.gs_play.proofs.{Gates.{gate_cell, gate_inside, gate_there}, answers.is_reached.Goals.{After-index-up, In-Some, Start}}
 use Rattle.gs_play.proofs.answers.is_reached.Goals as goal
 
 -- the step that was made

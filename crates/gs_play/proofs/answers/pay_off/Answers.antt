@@ -3,11 +3,8 @@ use Rattle.gs_model.specs.Frame.{point_count}
 use Rattle.gs_seq.proofs.Forms.{form_moves}
 use Rattle.gs_best.specs.Tables.{moves_of, start_of}
 use Rattle.gs_best.proofs.PointStarts.{place_before, starts_few}
-use Rattle.gs_play.specs.Plots.{cell_place}
-use Rattle.gs_play.specs.Sides.{side_frame, side_lists}
-use Rattle.gs_play.proofs.Paid.{began_before, old_in, old_read, paid_few, paid_off}
-use Rattle.gs_play.proofs.PlotRows.{IsRowAt, row_at, row_cell}
-use Rattle.gs_play.proofs.Slotted.{counted_none}
+use Rattle.gs_play.specs.{Plots.{cell_place}, Sides.{side_frame, side_lists}}
+use Rattle.gs_play.proofs.{Paid.{began_before, old_in, old_read, paid_few, paid_off}, PlotRows.{IsRowAt, row_at, row_cell}, Slotted.{counted_none}}
 use Rattle.gs_play.proofs.answers.pay_off.Goals.{After-index, Then-old}
 use Rattle.gs_play.proofs.answers.pay_off.Goals as goal
 

@@ -1,15 +1,11 @@
-use Rattle.std.proofs.Common.{◌≡◌, ℕ, ◌+◌, ◌<◌, Bool, List, Vec, false, true, get_or, length, set, sym, ap, ◌∙◌, subst, arith, ⊎_elim}
+use Rattle.std.proofs.{Common.{◌≡◌, ℕ, ◌+◌, ◌<◌, Bool, List, Vec, false, true, get_or, length, set, sym, ap, ◌∙◌, subst, arith, ⊎_elim}, lemmas.Bool.{cases_eq}}
 use Rattle.std.proofs.Common.{get_or-set_other, get_or-set_same, length-set}
-use Rattle.std.proofs.lemmas.Bool.{cases_eq}
 use Rattle.std.specs.declared.alloc.Global.{Global}
 use Rattle.gs_model.specs.Frame.{point_count}
 use Rattle.gs_seq.proofs.Forms.{form_classes, form_in_range, form_walked}
 use Rattle.gs_best.specs.Tables.{moves_of}
-use Rattle.gs_play.specs.Answers.{IsRight, plan_after}
-use Rattle.gs_play.specs.Sides.{side_frame, side_lists}
-use Rattle.gs_play.proofs.Again.{again_more, again_still}
-use Rattle.gs_play.proofs.PlansAlike.{alike_on}
-use Rattle.gs_play.proofs.answers.renew.Goals.{In-loop-point}
+use Rattle.gs_play.specs.{Answers.{IsRight, plan_after}, Sides.{side_frame, side_lists}}
+use Rattle.gs_play.proofs.{Again.{again_more, again_still}, PlansAlike.{alike_on}, answers.renew.Goals.{In-loop-point}}
 use Rattle.gs_play.proofs.answers.renew.Goals as goal
 
 -- the point at hand

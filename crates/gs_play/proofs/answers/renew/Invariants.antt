@@ -1,10 +1,7 @@
 use Rattle.std.proofs.Common.{◌≡◌, ℕ, ◌<◌, ◌≤◌, false, get_or}
 use Rattle.gs_model.specs.Frame.{other_player}
 use Rattle.gs_best.specs.Tables.{moves_of}
-use Rattle.gs_play.specs.PlanSums.{ArePlansAlike}
-use Rattle.gs_play.specs.Answers.{HasAnswer, IsPassedOn, plan_after}
-use Rattle.gs_play.specs.Sides.{side_frame, side_lists}
-use Rattle.gs_play.specs.Tallies.{HasTallyRoom}
+use Rattle.gs_play.specs.{PlanSums.{ArePlansAlike}, Answers.{HasAnswer, IsPassedOn, plan_after}, Sides.{side_frame, side_lists}, Tallies.{HasTallyRoom}}
 use Rattle.gs_play.proofs.Again.{IsAgain}
 use Rattle.gs_play.proofs.answers.renew.Given as goal
 

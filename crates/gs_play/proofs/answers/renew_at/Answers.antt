@@ -1,10 +1,8 @@
 use Rattle.std.proofs.Common.{ℕ, ◌<◌, Bool, List, false, set, refl, sym, ◌∙◌, subst, arith, get_or-set_other}
-use Rattle.gs_model.specs.Frame.{Frame, player_at, point_count}
-use Rattle.gs_model.specs.FrameFacts.{IsWalked}
+use Rattle.gs_model.specs.{Frame.{Frame, player_at, point_count}, FrameFacts.{IsWalked}}
 use Rattle.gs_seq.specs.Abstracts.{game_in}
 use Rattle.gs_seq.proofs.Points.{walked_at}
-use Rattle.gs_play.specs.Answers.{IsStill}
-use Rattle.gs_play.specs.Sides.{side_frame, side_lists}
+use Rattle.gs_play.specs.{Answers.{IsStill}, Sides.{side_frame, side_lists}}
 use Rattle.gs_play.proofs.PlotRows.{row_at, row_player}
 use Rattle.gs_play.proofs.answers.renew_at.Goals.{else-index-side-via-then-index-side+else-is_loose, else-index-side-via-else-index-side}
 use Rattle.gs_play.proofs.answers.renew_at.Goals as goal

@@ -1,19 +1,12 @@
 use Rattle.std.proofs.Common.{◌≡◌, ℕ, Option, ◌+◌, ◌-◌, ◌<◌, sym, ap, ◌∙◌, subst, arith, ⊎_elim}
-use Rattle.gs_model.specs.Classes.{IsClass, class_count}
-use Rattle.gs_model.specs.Frame.{last_step, move_count, player_at, point_count, round_of}
-use Rattle.gs_model.specs.Positions.{Step, at_point}
+use Rattle.gs_model.specs.{Classes.{IsClass, class_count}, Frame.{last_step, move_count, player_at, point_count, round_of}, Positions.{Step, at_point}}
 use Rattle.gs_seq.proofs.{Forms.{form_classes, form_in_range, form_walked}}
 use Rattle.gs_best.specs.Tables.{moves_of, start_of}
 use Rattle.gs_best.proofs.PointStarts.{place_before, starts_few}
-use Rattle.gs_play.specs.Answers.{IsRightMove}
-use Rattle.gs_play.specs.Plots.{IsGate, cell_place}
-use Rattle.gs_play.specs.Sides.{side_frame, side_lists}
-use Rattle.gs_play.specs.declared.answers.Answer.{Answer}
+use Rattle.gs_play.specs.{Answers.{IsRightMove}, Plots.{IsGate, cell_place}, Sides.{side_frame, side_lists}, declared.answers.Answer.{Answer}}
 use Rattle.gs_play.specs.declared.tally.Tally.{Tally}
-use Rattle.gs_play.proofs.Paid.{old_in, old_read}
-use Rattle.gs_play.proofs.PlotRows.{IsRowAt, row_at, row_cell, row_round}
+use Rattle.gs_play.proofs.{Paid.{old_in, old_read}, PlotRows.{IsRowAt, row_at, row_cell, row_round}, Taken.{reached_or}}
 use Rattle.gs_play.proofs.Retaken.{IsRenewing, renewing_more, renewing_none, renewing_same}
-use Rattle.gs_play.proofs.Taken.{reached_or}
 use Rattle.gs_play.proofs.answers.renew_point.Goals.{After-index-row, After-right_move-new, In-loop-class, else-old-new, then-old-new}
 use Rattle.gs_play.proofs.answers.renew_point.Goals as goal
 

@@ -1,11 +1,8 @@
-use Rattle.std.proofs.Common.{◌≡◌, ap, ◌∙◌, arith, ⊎_elim}
-use Rattle.std.proofs.lemmas.Bool.{cases_eq}
+use Rattle.std.proofs.{Common.{◌≡◌, ap, ◌∙◌, arith, ⊎_elim}, lemmas.Bool.{cases_eq}}
 use Rattle.gs_model.specs.{Classes.{IsClass, class_count}, Frame.{round_of}, Positions.{at_point}}
 use Rattle.gs_best.specs.Tables.{moves_of}
-use Rattle.gs_play.specs.Answers.{plan_after}
-use Rattle.gs_play.specs.Sides.{side_frame, side_lists}
-use Rattle.gs_play.proofs.PlansAlike.{alike_on}
-use Rattle.gs_play.proofs.answers.stop_at.Goals.{In-loop-class}
+use Rattle.gs_play.specs.{Answers.{plan_after}, Sides.{side_frame, side_lists}}
+use Rattle.gs_play.proofs.{PlansAlike.{alike_on}, answers.stop_at.Goals.{In-loop-class}}
 use Rattle.gs_play.proofs.answers.stop_at.Goals as goal
 
 -- the class of the turn is one of the point

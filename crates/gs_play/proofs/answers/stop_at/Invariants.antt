@@ -1,9 +1,7 @@
 use Rattle.std.proofs.Common.{◌≡◌, ℕ, ◌<◌}
 use Rattle.gs_model.specs.{Classes.{IsClass}, Frame.{round_of}, Positions.{at_point}}
 use Rattle.gs_best.specs.Tables.{moves_of}
-use Rattle.gs_play.specs.PlanSums.{ArePlansAlike}
-use Rattle.gs_play.specs.Answers.{AreKeptBut, HasAnswer, plan_after}
-use Rattle.gs_play.specs.Sides.{side_frame, side_lists}
+use Rattle.gs_play.specs.{PlanSums.{ArePlansAlike}, Answers.{AreKeptBut, HasAnswer, plan_after}, Sides.{side_frame, side_lists}}
 use Rattle.gs_play.proofs.answers.stop_at.Given as goal
 
 abbrev pub invariant-loop-class : goal.invariant-loop-class

@@ -1,15 +1,11 @@
 use Rattle.std.proofs.Common.{◌≡◌, ◌+◌, ◌-◌, false, true, set, refl, sym, ap, ◌∙◌, subst, arith}
 use Rattle.std.specs.Prelude.{◌↔◌, IsTrue}
-use Rattle.gs_model.specs.Classes.{IsClass, class_count}
-use Rattle.gs_model.specs.Frame.{last_step, player_at, point_count, round_of}
-use Rattle.gs_model.specs.Positions.{at_point}
+use Rattle.gs_model.specs.{Classes.{IsClass, class_count}, Frame.{last_step, player_at, point_count, round_of}, Positions.{at_point}}
 use Rattle.gs_seq.specs.Abstracts.{game_in}
 use Rattle.gs_seq.proofs.{Forms.{form_classes, form_in_range, form_walked}, Points.{walked_at}}
 use Rattle.gs_best.specs.Tables.{moves_of, start_of}
 use Rattle.gs_best.proofs.PointStarts.{place_before, starts_few}
-use Rattle.gs_play.specs.Answers.{IsReached}
-use Rattle.gs_play.specs.Plots.{IsGate, cell_place}
-use Rattle.gs_play.specs.Sides.{side_frame, side_lists}
+use Rattle.gs_play.specs.{Answers.{IsReached}, Plots.{IsGate, cell_place}, Sides.{side_frame, side_lists}}
 use Rattle.gs_play.proofs.{FirstMoves.{AreFirstTo, firsts_off, firsts_on}, PlotRows.{IsRowAt, row_at, row_cell, row_round}}
 use Rattle.gs_play.proofs.answers.take_first.Goals.{After-index-row, In-loop-class, else-is_reached, then-is_reached}
 use Rattle.gs_play.proofs.answers.take_first.Goals as goal

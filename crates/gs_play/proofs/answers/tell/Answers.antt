@@ -1,11 +1,8 @@
 use Rattle.std.proofs.Common.{ℕ, ◌<◌, ◌≤◌, arith}
-use Rattle.gs_model.specs.Frame.{move_count, other_player, point_count}
-use Rattle.gs_model.specs.FrameFacts.{IsWalked}
+use Rattle.gs_model.specs.{Frame.{move_count, other_player, point_count}, FrameFacts.{IsWalked}}
 use Rattle.gs_seq.specs.Payoffs.{end_sum}
 use Rattle.gs_seq.proofs.Forms.{form_classes, form_in_range, form_moves, form_walked}
-use Rattle.gs_play.specs.Answers.{taken_plan}
-use Rattle.gs_play.specs.Sides.{side_frame, side_lists}
-use Rattle.gs_play.specs.declared.side.Side.{Side}
+use Rattle.gs_play.specs.{Answers.{taken_plan}, Sides.{side_frame, side_lists}, declared.side.Side.{Side}}
 use Rattle.gs_play.proofs.Told.{plan_without, told_off, told_on, told_only_off, told_only_on}
 use Rattle.gs_play.proofs.answers.tell.Goals as goal
 

@@ -1,14 +1,10 @@
 use Rattle.std.proofs.Common.{◌≡◌, ℕ, Bool, ◌+◌, ◌-◌, ◌<◌, set, true, ap, ◌∙◌, arith, vec_len, Vec}
-use Rattle.std.specs.Vec.{with_item}
-use Rattle.std.specs.declared.alloc.Global.{Global}
+use Rattle.std.specs.{Vec.{with_item}, declared.alloc.Global.{Global}}
 use Rattle.gs_model.specs.Frame.{point_count}
 use Rattle.gs_best.specs.Tables.{start_of}
 use Rattle.gs_best.proofs.PointStarts.{place_before, starts_few}
-use Rattle.gs_play.specs.Plots.{cell_place}
-use Rattle.gs_play.specs.Sides.{side_frame, side_lists}
-use Rattle.gs_play.specs.declared.answers.Answer.{Answer}
-use Rattle.gs_play.proofs.PlotRows.{row_at, row_cell}
-use Rattle.gs_play.proofs.Switched.{IsSwitched, switched_elsewhere, switched_has, switched_here, switched_plan}
+use Rattle.gs_play.specs.{Plots.{cell_place}, Sides.{side_frame, side_lists}, declared.answers.Answer.{Answer}}
+use Rattle.gs_play.proofs.{PlotRows.{row_at, row_cell}, Switched.{IsSwitched, switched_elsewhere, switched_has, switched_here, switched_plan}}
 use Rattle.gs_play.proofs.answers.turn.Goals.{After-index, After-pay_off}
 use Rattle.gs_play.proofs.answers.turn.Goals as goal
 

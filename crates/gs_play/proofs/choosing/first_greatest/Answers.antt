@@ -1,14 +1,10 @@
-use Rattle.std.proofs.Common.{◌≡◌, ℕ, ◌+◌, false, true, sym, ◌∙◌, subst, arith, rules, ℤ}
-use Rattle.std.specs.Prelude.{◌<ℤ◌, ◌≤ℤ◌}
-use Rattle.std.specs.Int.RustNames.{FitsSigned}
-use Rattle.std.specs.Int.Signed.{lt_z}
-use Rattle.std.proofs.lemmas.Int.{ints, to_z-of_z}
+use Rattle.std.proofs.{Common.{◌≡◌, ℕ, ◌+◌, false, true, sym, ◌∙◌, subst, arith, rules, ℤ}, lemmas.Int.{ints, to_z-of_z}}
+use Rattle.std.specs.{Prelude.{◌<ℤ◌, ◌≤ℤ◌}, Int.RustNames.{FitsSigned}, Int.Signed.{lt_z}}
 use mir.Syntax.{w128}
 use Rattle.gs_best.specs.Rows.{IsFirstGreatest}
 use Rattle.gs_play.specs.Lines.{line_at, value_in}
-use Rattle.gs_play.proofs.Firsts.{first_kept, first_more}
+use Rattle.gs_play.proofs.{Firsts.{first_kept, first_more}, choosing.first_greatest.Goals.{then-most-worth, else-most-worth}}
 use Rattle.gs_play.proofs.choosing.first_greatest.Goals as goal
-use Rattle.gs_play.proofs.choosing.first_greatest.Goals.{then-most-worth, else-most-worth}
 
 raised : (u : ℕ → ℤ) (n best best' : ℕ) (most value told new : ℤ) → IsFirstGreatest u n most best → value ≡ u n → told ≡ value → lt_z most told ≡ true
     → best' ≡ n → new ≡ told → IsFirstGreatest u (n + 1) new best'

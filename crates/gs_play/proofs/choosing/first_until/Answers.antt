@@ -1,7 +1,6 @@
 use Rattle.std.proofs.Common.{ℕ, ◌+◌, ◌<◌, ◌≤◌, List, length, sym, subst, arith}
 use Rattle.gs_play.specs.declared.line.Line.{Line}
-use Rattle.gs_play.proofs.Firsts.{Before, by_first, fewer, first_by, no_more, one_more}
-use Rattle.gs_play.proofs.choosing.first_until.Goals.{then-place-best, else-place-best}
+use Rattle.gs_play.proofs.{Firsts.{Before, by_first, fewer, first_by, no_more, one_more}, choosing.first_until.Goals.{then-place-best, else-place-best}}
 use Rattle.gs_play.proofs.choosing.first_until.Goals as goal
 
 pub loop-place-preserved : goal.loop-place-preserved

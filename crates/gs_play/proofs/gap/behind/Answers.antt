@@ -1,11 +1,7 @@
-use Rattle.std.proofs.Common.{◌≡◌, ◌+◌, true, ap, ◌∙◌, arith, rules, to_z, of_z}
-use Rattle.std.specs.Prelude.{ℤ, ◌-ℤ◌, ◌<ℤ◌, unsigned_abs}
-use Rattle.std.specs.Int.RustNames.{FitsSigned}
-use Rattle.std.specs.Int.Signed.{lt_z}
-use Rattle.std.proofs.lemmas.Int.{ints, to_z-of_z}
+use Rattle.std.proofs.{Common.{◌≡◌, ◌+◌, true, ap, ◌∙◌, arith, rules, to_z, of_z}, lemmas.Int.{ints, to_z-of_z}}
+use Rattle.std.specs.{Prelude.{ℤ, ◌-ℤ◌, ◌<ℤ◌, unsigned_abs}, Int.RustNames.{FitsSigned}, Int.Signed.{lt_z}}
 use mir.Syntax.{w128}
-use Rattle.gs_play.proofs.Overtaking.{behind_by, slower_stays, within_by}
-use Rattle.gs_play.proofs.gap.behind.Goals.{After-above-gain}
+use Rattle.gs_play.proofs.{Overtaking.{behind_by, slower_stays, within_by}, gap.behind.Goals.{After-above-gain}}
 use Rattle.gs_play.proofs.gap.behind.Goals as goal
 
 below_from : (a b x y : ℤ) → x ≡ a → y ≡ b → lt_z x y ≡ true → a <ℤ b

@@ -1,7 +1,5 @@
-use Rattle.std.proofs.Common.{◌≡◌, ap, ◌∙◌, arith, rules}
-use Rattle.std.specs.Prelude.{ℤ, pos, neg_ℤ, ◌-ℤ◌, ◌*ℤ◌}
-use Rattle.std.specs.Int.RustNames.{FitsSigned}
-use Rattle.std.proofs.lemmas.Int.{int_wrap-sub_right, ints, to_z-of_z}
+use Rattle.std.proofs.{Common.{◌≡◌, ap, ◌∙◌, arith, rules}, lemmas.Int.{int_wrap-sub_right, ints, to_z-of_z}}
+use Rattle.std.specs.{Prelude.{ℤ, pos, neg_ℤ, ◌-ℤ◌, ◌*ℤ◌}, Int.RustNames.{FitsSigned}}
 use mir.Syntax.{w64}
 use Rattle.gs_play.specs.Lines.{wrapped}
 use Rattle.gs_play.proofs.line.rising.Goals as goal

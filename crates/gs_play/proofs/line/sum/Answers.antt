@@ -1,5 +1,4 @@
-use Rattle.std.proofs.Common.{rules}
-use Rattle.std.proofs.lemmas.Int.{wraps}
+use Rattle.std.proofs.{Common.{rules}, lemmas.Int.{wraps}}
 use Rattle.gs_play.proofs.line.sum.Goals as goal
 
 pub returns-clause-at : goal.returns-clause-at

@@ -1,13 +1,8 @@
-use Rattle.std.proofs.Common.{◌≡◌, ◌+◌, ◌<◌, ◌^◌, sym, ◌∙◌, subst, arith, rules, to_z, of_z}
-use Rattle.std.specs.Prelude.{◌-ℤ◌, unsigned_abs}
-use Rattle.std.specs.Int.RustNames.{FitsSigned}
-use Rattle.std.proofs.lemmas.Int.{ints, to_z-of_z}
+use Rattle.std.proofs.{Common.{◌≡◌, ◌+◌, ◌<◌, ◌^◌, sym, ◌∙◌, subst, arith, rules, to_z, of_z}, lemmas.Int.{ints, to_z-of_z}}
+use Rattle.std.specs.{Prelude.{◌-ℤ◌, unsigned_abs}, Int.RustNames.{FitsSigned}}
 use mir.Syntax.{w128}
-use Rattle.gs_play.proofs.Behind.{behind_same}
+use Rattle.gs_play.proofs.{Behind.{behind_same}, Turning.{behind_by, stays_by}, Sizes.{Fits, gap_small}, line.until.Goals.{After-value-2}}
 use Rattle.gs_play.specs.Lines.{value_in}
-use Rattle.gs_play.proofs.Turning.{behind_by, stays_by}
-use Rattle.gs_play.proofs.Sizes.{Fits, gap_small}
-use Rattle.gs_play.proofs.line.until.Goals.{After-value-2}
 use Rattle.gs_play.proofs.line.until.Goals as goal
 
 value_is : (c : After-value-2) → to_z w128 (of_z w128 c.value.result) ≡ value_in c.args.ahead c.args.now

@@ -1,11 +1,8 @@
-use Rattle.std.proofs.Common.{◌≡◌, ℕ, ◌*◌, ◌^◌, ◌<◌, ◌≤◌, sym, ap, ◌∙◌, subst, arith, rules, to_z, of_z}
-use Rattle.std.specs.Prelude.{pos, ◌+ℤ◌, ◌*ℤ◌, unsigned_abs}
-use Rattle.std.specs.Int.RustNames.{FitsSigned}
-use Rattle.std.proofs.Math.Nat.{mul-le-mul_left}
+use Rattle.std.proofs.{Common.{◌≡◌, ℕ, ◌*◌, ◌^◌, ◌<◌, ◌≤◌, sym, ap, ◌∙◌, subst, arith, rules, to_z, of_z}, Math.Nat.{mul-le-mul_left}}
+use Rattle.std.specs.{Prelude.{pos, ◌+ℤ◌, ◌*ℤ◌, unsigned_abs}, Int.RustNames.{FitsSigned}}
 use Rattle.std.proofs.lemmas.Int.{ints, to_z-of_z}
 use mir.Syntax.{w128}
-use Rattle.gs_play.proofs.Sizes.{Fits, fits_abs, value_small}
-use Rattle.gs_play.proofs.line.value.Goals.{After-from, After-scaled}
+use Rattle.gs_play.proofs.{Sizes.{Fits, fits_abs, value_small}, line.value.Goals.{After-from, After-scaled}}
 use Rattle.gs_play.proofs.line.value.Goals as goal
 
 slope_is : (c : After-from) → to_z w128 (of_z w128 c.from-slope.result) ≡ c.args.line.slope

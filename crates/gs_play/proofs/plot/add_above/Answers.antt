@@ -1,11 +1,9 @@
-use Rattle.std.proofs.Common.{◌≡◌, ℕ, List, length, sym, ap, subst, arith}
-use Rattle.std.proofs.lemmas.List.{length_push}
+use Rattle.std.proofs.{Common.{◌≡◌, ℕ, List, length, sym, ap, subst, arith}, lemmas.List.{length_push}}
 use Rattle.gs_model.specs.{Classes.{IsClass, class_count}, Frame.{round_of}, Positions.{at_point}}
 use Rattle.gs_seq.specs.Abstracts.{abstract_frame, lists_of}
 use Rattle.gs_best.proofs.PointStarts.{starts_more}
 use Rattle.gs_play.specs.Plots.{AreAbove, IsAbove, cell_place}
-use Rattle.gs_play.proofs.Gates.{above_more}
-use Rattle.gs_play.proofs.plot.add_above.Goals.{In-loop-class}
+use Rattle.gs_play.proofs.{Gates.{above_more}, plot.add_above.Goals.{In-loop-class}}
 use Rattle.gs_play.proofs.plot.add_above.Goals as goal
 
 class : (c : In-loop-class) → IsClass (lists_of c.args.form.now) (round_of (abstract_frame c.args.form.now) (at_point c.args.point)) c.loop-class.class

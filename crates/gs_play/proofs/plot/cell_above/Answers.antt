@@ -1,17 +1,13 @@
 use Rattle.std.proofs.Common.{◌≡◌, ◌+◌, ◌-◌, ◌^◌, ◌<◌, ◌≤◌, None, Some, sym, ap, ◌∙◌, subst, arith}
 use Rattle.std.specs.Prelude.{option_map}
 use Rattle.gs_game.specs.Seen.{step_of}
-use Rattle.gs_model.specs.Classes.{IsClass}
-use Rattle.gs_model.specs.Frame.{point_count, round_of}
-use Rattle.gs_model.specs.Positions.{Step, at_point}
+use Rattle.gs_model.specs.{Classes.{IsClass}, Frame.{point_count, round_of}, Positions.{Step, at_point}}
 use Rattle.gs_seq.specs.Abstracts.{abstract_frame, lists_of}
 use Rattle.gs_seq.proofs.Forms.{form_walked}
 use Rattle.gs_best.specs.ClassTotals.{earlier_class}
 use Rattle.gs_best.proofs.PointStarts.{place_before, starts_few}
-use Rattle.gs_play.specs.Plots.{cell_above, cell_place, row_in}
-use Rattle.gs_play.specs.declared.plot.Row.{Row}
-use Rattle.gs_play.proofs.PlotRows.{IsRowAt, row_cell, row_round}
-use Rattle.gs_play.proofs.plot.cell_above.Goals.{After-class_above-above, In-Some}
+use Rattle.gs_play.specs.{Plots.{cell_above, cell_place, row_in}, declared.plot.Row.{Row}}
+use Rattle.gs_play.proofs.{PlotRows.{IsRowAt, row_cell, row_round}, plot.cell_above.Goals.{After-class_above-above, In-Some}}
 use Rattle.gs_play.proofs.plot.cell_above.Goals as goal
 
 -- where the step was made

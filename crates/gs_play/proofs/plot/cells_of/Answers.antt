@@ -1,5 +1,4 @@
-use Rattle.std.proofs.Common.{◌≡◌, List, ℕ, length, replicate, sym, ap, ◌∙◌, subst, arith, length-append}
-use Rattle.std.proofs.lemmas.List.{length-replicate}
+use Rattle.std.proofs.{Common.{◌≡◌, List, ℕ, length, replicate, sym, ap, ◌∙◌, subst, arith, length-append}, lemmas.List.{length-replicate}}
 use Rattle.gs_model.specs.Classes.{class_count}
 use Rattle.gs_seq.specs.Abstracts.{abstract_frame, lists_of}
 use Rattle.gs_best.specs.Tables.{classes_at}

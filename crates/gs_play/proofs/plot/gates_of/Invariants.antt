@@ -1,6 +1,5 @@
 use Rattle.std.proofs.Common.{◌≡◌, length}
-use Rattle.gs_model.specs.Frame.{last_step, player_at}
-use Rattle.gs_model.specs.Positions.{at_point}
+use Rattle.gs_model.specs.{Frame.{last_step, player_at}, Positions.{at_point}}
 use Rattle.gs_seq.specs.Abstracts.{abstract_frame, lists_of}
 use Rattle.gs_best.specs.Tables.{start_of}
 use Rattle.gs_play.specs.Plots.{AreAbove}

@@ -1,14 +1,11 @@
-use Rattle.std.proofs.Common.{◌≡◌, ◌+◌, ◌*◌, ◌<◌, List, length, sym, ap, ◌∙◌, subst, arith}
-use Rattle.std.proofs.lemmas.List.{length_push}
+use Rattle.std.proofs.{Common.{◌≡◌, ◌+◌, ◌*◌, ◌<◌, List, length, sym, ap, ◌∙◌, subst, arith}, lemmas.List.{length_push}}
 use Rattle.gs_model.specs.{Classes.{class_count}, Frame.{move_count, point_count, round_of}, Positions.{at_point}}
 use Rattle.gs_seq.specs.Abstracts.{abstract_frame, lists_of}
 use Rattle.gs_seq.proofs.Forms.{form_walked}
 use Rattle.gs_best.specs.Tables.{classes_at, start_of}
 use Rattle.gs_best.proofs.{Placed.{row_next}, PointStarts.{starts_few}}
-use Rattle.gs_play.specs.Plots.{AreRowsBefore, worth_start}
-use Rattle.gs_play.specs.declared.plot.Row.{Row}
-use Rattle.gs_play.proofs.PlotLaws.{rows_more, worths_few, worths_next}
-use Rattle.gs_play.proofs.plot.rows_of.Goals.{After-class_total-classes, After-row_of-row}
+use Rattle.gs_play.specs.{Plots.{AreRowsBefore, worth_start}, declared.plot.Row.{Row}}
+use Rattle.gs_play.proofs.{PlotLaws.{rows_more, worths_few, worths_next}, plot.rows_of.Goals.{After-class_total-classes, After-row_of-row}}
 use Rattle.gs_play.proofs.plot.rows_of.Goals as goal
 
 inside : (c : After-row_of-row) → c.loop-point.point < point_count (abstract_frame c.args.form.now)

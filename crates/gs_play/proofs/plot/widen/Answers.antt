@@ -4,8 +4,7 @@ use Rattle.gs_game.specs.Seen.{step_of}
 use Rattle.gs_model.specs.{Frame.{end_count, last_step}, Positions.{at_end}}
 use Rattle.gs_seq.specs.{Abstracts.{abstract_frame, game_in}, Games.{frame_in}}
 use Rattle.gs_seq.proofs.{Forms.{form_walked}, Points.{few}}
-use Rattle.gs_play.proofs.PlotLaws.{has_none, last_is, widened_here, widened_spans, widened_wider}
-use Rattle.gs_play.proofs.plot.widen.Goals.{In-Some}
+use Rattle.gs_play.proofs.{PlotLaws.{has_none, last_is, widened_here, widened_spans, widened_wider}, plot.widen.Goals.{In-Some}}
 use Rattle.gs_play.proofs.plot.widen.Goals as goal
 
 pub end_step-requires : goal.end_step-requires

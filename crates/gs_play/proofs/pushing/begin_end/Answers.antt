@@ -1,15 +1,9 @@
-use Rattle.std.proofs.Common.{◌≡◌, ◌-◌, ◌<◌, ◌^◌, ℕ, get_or, of_z, to_z, to_z-of_z, refl, ap, ◌∙◌, subst, arith}
+use Rattle.std.proofs.{Common.{◌≡◌, ◌-◌, ◌<◌, ◌^◌, ℕ, get_or, of_z, to_z, to_z-of_z, refl, ap, ◌∙◌, subst, arith}, lemmas.Int.{fits_signed_from_abs}}
 use Rattle.std.specs.Prelude.{ℤ, pos, unsigned_abs}
-use Rattle.std.proofs.lemmas.Int.{fits_signed_from_abs}
 use mir.Syntax.{w128, w64}
-use Rattle.gs_model.specs.Classes.{IsClass, class_count}
-use Rattle.gs_model.specs.Frame.{round_of}
-use Rattle.gs_model.specs.Positions.{at_end}
-use Rattle.gs_play.specs.Sides.{side_frame, side_lists}
-use Rattle.gs_play.specs.Tallies.{IsTally, risen_at}
-use Rattle.gs_play.proofs.Pushed.{walked}
-use Rattle.gs_play.proofs.Risen.{adds_below, below_all, below_begun, below_more, risen_nowhere}
-use Rattle.gs_play.proofs.pushing.begin_end.Goals.{In-Some}
+use Rattle.gs_model.specs.{Classes.{IsClass, class_count}, Frame.{round_of}, Positions.{at_end}}
+use Rattle.gs_play.specs.{Sides.{side_frame, side_lists}, Tallies.{IsTally, risen_at}}
+use Rattle.gs_play.proofs.{Pushed.{walked}, Risen.{adds_below, below_all, below_begun, below_more, risen_nowhere}, pushing.begin_end.Goals.{In-Some}}
 use Rattle.gs_play.proofs.pushing.begin_end.Goals as goal
 
 -- the round of the way is that of the end

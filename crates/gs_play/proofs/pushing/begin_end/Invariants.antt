@@ -1,7 +1,6 @@
 use Rattle.std.proofs.Common.{◌≡◌, ◌-◌, ℕ, get_or}
 use Rattle.std.specs.Prelude.{ℤ, pos}
-use Rattle.gs_play.specs.Sides.{side_frame, side_lists}
-use Rattle.gs_play.specs.Tallies.{HasTallyRoom, IsTally, risen_at}
+use Rattle.gs_play.specs.{Sides.{side_frame, side_lists}, Tallies.{HasTallyRoom, IsTally, risen_at}}
 use Rattle.gs_play.proofs.Risen.{adds_below}
 use Rattle.gs_play.proofs.pushing.begin_end.Given as goal
 

@@ -1,20 +1,11 @@
-use Rattle.std.proofs.Common.{◌≡◌, ◌-◌, ◌*◌, ◌^◌, ◌<◌, ℕ, [], get_or, refl, ap, sym, ◌∙◌, arith}
+use Rattle.std.proofs.{Common.{◌≡◌, ◌-◌, ◌*◌, ◌^◌, ◌<◌, ℕ, [], get_or, refl, ap, sym, ◌∙◌, arith}, lemmas.Int.{ints}, lemmas.List.Sums.{sum_by-cons}}
 use Rattle.std.specs.Prelude.{ℤ, pos, ◌+ℤ◌, unsigned_abs}
-use Rattle.std.proofs.lemmas.Int.{ints}
-use Rattle.std.proofs.lemmas.List.Sums.{sum_by-cons}
-use Rattle.gs_model.specs.Frame.{end_count, other_player, round_of}
-use Rattle.gs_model.specs.Plans.{IsClassPlan, Plan}
-use Rattle.gs_model.specs.Positions.{at_end}
+use Rattle.gs_model.specs.{Frame.{end_count, other_player, round_of}, Plans.{IsClassPlan, Plan}, Positions.{at_end}}
 use Rattle.gs_model.proofs.Tables.{is_table}
-use Rattle.gs_seq.specs.Payoffs.{end_sum}
-use Rattle.gs_seq.specs.Plans.{class_plan}
-use Rattle.gs_seq.proofs.EndTotals.{worth_few}
-use Rattle.gs_seq.proofs.Forms.{given_in, one_or_two}
-use Rattle.gs_seq.proofs.RowFacts.{class_weight, classes_weigh}
-use Rattle.gs_play.specs.Sides.{side_frame, side_lists}
-use Rattle.gs_play.specs.declared.side.Side.{Side}
-use Rattle.gs_play.proofs.Pushed.{other_walked, walked}
-use Rattle.gs_play.proofs.Risen.{renewed_all, renewed_before, renewed_begun, renewed_more}
+use Rattle.gs_seq.specs.{Payoffs.{end_sum}, Plans.{class_plan}}
+use Rattle.gs_seq.proofs.{EndTotals.{worth_few}, Forms.{given_in, one_or_two}, RowFacts.{class_weight, classes_weigh}}
+use Rattle.gs_play.specs.{Sides.{side_frame, side_lists}, declared.side.Side.{Side}}
+use Rattle.gs_play.proofs.{Pushed.{other_walked, walked}, Risen.{renewed_all, renewed_before, renewed_begun, renewed_more}}
 use Rattle.gs_play.proofs.pushing.begin_ends.Goals.{In-loop-end}
 use Rattle.gs_play.proofs.pushing.begin_ends.Goals as goal
 

@@ -1,9 +1,7 @@
 use Rattle.std.proofs.Common.{◌≡◌, ℕ}
 use Rattle.std.specs.Prelude.{ℤ, pos}
-use Rattle.gs_seq.specs.Payoffs.{end_sum}
-use Rattle.gs_seq.specs.Plans.{class_plan}
-use Rattle.gs_play.specs.Sides.{side_frame, side_lists}
-use Rattle.gs_play.specs.Tallies.{HasTallyRoom, IsTally}
+use Rattle.gs_seq.specs.{Payoffs.{end_sum}, Plans.{class_plan}}
+use Rattle.gs_play.specs.{Sides.{side_frame, side_lists}, Tallies.{HasTallyRoom, IsTally}}
 use Rattle.gs_play.proofs.Risen.{renewed_before}
 use Rattle.gs_play.proofs.pushing.begin_ends.Given as goal
 

@@ -1,21 +1,12 @@
 use Rattle.std.proofs.Common.{◌≡◌, ◌<◌, ◌≤◌, ℕ, Option, Some, None, Bool, true, false, nat_eq, length, refl, ap, sym, ◌∙◌, subst, arith}
-use Rattle.std.specs.Prelude.{◌&&◌, not, option_map}
-use Rattle.std.specs.Option.{option_eq}
-use Rattle.std.proofs.lemmas.Bool.Decides.{Decides-eqb}
-use Rattle.std.proofs.lemmas.List.{get_or_default}
-use Rattle.gs_game.specs.Seen.{step_of}
-use Rattle.gs_game.specs.declared.positions.Step.{Step as StoredStep}
+use Rattle.std.specs.{Prelude.{◌&&◌, not, option_map}, Option.{option_eq}}
+use Rattle.std.proofs.{lemmas.Bool.Decides.{Decides-eqb}, lemmas.List.{get_or_default}}
+use Rattle.gs_game.specs.{Seen.{step_of}, declared.positions.Step.{Step as StoredStep}}
 use Rattle.gs_game.specs.contracts.positions.StepPartialEq.TheImpl as eqs
-use Rattle.gs_model.specs.Frame.{end_count, last_step, other_player}
-use Rattle.gs_model.specs.Positions.{Step, at_end}
+use Rattle.gs_model.specs.{Frame.{end_count, last_step, other_player}, Positions.{Step, at_end}}
 use Rattle.gs_seq.specs.Games.{frame_in}
-use Rattle.gs_play.specs.Plots.{span_in}
-use Rattle.gs_play.specs.Pushes.{with_sign}
-use Rattle.gs_play.specs.Sides.{side_frame, side_lists}
-use Rattle.gs_play.specs.Tables.{raise_sum}
-use Rattle.gs_play.specs.declared.plot.Span.{Span}
-use Rattle.gs_play.proofs.Pushed.{walked}
-use Rattle.gs_play.proofs.Risen.{renewed_all, renewed_before, renewed_begun, renewed_kept, renewed_more}
+use Rattle.gs_play.specs.{Plots.{span_in}, Pushes.{with_sign}, Sides.{side_frame, side_lists}, Tables.{raise_sum}, declared.plot.Span.{Span}}
+use Rattle.gs_play.proofs.{Pushed.{walked}, Risen.{renewed_all, renewed_before, renewed_begun, renewed_kept, renewed_more}}
 use Rattle.gs_play.proofs.pushing.push.Goals.{After-end_step, After-index-span}
 use Rattle.gs_play.proofs.pushing.push.Goals as goal
 

@@ -1,9 +1,7 @@
 use Rattle.std.proofs.Common.{◌≡◌, ℕ}
 use Rattle.std.specs.Prelude.{ℤ}
 use Rattle.gs_game.specs.Seen.{step_of}
-use Rattle.gs_play.specs.Pushes.{IsPushed}
-use Rattle.gs_play.specs.Sides.{side_frame, side_lists}
-use Rattle.gs_play.specs.Tallies.{HasTallyRoom, IsTally}
+use Rattle.gs_play.specs.{Pushes.{IsPushed}, Sides.{side_frame, side_lists}, Tallies.{HasTallyRoom, IsTally}}
 use Rattle.gs_play.proofs.Risen.{renewed_before}
 use Rattle.gs_play.proofs.pushing.push.Given as goal
 

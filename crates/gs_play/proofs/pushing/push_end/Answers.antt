@@ -1,19 +1,11 @@
 use Rattle.std.proofs.Common.{◌≡◌, ℕ, refl, ap, sym, ◌∙◌, subst, arith}
 use Rattle.std.specs.Prelude.{ℤ}
-use Rattle.gs_model.specs.Frame.{payoff_to, round_of}
-use Rattle.gs_model.specs.Pairs.{pair_sum}
-use Rattle.gs_model.specs.Positions.{at_end, at_point}
+use Rattle.gs_model.specs.{Frame.{payoff_to, round_of}, Pairs.{pair_sum}, Positions.{at_end, at_point}}
 use Rattle.gs_best.specs.Runs.{IsClassRun}
 use Rattle.gs_best.proofs.Gathered.{gathered_run}
 use Rattle.gs_game.specs.Seen.{step_of}
-use Rattle.gs_play.specs.Pushes.{with_sign}
-use Rattle.gs_play.specs.Sides.{side_frame, side_lists}
-use Rattle.gs_play.specs.Tables.{raise_sum}
-use Rattle.gs_play.specs.Tallies.{IsTally, risen_at}
-use Rattle.gs_play.specs.declared.side.Side.{Side}
-use Rattle.gs_play.proofs.Pushed.{walked}
-use Rattle.gs_play.proofs.Risen.{risen_nowhere, risen_same, run_adds, run_begun, run_more}
-use Rattle.gs_play.proofs.pushing.push_end.Goals.{After-classes_below-run}
+use Rattle.gs_play.specs.{Pushes.{with_sign}, Sides.{side_frame, side_lists}, Tables.{raise_sum}, Tallies.{IsTally, risen_at}, declared.side.Side.{Side}}
+use Rattle.gs_play.proofs.{Pushed.{walked}, Risen.{risen_nowhere, risen_same, run_adds, run_begun, run_more}, pushing.push_end.Goals.{After-classes_below-run}}
 use Rattle.gs_play.proofs.pushing.push_end.Goals as goal
 
 -- what an end pays a class of the player in the deals with a class of the other's

@@ -1,8 +1,7 @@
 use Rattle.std.proofs.Common.{◌≡◌, ℕ}
 use Rattle.std.specs.Prelude.{ℤ}
 use Rattle.gs_model.specs.{Frame.{payoff_to, round_of}, Pairs.{pair_sum}, Positions.{at_end}}
-use Rattle.gs_play.specs.Sides.{side_frame, side_lists}
-use Rattle.gs_play.specs.Tallies.{HasTallyRoom, IsTally, risen_at}
+use Rattle.gs_play.specs.{Sides.{side_frame, side_lists}, Tallies.{HasTallyRoom, IsTally, risen_at}}
 use Rattle.gs_play.proofs.Risen.{run_adds}
 use Rattle.gs_play.proofs.pushing.push_end.Given as goal
 

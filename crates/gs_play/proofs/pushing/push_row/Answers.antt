@@ -1,16 +1,11 @@
 use Rattle.std.proofs.Common.{List, refl, ap, sym, ◌∙◌, subst, of_z, to_z, to_z-of_z}
 use Rattle.std.specs.Prelude.{neg_ℤ}
 use mir.Syntax.{w64}
-use Rattle.gs_model.specs.Classes.{IsClass}
-use Rattle.gs_model.specs.Frame.{other_player, round_of}
-use Rattle.gs_seq.specs.Payoffs.{pair_pays}
-use Rattle.gs_seq.specs.Rows.{IsRow}
-use Rattle.gs_seq.specs.declared.pair.Pair.{Pair}
+use Rattle.gs_model.specs.{Classes.{IsClass}, Frame.{other_player, round_of}}
+use Rattle.gs_seq.specs.{Payoffs.{pair_pays}, Rows.{IsRow}, declared.pair.Pair.{Pair}}
 use Rattle.gs_seq.proofs.Turns.{IsKnown}
-use Rattle.gs_play.specs.Pushes.{with_sign}
-use Rattle.gs_play.specs.Sides.{side_frame, side_lists}
-use Rattle.gs_play.proofs.Pushed.{pair_known, row_begun, row_ended, row_further}
-use Rattle.gs_play.proofs.pushing.push_row.Goals.{In-Some}
+use Rattle.gs_play.specs.{Pushes.{with_sign}, Sides.{side_frame, side_lists}}
+use Rattle.gs_play.proofs.{Pushed.{pair_known, row_begun, row_ended, row_further}, pushing.push_row.Goals.{In-Some}}
 use Rattle.gs_play.proofs.pushing.push_row.Goals as goal
 
 -- what is known of the pair

@@ -1,6 +1,5 @@
 use Rattle.std.proofs.Common.{◌≡◌}
-use Rattle.gs_play.specs.Sides.{side_frame, side_lists}
-use Rattle.gs_play.specs.Tallies.{HasTallyRoom}
+use Rattle.gs_play.specs.{Sides.{side_frame, side_lists}, Tallies.{HasTallyRoom}}
 use Rattle.gs_play.proofs.Pushed.{IsPushedBy}
 use Rattle.gs_play.proofs.pushing.push_row.Given as goal
 

@@ -1,12 +1,8 @@
 use Rattle.std.proofs.Common.{◌≡◌, ap, sym, ◌∙◌, subst, of_z, to_z, to_z-of_z}
 use Rattle.std.specs.Prelude.{pos, ◌-ℤ◌, ◌*ℤ◌}
 use mir.Syntax.{w64}
-use Rattle.gs_model.specs.Classes.{IsClass}
-use Rattle.gs_model.specs.Frame.{round_of}
-use Rattle.gs_model.specs.Positions.{at_end}
-use Rattle.gs_play.specs.Lines.{wrapped}
-use Rattle.gs_play.specs.Sides.{side_frame, side_lists}
-use Rattle.gs_play.specs.Tallies.{IsTally, risen}
+use Rattle.gs_model.specs.{Classes.{IsClass}, Frame.{round_of}, Positions.{at_end}}
+use Rattle.gs_play.specs.{Lines.{wrapped}, Sides.{side_frame, side_lists}, Tallies.{IsTally, risen}}
 use Rattle.gs_play.proofs.{Pushed.{walked}, Turned.{risen_none, turned_fed}}
 use Rattle.gs_play.proofs.pushing.turn_end.Goals as goal
 

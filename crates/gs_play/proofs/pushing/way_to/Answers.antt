@@ -1,11 +1,8 @@
-use Rattle.std.proofs.Common.{◌<◌, None, length, refl, sym, ◌∙◌, arith}
-use Rattle.std.proofs.lemmas.List.{get_or_default}
+use Rattle.std.proofs.{Common.{◌<◌, None, length, refl, sym, ◌∙◌, arith}, lemmas.List.{get_or_default}}
 use Rattle.gs_game.specs.Seen.{step_of}
 use Rattle.gs_model.specs.Positions.{at_end}
-use Rattle.gs_play.specs.Plots.{IsMoveTo}
-use Rattle.gs_play.specs.Sides.{side_frame, side_lists}
-use Rattle.gs_play.proofs.Feeds.{way_read}
-use Rattle.gs_play.proofs.pushing.way_to.Goals.{In_ok-step}
+use Rattle.gs_play.specs.{Plots.{IsMoveTo}, Sides.{side_frame, side_lists}}
+use Rattle.gs_play.proofs.{Feeds.{way_read}, pushing.way_to.Goals.{In_ok-step}}
 use Rattle.gs_play.proofs.pushing.way_to.Goals as goal
 
 -- the move that is noted leads to the end

@@ -1,14 +1,9 @@
-use Rattle.std.proofs.Common.{◌≡◌, ◌+◌, ◌-◌, ◌*◌, ◌<◌, length, set, refl, ap, ◌∙◌, arith}
+use Rattle.std.proofs.{Common.{◌≡◌, ◌+◌, ◌-◌, ◌*◌, ◌<◌, length, set, refl, ap, ◌∙◌, arith}, lemmas.List.{get_or_default}}
 use Rattle.std.specs.Prelude.{◌+ℤ◌}
-use Rattle.std.proofs.lemmas.List.{get_or_default}
 use Rattle.gs_seq.specs.Abstracts.{abstract_frame, lists_of}
 use Rattle.gs_seq.proofs.Forms.{form_walked}
-use Rattle.gs_play.specs.Lines.{flat, line_at, wrapped}
-use Rattle.gs_play.specs.Plots.{cell_place, worth_place}
-use Rattle.gs_play.specs.Tallies.{up_of}
-use Rattle.gs_play.specs.declared.line.Line.{Line}
-use Rattle.gs_play.proofs.Feeds.{cell_few, cell_first, cell_there, worth_few, worth_first, worth_there}
-use Rattle.gs_play.proofs.sweeping.feed.Goals.{After-class_above}
+use Rattle.gs_play.specs.{Lines.{flat, line_at, wrapped}, Plots.{cell_place, worth_place}, Tallies.{up_of}, declared.line.Line.{Line}}
+use Rattle.gs_play.proofs.{Feeds.{cell_few, cell_first, cell_there, worth_few, worth_first, worth_there}, sweeping.feed.Goals.{After-class_above}}
 use Rattle.gs_play.proofs.sweeping.feed.Goals as goal
 
 pub class_above-requires-clause-some : goal.class_above-requires-clause-some

@@ -3,12 +3,8 @@ use Rattle.std.specs.Prelude.{slice_index}
 use Rattle.gs_model.specs.Frame.{point_count}
 use Rattle.gs_seq.proofs.Forms.{form_moves}
 use Rattle.gs_best.specs.Tables.{start_of}
-use Rattle.gs_play.specs.Plots.{IsCellOf}
-use Rattle.gs_play.specs.Sides.{side_frame, side_lists}
-use Rattle.gs_play.specs.Tallies.{IsPicked}
-use Rattle.gs_play.proofs.PlotLaws.{worths_few}
-use Rattle.gs_play.proofs.PlotRows.{cell_within, class_here, class_in, place_here, worths_within}
-use Rattle.gs_play.proofs.Tells.{tells_picked}
+use Rattle.gs_play.specs.{Plots.{IsCellOf}, Sides.{side_frame, side_lists}, Tallies.{IsPicked}}
+use Rattle.gs_play.proofs.{PlotLaws.{worths_few}, PlotRows.{cell_within, class_here, class_in, place_here, worths_within}, Tells.{tells_picked}}
 use Rattle.gs_play.proofs.sweeping.find.Goals.{Start}
 use Rattle.gs_play.proofs.sweeping.find.Goals as goal
 

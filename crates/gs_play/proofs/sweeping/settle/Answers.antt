@@ -1,25 +1,14 @@
 use Rattle.std.proofs.Common.{◌≡◌, ◌+◌, ◌-◌, ◌<◌, ◌≤◌, int_eq, length, sym, ap, ◌∙◌, subst, arith}
-use Rattle.std.specs.Prelude.{ℤ, ◌-ℤ◌}
-use Rattle.std.specs.Option.{MatchOption}
+use Rattle.std.specs.{Prelude.{ℤ, ◌-ℤ◌}, Option.{MatchOption}}
 use Rattle.std.proofs.lemmas.{Bool.{and_parts}, Bool.Decides.{Decides-int_eq}, List.{get_or_default}}
-use Rattle.gs_model.specs.Classes.{IsClass}
-use Rattle.gs_model.specs.Frame.{point_count, round_of}
-use Rattle.gs_model.specs.FrameFacts.{IsWalked}
-use Rattle.gs_model.specs.Positions.{at_point}
+use Rattle.gs_model.specs.{Classes.{IsClass}, Frame.{point_count, round_of}, FrameFacts.{IsWalked}, Positions.{at_point}}
 use Rattle.gs_seq.proofs.Forms.{form_walked}
 use Rattle.gs_best.proofs.PointStarts.{starts_few}
 use Rattle.gs_best.specs.Tables.{start_of}
-use Rattle.gs_play.specs.Lines.{flat, line_at, wrapped}
-use Rattle.gs_play.specs.Plots.{HasNoWay, IsCellOf, LeadsTo}
-use Rattle.gs_play.specs.Sides.{side_frame, side_lists}
-use Rattle.gs_play.specs.Tallies.{at_part, slope_part}
-use Rattle.gs_play.specs.declared.line.Line.{Line}
-use Rattle.gs_play.specs.declared.side.Side.{Side}
-use Rattle.gs_play.proofs.PlotRows.{cell_within, class_in}
-use Rattle.gs_play.proofs.Settle.{fed_behind, fed_kept, fed_later, found_later, nowhere_kept, same_kept}
-use Rattle.gs_play.proofs.Tells.{tells_next, tells_same}
-use Rattle.gs_play.proofs.Wrapped.{wrapped_twice}
-use Rattle.gs_play.proofs.sweeping.settle.Goals.{After-index-2, In-Some, Start}
+use Rattle.gs_play.specs.{Lines.{flat, line_at, wrapped}, Plots.{HasNoWay, IsCellOf, LeadsTo}, Sides.{side_frame, side_lists}, Tallies.{at_part, slope_part}}
+use Rattle.gs_play.specs.{declared.line.Line.{Line}, declared.side.Side.{Side}}
+use Rattle.gs_play.proofs.{PlotRows.{cell_within, class_in}, Settle.{fed_behind, fed_kept, fed_later, found_later, nowhere_kept, same_kept}}
+use Rattle.gs_play.proofs.{Tells.{tells_next, tells_same}, Wrapped.{wrapped_twice}, sweeping.settle.Goals.{After-index-2, In-Some, Start}}
 use Rattle.gs_play.proofs.sweeping.settle.Goals as goal
 
 walked : (s : Side) → IsWalked (side_frame s) s.player

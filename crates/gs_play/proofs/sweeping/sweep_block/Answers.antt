@@ -1,14 +1,8 @@
 use Rattle.std.proofs.Common.{ℕ, ◌-◌, ◌<◌, ◌≤◌, List, length, ap, sym, subst, arith, Vec}
 use Rattle.std.specs.declared.alloc.Global.{Global}
 use Rattle.gs_best.specs.Tables.{moves_of}
-use Rattle.gs_play.specs.DueTurns.{IsNoneDue}
-use Rattle.gs_play.specs.Plots.{IsCellOf}
-use Rattle.gs_play.specs.Sides.{side_frame, side_lists}
-use Rattle.gs_play.specs.Tables.{AreSettledUntil}
-use Rattle.gs_play.specs.Tallies.{slopes_of, zeros_of}
-use Rattle.gs_play.proofs.PlotRows.{IsRowAt, point_at, row_at}
-use Rattle.gs_play.proofs.Tells.{tells_next}
-use Rattle.gs_play.proofs.sweeping.sweep_block.Goals.{After-index-row}
+use Rattle.gs_play.specs.{DueTurns.{IsNoneDue}, Plots.{IsCellOf}, Sides.{side_frame, side_lists}, Tables.{AreSettledUntil}, Tallies.{slopes_of, zeros_of}}
+use Rattle.gs_play.proofs.{PlotRows.{IsRowAt, point_at, row_at}, Tells.{tells_next}, sweeping.sweep_block.Goals.{After-index-row}}
 use Rattle.gs_play.proofs.sweeping.sweep_block.Goals as goal
 
 -- the row of the cell

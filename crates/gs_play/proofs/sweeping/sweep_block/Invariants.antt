@@ -1,7 +1,5 @@
 use Rattle.std.proofs.Common.{ℕ, ℤ, ◌≤◌, length}
-use Rattle.gs_play.specs.DueTurns.{IsNoneDue}
-use Rattle.gs_play.specs.Sides.{side_frame, side_lists}
-use Rattle.gs_play.specs.Tallies.{AreSmallAtEnds, HasTallyRoom, IsTally, TellsMoves}
+use Rattle.gs_play.specs.{DueTurns.{IsNoneDue}, Sides.{side_frame, side_lists}, Tallies.{AreSmallAtEnds, HasTallyRoom, IsTally, TellsMoves}}
 use Rattle.gs_play.proofs.sweeping.sweep_block.Given as goal
 
 abbrev pub invariant-loop-left : goal.invariant-loop-left

@@ -1,10 +1,7 @@
-use Rattle.std.proofs.Common.{◌≡◌, ◌-◌, ◌<◌, sym, subst, arith, ⊎_elim}
+use Rattle.std.proofs.{Common.{◌≡◌, ◌-◌, ◌<◌, sym, subst, arith, ⊎_elim}, lemmas.Bool.{cases_eq}}
 use Rattle.std.specs.Prelude.{slice_index}
-use Rattle.std.proofs.lemmas.Bool.{cases_eq}
-use Rattle.gs_play.specs.Plots.{IsCellOf}
-use Rattle.gs_play.specs.Sides.{side_frame, side_lists}
-use Rattle.gs_play.proofs.PlotRows.{cell_within}
-use Rattle.gs_play.proofs.Tells.{tells_next}
+use Rattle.gs_play.specs.{Plots.{IsCellOf}, Sides.{side_frame, side_lists}}
+use Rattle.gs_play.proofs.{PlotRows.{cell_within}, Tells.{tells_next}}
 use Rattle.gs_play.proofs.sweeping.sweep_row.Goals as goal
 
 pub index-requires : goal.index-requires

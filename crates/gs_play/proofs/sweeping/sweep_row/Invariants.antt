@@ -1,7 +1,5 @@
 use Rattle.std.proofs.Common.{ℕ, ℤ, ◌≤◌, length}
-use Rattle.gs_play.specs.DueTurns.{IsNoneDue}
-use Rattle.gs_play.specs.Sides.{side_frame, side_lists}
-use Rattle.gs_play.specs.Tallies.{AreSmallAtEnds, HasTallyRoom, IsTally, TellsMoves}
+use Rattle.gs_play.specs.{DueTurns.{IsNoneDue}, Sides.{side_frame, side_lists}, Tallies.{AreSmallAtEnds, HasTallyRoom, IsTally, TellsMoves}}
 use Rattle.gs_play.proofs.sweeping.sweep_row.Given as goal
 
 abbrev pub invariant-loop-cell : goal.invariant-loop-cell

@@ -1,6 +1,5 @@
-use Rattle.std.proofs.Common.{◌∙◌, refl, sym, arith}
+use Rattle.std.proofs.{Common.{◌∙◌, refl, sym, arith}, lemmas.Int.{ints}}
 use Rattle.std.specs.Prelude.{pos}
-use Rattle.std.proofs.lemmas.Int.{ints}
 use Rattle.gs_play.specs.Lines.{line_at}
 use Rattle.gs_play.proofs.Wrapped.{unwrapped, wrapped_more}
 use Rattle.gs_play.proofs.tally.sum_of.Goals as goal

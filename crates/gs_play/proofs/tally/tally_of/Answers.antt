@@ -1,10 +1,8 @@
-use Rattle.std.proofs.Common.{◌≡◌, ℕ, List, Bool, false, get_or, length, ap, ◌∙◌, arith, rules}
+use Rattle.std.proofs.{Common.{◌≡◌, ℕ, List, Bool, false, get_or, length, ap, ◌∙◌, arith, rules}, lemmas.List.{length-replicate}}
 use Rattle.std.specs.Int.{div_ceil}
-use Rattle.std.proofs.lemmas.List.{length-replicate}
 use Rattle.gs_model.specs.Frame.{point_count}
 use Rattle.gs_best.specs.Tables.{start_of}
-use Rattle.gs_play.specs.Lines.{flat, line_at}
-use Rattle.gs_play.specs.declared.line.Line.{Line}
+use Rattle.gs_play.specs.{Lines.{flat, line_at}, declared.line.Line.{Line}}
 use Rattle.gs_play.proofs.Clear.{same_at}
 use Rattle.gs_play.proofs.tally.tally_of.Goals as goal
 

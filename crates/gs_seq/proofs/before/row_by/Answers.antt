@@ -1,4 +1,4 @@
-use Rattle.gs_seq.proofs.SlotLaws.{over}
+use Rattle.gs_seq.proofs.{SlotLaws.{over}, Stopped.{row_fits, row_is, same_signals, ways_few}, before.row_by.Goals.{After-deref, Start}}
 use Rattle.gs_model.proofs.Walked.{last_round_of}
 use Rattle.std.proofs.{Common.{◌≡◌, ◌*◌, ◌<◌, ◌≤◌, sum_by, length, ap, sym, ◌∙◌, subst, arith}, Math.Nat.{mul-le-mul_right}}
 use Rattle.std.proofs.lemmas.List.Sums.{count_by-le-length}
@@ -8,7 +8,6 @@ use Rattle.gs_lossless.proofs.{Descent.{list_long}, Settled.{if_ok}, SideOf.{as_
 use Rattle.gs_model.specs.{Classes.{list_of}, Game.{round_count}, Signals.{signals}}
 use Rattle.gs_tree.specs.Trees.{rules_of}
 use Rattle.gs_seq.specs.{Games.{frame_in}, Rows.{IsRow, gathered}}
-use Rattle.gs_seq.proofs.{Stopped.{row_fits, row_is, same_signals, ways_few}, before.row_by.Goals.{After-deref, Start}}
 use Rattle.gs_seq.proofs.before.row_by.Goals as goal
 
 top : (c : Start) → c.args.at.now.round ≤ round_count (rules_of c.args.at.now.signals.now)

@@ -1,5 +1,4 @@
-use Rattle.std.proofs.Common.{◌≡◌, ◌+◌, All, get_or, sym, ap, ◌∙◌, subst, arith, map, rules, sum_by}
-use Rattle.std.proofs.lemmas.List.Sorted.{IsNonDecreasingBy-from_sort_by_key}
+use Rattle.std.proofs.{Common.{◌≡◌, ◌+◌, All, get_or, sym, ap, ◌∙◌, subst, arith, map, rules, sum_by}, lemmas.List.Sorted.{IsNonDecreasingBy-from_sort_by_key}}
 use Rattle.std.specs.Prelude.{flat_map}
 use Rattle.gs_filter.specs.Filter.{Filter}
 use Rattle.gs_lossless.proofs.Settled.{if_ok}

@@ -1,4 +1,4 @@
-use Rattle.gs_seq.proofs.Points.{length-points}
+use Rattle.gs_seq.proofs.{Points.{length-points}, Choices.{some_move}, Firsts.{first_came, first_kept, first_put, first_room, slots_own}, Leaks.{RowAt, row_at}}
 use Rattle.std.proofs.Common.{◌≡◌, ◌+◌, ◌-◌, ◌*◌, ◌<◌, ◌≤◌, ◌^◌, length, get_or, set, ap, sym, ◌∙◌, subst, arith, ⊎_elim, get_or-set_other}
 use Rattle.std.proofs.{Math.Nat.{mul-le-mul_right}, lemmas.Bool.{cases_eq}}
 use Rattle.gs_game.specs.Games.{game_of}
@@ -6,7 +6,6 @@ use Rattle.gs_model.specs.{Classes.{IsClass, class_count, first_member}, Frame.{
 use Rattle.gs_model.specs.{Plans.{lift, number_before}, Positions.{at_point}}
 use Rattle.gs_model.proofs.Ranges.{in_range}
 use Rattle.gs_seq.specs.{Firsts.{AgreeBefore, IsClear, IsFirstAt}, Games.{frame_in}, Slots.{plan_of, slots_before}, Sources.{MatchSource}}
-use Rattle.gs_seq.proofs.{Choices.{some_move}, Firsts.{first_came, first_kept, first_put, first_room, slots_own}, Leaks.{RowAt, row_at}}
 use Rattle.gs_seq.proofs.{Points.{Reads, playable, point_reads, round_in, walked_at}, SlotLaws.{over, slots_own_before}}
 use Rattle.gs_seq.proofs.first.put_first.Goals.{After-len-moves, In-loop-before}
 use Rattle.gs_seq.proofs.first.put_first.Goals as goal

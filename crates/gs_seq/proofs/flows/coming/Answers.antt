@@ -1,11 +1,10 @@
-use Rattle.gs_seq.proofs.Points.{length-points}
+use Rattle.gs_seq.proofs.{Points.{length-points}, flows.coming.Goals.{After-index-points-point, In-Some}}
 use Rattle.std.proofs.Common.{◌≡◌, Some, get_or, sym, refl, subst, arith}
 use Rattle.gs_model.specs.{Classes.{IsClass}, Frame.{player_at, round_of}, Positions.{at_point}}
 use Rattle.gs_model.proofs.Ranges.{in_range}
 use Rattle.gs_game.specs.Games.{game_of}
 use Rattle.gs_seq.specs.{Games.{frame_in}, Slots.{slots_before}, Sources.{MatchSource}}
 use Rattle.gs_seq.proofs.{Coming.{SourceFacts, number_above, source_facts}, Points.{place_reads, playable, walked_at}, SlotLaws.{over, slots_few}}
-use Rattle.gs_seq.proofs.flows.coming.Goals.{After-index-points-point, In-Some}
 use Rattle.gs_seq.proofs.flows.coming.Goals as goal
 
 -- the step before the point

@@ -1,5 +1,4 @@
-use Rattle.std.proofs.Common.{arith}
-use Rattle.std.proofs.lemmas.Grind.{common_steps}
+use Rattle.std.proofs.{Common.{arith}, lemmas.Grind.{common_steps}}
 use Rattle.gs_seq.proofs.rows.listed_counts.Goals as goal
 
 pub loop-in_round-preserved : goal.loop-in_round-preserved

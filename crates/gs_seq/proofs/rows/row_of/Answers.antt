@@ -1,5 +1,4 @@
-use Rattle.std.proofs.lemmas.Grind.{common_steps}
-use Rattle.std.proofs.Common.{ap, arith, pos, reverse, ◌∙◌}
+use Rattle.std.proofs.{lemmas.Grind.{common_steps}, Common.{ap, arith, pos, reverse, ◌∙◌}}
 use Rattle.gs_lossless.specs.declared.parts.Part.{Part}
 use Rattle.gs_seq.specs.{Rows.{join}, declared.pair.Pair.{Pair}}
 use Rattle.gs_seq.proofs.Gathered.{gathered_few, gathered_more}

@@ -1,10 +1,9 @@
-use Rattle.gs_seq.proofs.Points.{length-points}
+use Rattle.gs_seq.proofs.{Points.{length-points, point_reads, round_in, walked}, SlotLaws.{class_few, moves_few, over}}
 use Rattle.std.proofs.{Common.{◌≡◌, ◌*◌, ◌<◌, ◌≤◌, ◌^◌, true, false, refl, ap, sym, ◌∙◌, arith}, Math.Nat.{mul-le-mul_right}, lemmas.Bool.Decides.{Decides-eqb}}
 use Rattle.std.specs.Prelude.{◌==◌}
 use Rattle.gs_model.specs.{Classes.{class_count}, Frame.{move_count, player_at, round_of}, Positions.{at_point}}
 use Rattle.gs_model.proofs.Basics.{not_eq}
 use Rattle.gs_seq.specs.Games.{frame_in}
-use Rattle.gs_seq.proofs.{Points.{point_reads, round_in, walked}, SlotLaws.{class_few, moves_few, over}}
 use Rattle.gs_seq.proofs.slots.slots_at.Goals as goal
 
 pub classes-requires-clause-some : goal.classes-requires-clause-some

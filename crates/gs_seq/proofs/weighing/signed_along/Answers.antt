@@ -1,5 +1,4 @@
-use Rattle.std.proofs.Common.{rules, ◌≡◌, ◌*◌, ◌<◌, ◌^◌, ◌∙◌, ap, arith, get_or, of_z, pos, subst, sym, to_z}
-use Rattle.std.proofs.lemmas.List.{take_all}
+use Rattle.std.proofs.{Common.{rules, ◌≡◌, ◌*◌, ◌<◌, ◌^◌, ◌∙◌, ap, arith, get_or, of_z, pos, subst, sym, to_z}, lemmas.List.{take_all}}
 use Rattle.std.specs.{Int.{w128}, Prelude.{◌*ℤ◌, unsigned_abs}}
 use Rattle.gs_model.specs.Sums.{sum_z}
 use Rattle.gs_seq.specs.declared.pair.Pair.{Pair}

@@ -1,6 +1,5 @@
 use Rattle.std.proofs.Common.{◌≡◌, ◌≢◌, inl, inr, ℕ, ◌+◌, ◌<◌, List, length, slice_index, slice_index_or, slice_set, sym, ap, ◌∙◌, arith, get_or-set_other}
-use Rattle.std.proofs.Common.{get_or-set_same}
-use Rattle.std.proofs.lemmas.Bool.{cases_eq}
+use Rattle.std.proofs.{Common.{get_or-set_same}, lemmas.Bool.{cases_eq}}
 use Rattle.gs_simplex.proofs.PairLists.{IsMarked, less_one, no_column, place_of}
 use Rattle.gs_simplex.specs.{declared.program.Program.{Program}, Program.{Listing, IsPairList}}
 use Rattle.gs_simplex.proofs.best.mark_rows.Goals as goal

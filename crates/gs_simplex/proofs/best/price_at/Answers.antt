@@ -1,5 +1,4 @@
-use Rattle.std.proofs.Common.{◌≡◌, ◌+◌, pos, neg_ℤ, ◌-ℤ◌, ◌*ℤ◌, to_z, of_z, sym, ap, ◌∙◌, arith}
-use Rattle.std.proofs.lemmas.Grind.{common_steps}
+use Rattle.std.proofs.{Common.{◌≡◌, ◌+◌, pos, neg_ℤ, ◌-ℤ◌, ◌*ℤ◌, to_z, of_z, sym, ap, ◌∙◌, arith}, lemmas.Grind.{common_steps}}
 use mir.Syntax.{w128}
 use Rattle.gs_simplex.specs.Table.{grid_of, table_aim}
 use Rattle.gs_simplex.proofs.{Fits.{widened, negated}, Tables.{flipped_other}}

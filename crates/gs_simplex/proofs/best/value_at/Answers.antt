@@ -1,5 +1,4 @@
-use Rattle.std.proofs.Common.{◌≡◌, ℕ, ◌+◌, ◌-◌, ◌*ℤ◌, to_z, of_z, sym, ap, subst, ◌∙◌, arith}
-use Rattle.std.proofs.lemmas.Grind.{common_steps}
+use Rattle.std.proofs.{Common.{◌≡◌, ℕ, ◌+◌, ◌-◌, ◌*ℤ◌, to_z, of_z, sym, ap, subst, ◌∙◌, arith}, lemmas.Grind.{common_steps}}
 use mir.Syntax.{w128}
 use Rattle.gs_simplex.specs.Table.{grid_of}
 use Rattle.gs_simplex.proofs.Fits.{widened}

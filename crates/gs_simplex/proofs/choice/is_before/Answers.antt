@@ -1,6 +1,5 @@
 use Rattle.std.proofs.Common.{◌≡◌, inl, inr, ℕ, ◌<◌, ◌^◌, Bool, true, false, MatchBool, ℤ, ◌*ℤ◌, ◌≤ℤ◌, unsigned_abs, to_z, of_z, w64, nat_eq, refl, sym, ap}
-use Rattle.std.proofs.Common.{subst, ◌∙◌, arith}
-use Rattle.std.proofs.lemmas.Bool.{ltb-true, ltb-false}
+use Rattle.std.proofs.{Common.{subst, ◌∙◌, arith}, lemmas.Bool.{ltb-true, ltb-false}}
 use mir.Syntax.{w128}
 use Rattle.std.specs.Int.Signed.{lt_z}
 use lib.Dec.{ltb}

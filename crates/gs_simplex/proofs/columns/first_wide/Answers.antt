@@ -1,6 +1,5 @@
 use Rattle.std.proofs.Common.{◌≡◌, ◌≢◌, ℕ, ◌+◌, ◌<◌, ◌≤◌, ◌^◌, inl, inr, List, length, slice_index, ℤ, pos, ◌*ℤ◌, unsigned_abs, to_z, of_z, sym, ap, subst}
-use Rattle.std.proofs.Common.{◌∙◌, arith, below_more}
-use Rattle.std.proofs.lemmas.Int.{ints}
+use Rattle.std.proofs.{Common.{◌∙◌, arith, below_more}, lemmas.Int.{ints}}
 use mir.Syntax.{w128}
 use Prim.Native.Nat.{◌∣◌}
 use Rattle.gs_simplex.specs.{Rows.{IsNarrow}, Numbers.{at}, Columns.{place_in, in_columns, IsTimes}}

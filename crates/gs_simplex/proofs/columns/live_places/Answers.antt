@@ -1,5 +1,4 @@
-use Rattle.std.proofs.Common.{◌<◌, length, slice_index, arith}
-use Rattle.std.proofs.lemmas.List.{length-set}
+use Rattle.std.proofs.{Common.{◌<◌, length, slice_index, arith}, lemmas.List.{length-set}}
 use Rattle.gs_simplex.proofs.Living.{skipped, added}
 use Rattle.gs_simplex.proofs.columns.live_places.Goals as goal
 

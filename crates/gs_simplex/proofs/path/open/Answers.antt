@@ -1,5 +1,4 @@
-use Rattle.std.proofs.Common.{◌+◌, sym, subst, arith}
-use Rattle.std.proofs.lemmas.Grind.{elements}
+use Rattle.std.proofs.{Common.{◌+◌, sym, subst, arith}, lemmas.Grind.{elements}}
 use Rattle.gs_simplex.specs.{declared.answer.Stop.{Stop}, Table.{grid_of, IsHeld, IsTableAfter, IsWideAfter}, Answer.{IsStop}}
 use Rattle.gs_simplex.proofs.Paths.{so_far_start, none_of, if_none, open_nonzero, open_wide, open_pairs, open_next, opening_pairs, empty_pairs}
 use Rattle.gs_simplex.proofs.path.open.Goals as goal

@@ -1,9 +1,7 @@
 use Rattle.std.proofs.Common.{◌≡◌, inl, inr, ℕ, ◌+◌, ◌<◌, ◌≤◌, List, length, slice_index, slice_set, ℤ, pos, to_z, w64, sym, ap, subst, ◌∙◌, arith}
-use Rattle.std.proofs.Common.{get_or-set_other, get_or-set_same}
-use Rattle.std.proofs.{lemmas.Bool.{cases_eq, cases_lt, cases_order}, lemmas.Int.{to_z_pos}}
+use Rattle.std.proofs.{Common.{get_or-set_other, get_or-set_same}, lemmas.Bool.{cases_eq, cases_lt, cases_order}, lemmas.Int.{to_z_pos}}
 use Rattle.gs_simplex.specs.{Numbers.{at}, Support.{IsSupport}}
-use Rattle.gs_simplex.proofs.Fits.{kept_64}
-use Rattle.gs_simplex.proofs.Supports.{AreFilled}
+use Rattle.gs_simplex.proofs.{Fits.{kept_64}, Supports.{AreFilled}}
 use Rattle.gs_simplex.proofs.row.fill.Goals as goal
 
 skipped : (row : ℕ → ℤ) (filled : List ℕ) (count j : ℕ) → AreFilled row filled count j → row j ≡ pos 0 → AreFilled row filled count (j + 1)

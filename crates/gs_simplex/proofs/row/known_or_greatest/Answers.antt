@@ -1,5 +1,4 @@
-use Rattle.std.proofs.Common.{arith}
-use Rattle.std.proofs.lemmas.Grind.{common_steps}
+use Rattle.std.proofs.{Common.{arith}, lemmas.Grind.{common_steps}}
 use Rattle.gs_simplex.proofs.row.known_or_greatest.Goals as goal
 
 pub returns-then-stays_narrow : goal.returns-then-stays_narrow

@@ -1,6 +1,5 @@
 use Rattle.std.proofs.Common.{ap, arith, ◌+◌, ◌≡◌, ◌≢◌, ◌<◌, ◌≤◌, ◌^◌, ℕ, List, ℤ, ◌-ℤ◌, ◌*ℤ◌, unsigned_abs, length, sym, subst, ◌∙◌, to_z, of_z, w64, set}
-use Rattle.std.proofs.lemmas.Grind.{common_steps}
-use Rattle.std.proofs.Common.{get_or-set_other, get_or-set_same, below_more}
+use Rattle.std.proofs.{lemmas.Grind.{common_steps}, Common.{get_or-set_other, get_or-set_same, below_more}}
 use mir.Syntax.{w128}
 use Rattle.gs_simplex.specs.Numbers.{at}
 use Rattle.gs_simplex.proofs.Fits.{kept_64, kept_128}

@@ -1,5 +1,4 @@
-use Rattle.std.proofs.Common.{arith}
-use Rattle.std.proofs.lemmas.Grind.{common_steps}
+use Rattle.std.proofs.{Common.{arith}, lemmas.Grind.{common_steps}}
 use Rattle.gs_simplex.proofs.Fits.{product_kept, mixed_fits, mixed_kept, mixed_small}
 use Rattle.gs_simplex.proofs.row.mixed_number.Goals as goal
 

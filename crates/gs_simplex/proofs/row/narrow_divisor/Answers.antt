@@ -1,6 +1,5 @@
 use Rattle.std.proofs.Common.{◌≡◌, arith, ◌+◌, ◌<◌, ◌-◌, ◌^◌, ℕ, ℤ, List, pos, length, slice_index, subst, unsigned_abs, sym, ap, ◌∙◌, to_z, of_z, w64}
-use Rattle.std.proofs.lemmas.Grind.{common_steps}
-use Rattle.std.proofs.{lemmas.Int.{to_z_pos}, lemmas.Nat.Gcd.{dvd-zero}}
+use Rattle.std.proofs.{lemmas.Grind.{common_steps}, lemmas.Int.{to_z_pos}, lemmas.Nat.Gcd.{dvd-zero}}
 use Prim.Native.Nat.{◌∣◌}
 use Rattle.gs_simplex.specs.{Support.{IsSupport}, Numbers.{at, IsDivisor}}
 use Rattle.gs_simplex.proofs.{Reduce.{nothing_common, one_more, one_of_all, one_zero}, Fits.{kept_64}, Supports.{everywhere}}

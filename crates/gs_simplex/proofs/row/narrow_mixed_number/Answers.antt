@@ -1,5 +1,4 @@
-use Rattle.std.proofs.lemmas.Grind.{common_steps}
-use Rattle.std.proofs.{Common.{◌*◌, unsigned_abs, ◌-ℤ◌, ◌*ℤ◌, w64, arith}, lemmas.Int.{fits_signed_from_abs}}
+use Rattle.std.proofs.{lemmas.Grind.{common_steps}, Common.{◌*◌, unsigned_abs, ◌-ℤ◌, ◌*ℤ◌, w64, arith}, lemmas.Int.{fits_signed_from_abs}}
 use Rattle.gs_simplex.proofs.Fits.{kept_64, narrow_product, narrow_difference}
 use Rattle.gs_simplex.proofs.row.narrow_mixed_number.Goals as goal
 

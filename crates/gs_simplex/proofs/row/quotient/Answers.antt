@@ -1,6 +1,5 @@
-use Rattle.std.proofs.lemmas.Grind.{common_steps}
+use Rattle.std.proofs.{lemmas.Grind.{common_steps}, Common.{◌<◌, ◌^◌, unsigned_abs, w64, ap, arith}, lemmas.Int.{to_z_pos}}
 use Rattle.gs_simplex.proofs.Fits.{quotient_kept, quotient_within, quotient_64, stored, kept_128}
-use Rattle.std.proofs.{Common.{◌<◌, ◌^◌, unsigned_abs, w64, ap, arith}, lemmas.Int.{to_z_pos}}
 use Rattle.gs_simplex.proofs.row.quotient.Goals as goal
 
 pub returns-clause-value : goal.returns-clause-value

@@ -1,7 +1,5 @@
 use Rattle.std.proofs.Common.{◌≡◌, ℕ, ◌+◌, ◌*◌, ◌<◌, ◌≤◌, ◌^◌, ℤ, pos, ◌-ℤ◌, ◌*ℤ◌, ◌<ℤ◌, unsigned_abs, length, slice_index, to_z, of_z, w64, sym, ap, subst}
-use Rattle.std.proofs.lemmas.Grind.{common_steps}
-use Rattle.std.proofs.Common.{◌∙◌, arith}
-use Rattle.std.proofs.{lemmas.Nat.{mul-le}, lemmas.Bool.Decides.{when_true, when_false}}
+use Rattle.std.proofs.{lemmas.Grind.{common_steps}, Common.{◌∙◌, arith}, lemmas.Nat.{mul-le}, lemmas.Bool.Decides.{when_true, when_false}}
 use Rattle.gs_simplex.specs.{Rows.{IsNarrow}, Numbers.{at, IsShared, IsMultiple, IsQuotient, HasWideQuotient}, Support.{IsSupport, IsChange}}
 use Rattle.gs_simplex.proofs.{Fits.{kept_64, narrow_passed, difference_bound}, Supports.{support_mixed, support_row}}
 use Rattle.gs_simplex.proofs.Reduce.{kept_mixed, divisor_small, by_divides, mixed_times, reduced_from, reduced_wide}

@@ -1,5 +1,4 @@
-use Rattle.std.proofs.Common.{◌≡◌, ℕ, ◌+◌, ◌*◌, List, length, drop, slice_index, ℤ, sym, ap, subst, ◌∙◌, arith}
-use Rattle.std.proofs.lemmas.List.{take_at}
+use Rattle.std.proofs.{Common.{◌≡◌, ℕ, ◌+◌, ◌*◌, List, length, drop, slice_index, ℤ, sym, ap, subst, ◌∙◌, arith}, lemmas.List.{take_at}}
 use Rattle.gs_simplex.specs.{Numbers.{at}, Columns.{IsSetRow}, State.{raw}}
 use Rattle.gs_simplex.proofs.Slots.{raw_more, set_same}
 use Rattle.gs_simplex.proofs.start.raw_numbers.Goals as goal

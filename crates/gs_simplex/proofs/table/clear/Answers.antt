@@ -1,6 +1,5 @@
 use Rattle.std.proofs.Common.{◌≡◌, IfNone, MatchOption, Option, Some, None, ◌⊎◌, inl, inr, ℕ, ◌+◌, ◌-◌, ◌*◌, ◌<◌, ◌≤◌, List, ◌++◌, length, take, drop, ℤ, pos}
-use Rattle.std.proofs.Common.{sym, ap, subst, ◌∙◌, arith}
-use Rattle.std.proofs.{lemmas.List.{take_at}, lemmas.List.Edits.{Swapped, swapped_from_swap}}
+use Rattle.std.proofs.{Common.{sym, ap, subst, ◌∙◌, arith}, lemmas.List.{take_at}, lemmas.List.Edits.{Swapped, swapped_from_swap}}
 use Rattle.gs_simplex.specs.{declared.table.WideRow.{WideRow}, Numbers.{at, cell, AreTops}}
 use Rattle.gs_simplex.specs.Columns.{IsRowLed, IsLive, AreRowsCleared, AreRowsClearedTo, IsPivotDone, IsPivotWide}
 use Rattle.gs_simplex.proofs.{Places.{row_ends}, Pivoting.{live_rows, tops_rows, pivot_wide, pivot_done, last_tops}}

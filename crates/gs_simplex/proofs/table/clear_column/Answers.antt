@@ -1,8 +1,7 @@
 use Rattle.std.proofs.Common.{◌≡◌, ◌≢◌, ◌⊎◌, ℕ, ◌+◌, ◌*◌, ◌<◌, ◌≤◌, ℤ, List, length, slice_index, refl, sym, subst, ◌∙◌, arith, below_more}
 use Rattle.std.proofs.lemmas.Grind.{common_steps}
 use Rattle.gs_simplex.specs.{Numbers.{at, cell, IsAtMost}, Columns.{IsRowCleared}}
-use Rattle.gs_simplex.proofs.Places.{at_most_same, row_stays, row_inside, rows_left, tops_more, tops_left_more}
-use Rattle.gs_simplex.proofs.Standing.{slot_freed_same, row_cleared_same}
+use Rattle.gs_simplex.proofs.{Places.{at_most_same, row_stays, row_inside, rows_left, tops_more, tops_left_more}, Standing.{slot_freed_same, row_cleared_same}}
 use Rattle.gs_simplex.proofs.table.clear_column.Goals as goal
 
 pub loop-i-preserved-then-i-lead : goal.loop-i-preserved-then-i-lead

@@ -1,7 +1,6 @@
 use Rattle.std.proofs.Common.{◌≡◌, MatchResult, Result, Ok, Err, ℕ, ◌+◌, ◌-◌, ◌<◌, ◌≤◌, ℤ, length, List, take, drop, refl, sym, subst, ◌∙◌, arith}
 use borrow.Rule.Slice.PartMut.{put_mid}
-use Rattle.gs_simplex.specs.Numbers.{at, AreNarrowNumbers, AllAtMost, IsAtMost, IsMixed, IsWideReduced}
-use Rattle.gs_simplex.specs.{Columns.{IsSlotFreed, IsRowCleared}}
+use Rattle.gs_simplex.specs.{Numbers.{at, AreNarrowNumbers, AllAtMost, IsAtMost, IsMixed, IsWideReduced}, Columns.{IsSlotFreed, IsRowCleared}}
 use Rattle.gs_simplex.proofs.Places.{at_part, part_long, length_put, at_put_inside, narrow_put, multiple_same, at_most_same, others_put}
 use Rattle.gs_simplex.proofs.table.reduce_at.Goals.{After-free_slot}
 use Rattle.gs_simplex.proofs.table.reduce_at.Goals as goal

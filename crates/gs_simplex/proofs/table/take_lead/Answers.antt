@@ -1,5 +1,4 @@
-use Rattle.std.proofs.Common.{◌≡◌, inl, inr, ℕ, ◌+◌, ◌-◌, ◌<◌, ◌≤◌, ℤ, List, length, take, drop, refl, sym, subst, ◌∙◌, arith}
-use Rattle.std.proofs.lemmas.Grind.{common_steps}
+use Rattle.std.proofs.{Common.{◌≡◌, inl, inr, ℕ, ◌+◌, ◌-◌, ◌<◌, ◌≤◌, ℤ, List, length, take, drop, refl, sym, subst, ◌∙◌, arith}, lemmas.Grind.{common_steps}}
 use Rattle.gs_simplex.specs.{Numbers.{at, AreNarrowNumbers, IsLeadOf}, Columns.{IsOwnFreed, IsRowLed}}
 use Rattle.gs_simplex.proofs.Places.{at_part, part_long, others_put, narrow_put, length_put}
 use Rattle.gs_simplex.proofs.table.take_lead.Goals as goal

@@ -1,6 +1,5 @@
 use Rattle.std.proofs.Common.{◌≡◌, ◌≢◌, ℕ, ◌+◌, ◌<◌, ℤ, pos, ◌-ℤ◌, neg_ℤ, unsigned_abs, List, length, set, to_z, of_z, w64, FitsSigned, sym, ap, subst, ◌∙◌}
-use Rattle.std.proofs.Common.{arith, below_more, get_or-set_other, get_or-set_same}
-use Rattle.std.proofs.lemmas.Int.{ints, fits_signed_from_abs}
+use Rattle.std.proofs.{Common.{arith, below_more, get_or-set_other, get_or-set_same}, lemmas.Int.{ints, fits_signed_from_abs}}
 use Rattle.gs_simplex.specs.{Rows.{IsNarrow}, Numbers.{at}}
 use Rattle.gs_simplex.proofs.Fits.{kept_64}
 use Rattle.gs_simplex.proofs.table.turn.Goals as goal

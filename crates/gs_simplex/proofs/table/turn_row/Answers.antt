@@ -1,5 +1,4 @@
-use Rattle.std.proofs.Common.{arith}
-use Rattle.std.proofs.lemmas.Grind.{common_steps}
+use Rattle.std.proofs.{Common.{arith}, lemmas.Grind.{common_steps}}
 use Rattle.gs_simplex.proofs.table.turn_row.Goals as goal
 
 pub returns-then-row-c-lt0-clause-turned : goal.returns-then-row-c-lt0-clause-turned

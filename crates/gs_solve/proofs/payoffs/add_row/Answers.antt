@@ -1,6 +1,5 @@
 use Rattle.std.proofs.Common.{◌≡◌, ◌+◌, ◌*◌, ◌^◌, ◌<◌, List, length, get_or, take, refl, ap, ◌∙◌, arith, rules, pos, ◌*ℤ◌, unsigned_abs, FitsSigned, of_z, to_z}
-use Rattle.std.proofs.Common.{to_z-of_z}
-use Rattle.std.proofs.{lemmas.Nat.{mul-add-lt}, Math.Nat.{mul_comm}}
+use Rattle.std.proofs.{Common.{to_z-of_z}, lemmas.Nat.{mul-add-lt}, Math.Nat.{mul_comm}}
 use Rattle.std.specs.Int.{w64}
 use Rattle.gs_model.specs.{Frame.{end_at}, Sums.{sum_z}}
 use Rattle.gs_model.proofs.Sparse.{abs_sum}

@@ -1,8 +1,7 @@
 use Rattle.std.proofs.Common.{◌≡◌, ◌<◌, List, arith, get_or, length, refl, subst, sym}
-use Rattle.gs_lossless.specs.declared.parts.Part.{Part}
+use Rattle.gs_lossless.specs.{declared.parts.Part.{Part}, Amounts.{AreAmounts}, declared.side_keys.SideKeys.{SideKeys}}
 use Rattle.gs_model.specs.{Classes.{list_of}, Frame.{frame_of, signal_count}, Signals.{signals}}
 use Rattle.gs_tree.specs.Trees.{rules_of}
-use Rattle.gs_lossless.specs.{Amounts.{AreAmounts}, declared.side_keys.SideKeys.{SideKeys}}
 use Rattle.gs_lossless.proofs.{Merge.{part_decides}, Scanned.{side_classes, side_signals}}
 use Rattle.gs_filter.proofs.Linked.{member_first}
 use Rattle.gs_iso.proofs.Numbered.{number_leads}

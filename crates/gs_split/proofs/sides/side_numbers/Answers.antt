@@ -1,15 +1,11 @@
 use Rattle.std.proofs.Common.{◌≡◌, ◌≤◌, ◌<◌, ◌∙◌, ◌+◌, ◌++◌, ℕ, Bool, true, false, List, ap, arith, drop, get_or, length, refl, subst, sym, take}
 use Rattle.gs_filter.proofs.ClassLaws.{class_at, count_fits}
-use Rattle.gs_model.specs.Classes.{class_count, class_of}
-use Rattle.gs_lossless.proofs.Marked.{whole}
-use Rattle.gs_lossless.specs.declared.sides.Side.{Side}
-use Rattle.gs_model.specs.Frame.{frame_of, signal_count}
+use Rattle.gs_model.specs.{Classes.{class_count, class_of}, Frame.{frame_of, signal_count}}
+use Rattle.gs_lossless.proofs.{Marked.{whole}, Scanned.{side_classes, side_signals}, SideOf.{as_asked}}
+use Rattle.gs_lossless.specs.{declared.sides.Side.{Side}, Amounts.{AreSideFirsts}}
 use Rattle.gs_tree.specs.Trees.{rules_of}
-use Rattle.gs_lossless.specs.Amounts.{AreSideFirsts}
-use Rattle.gs_lossless.proofs.{Scanned.{side_classes, side_signals}, SideOf.{as_asked}}
 use Rattle.gs_split.specs.Turns.{AreMemberNumbers, AreSettled, AreSideNumbers}
-use Rattle.gs_split.proofs.MemberNumbers.{AreDone, done_all, done_more, done_settled}
-use Rattle.gs_split.proofs.sides.side_numbers.Goals.{In_ok-firsts, Start}
+use Rattle.gs_split.proofs.{MemberNumbers.{AreDone, done_all, done_more, done_settled}, sides.side_numbers.Goals.{In_ok-firsts, Start}}
 use Rattle.gs_split.proofs.sides.side_numbers.Goals as goal
 
 pub side_firsts-requires : goal.side_firsts-requires

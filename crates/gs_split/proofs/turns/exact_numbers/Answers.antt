@@ -1,6 +1,5 @@
 use Rattle.std.proofs.Common.{◌≡◌, ◌+◌, ◌-◌, ◌≤◌, ◌++◌, ◌∷◌, ℕ, true, false, suc, List, [], ap, arith, get_or, length, length-append, subst, sym, ◌∙◌, Vec}
-use Rattle.std.proofs.Common.{Global}
-use Rattle.std.proofs.lemmas.List.{map-append}
+use Rattle.std.proofs.{Common.{Global}, lemmas.List.{map-append}}
 use Rattle.gs_model.specs.{Classes.{ClassLists}, Frame.{frame_of, last_round}, Rows.{rows}}
 use Rattle.gs_model.proofs.Walked.{last_round_of}
 use Rattle.gs_tree.specs.Trees.{rules_of}

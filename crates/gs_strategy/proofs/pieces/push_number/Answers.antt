@@ -1,5 +1,4 @@
-use Rattle.std.proofs.Common.{rules, List, ℕ, ◌++◌, ap, sym, ◌∙◌}
-use Rattle.std.proofs.lemmas.Fmt.{decimal_digit, length-decimal-le}
+use Rattle.std.proofs.{Common.{rules, List, ℕ, ◌++◌, ap, sym, ◌∙◌}, lemmas.Fmt.{decimal_digit, length-decimal-le}}
 use Rattle.gs_strategy.proofs.pieces.push_number.Goals as goal
 
 pub returns-then-number-lt10 : goal.returns-then-number-lt10

@@ -5,8 +5,7 @@ use Rattle.gs_model.specs.{Classes.{ClassLists}, Rows.{rows}}
 use Rattle.gs_lossless.proofs.Descent.{valid_parents}
 use Rattle.gs_seq.specs.Games.{frame_in}
 use Rattle.gs_strategy.specs.Checks.{ChecksClasses}
-use Rattle.gs_strategy.proofs.Refused.{classes_fail, same_classes}
-use Rattle.gs_strategy.proofs.reading.classes_from.Goals.{After-deref}
+use Rattle.gs_strategy.proofs.{Refused.{classes_fail, same_classes}, reading.classes_from.Goals.{After-deref}}
 use Rattle.gs_strategy.proofs.reading.classes_from.Goals as goal
 
 -- the parents of the signals are those of the game

@@ -4,8 +4,7 @@ use Rattle.gs_model.specs.{Classes.{list_of}, Signals.{signal_at, signals}}
 use Rattle.gs_tree.specs.{Texts.{signal_text}, Trees.{deck_of, rules_of}}
 use Rattle.gs_filter.proofs.Linked.{member_first}
 use Rattle.gs_text.specs.ClassText.{signal_texts}
-use Rattle.gs_text.proofs.Lines.{told_all, told_more, told_none}
-use Rattle.gs_text.proofs.classes.push_class.Goals.{Start}
+use Rattle.gs_text.proofs.{Lines.{told_all, told_more, told_none}, classes.push_class.Goals.{Start}}
 use Rattle.gs_text.proofs.classes.push_class.Goals as goal
 
 -- the round has a class for each of its signals

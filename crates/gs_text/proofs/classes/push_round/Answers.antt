@@ -1,11 +1,9 @@
-use Rattle.std.proofs.Common.{◌≡◌, ◌++◌, ℕ, List, ap, append_assoc, arith, length, string_bytes, sym, ◌∙◌}
-use Rattle.std.proofs.lemmas.List.{append-nil, length-map}
+use Rattle.std.proofs.{Common.{◌≡◌, ◌++◌, ℕ, List, ap, append_assoc, arith, length, string_bytes, sym, ◌∙◌}, lemmas.List.{append-nil, length-map}}
 use Rattle.std.specs.{Prelude.{flat_map}, List.{range_with_len, zip}}
 use Rattle.gs_model.specs.{Classes.{class_count, list_of}, Signals.{signals}}
 use Rattle.gs_tree.specs.{Texts.{signal_text}, Trees.{deck_of, rules_of}}
 use Rattle.gs_text.specs.ClassText.{class_line, round_line, signal_texts}
-use Rattle.gs_text.proofs.Lines.{lines-more}
-use Rattle.gs_text.proofs.classes.push_round.Goals.{Start}
+use Rattle.gs_text.proofs.{Lines.{lines-more}, classes.push_round.Goals.{Start}}
 use Rattle.gs_text.proofs.classes.push_round.Goals as goal
 
 -- the line of the round, with its numbers of classes and signals

@@ -1,5 +1,4 @@
-use Rattle.std.proofs.Common.{◌≡◌, ◌-◌, ◌<◌, ℕ, List, [], ap, arith, get_or, length, string_bytes, sym, ◌∙◌}
-use Rattle.std.proofs.lemmas.List.{get_or-map, length-map}
+use Rattle.std.proofs.{Common.{◌≡◌, ◌-◌, ◌<◌, ℕ, List, [], ap, arith, get_or, length, string_bytes, sym, ◌∙◌}, lemmas.List.{get_or-map, length-map}}
 use Rattle.gs_model.specs.Signals.{parents, signal_at, signals}
 use Rattle.gs_model.proofs.Ranges.{length-parents}
 use Rattle.gs_tree.specs.{Texts.{signal_text}, Trees.{deck_of, rules_of}}

@@ -1,5 +1,4 @@
-use Rattle.std.proofs.Common.{◌∙◌, ◌++◌, ◌<◌, ℕ, List, [], ◌∷◌, map, take, length, string_bytes, ap, sym, arith}
-use Rattle.std.proofs.lemmas.List.{map_more, map_push}
+use Rattle.std.proofs.{Common.{◌∙◌, ◌++◌, ◌<◌, ℕ, List, [], ◌∷◌, map, take, length, string_bytes, ap, sym, arith}, lemmas.List.{map_more, map_push}}
 use Rattle.gs_model.specs.Signals.{Signal, signals}
 use Rattle.gs_tree.specs.{Texts.{signal_text}, Trees.{rules_of, deck_of}}
 use Rattle.gs_text.proofs.classes.signal_texts.Goals as goal

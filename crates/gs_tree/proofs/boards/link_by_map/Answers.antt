@@ -1,5 +1,4 @@
-use Rattle.std.proofs.Common.{◌≡◌, suc, ◌+◌, ℕ, List, Option, Some, cond, ap, ◌∙◌, arith}
-use Rattle.std.proofs.lemmas.Grind.{common_steps}
+use Rattle.std.proofs.{Common.{◌≡◌, suc, ◌+◌, ℕ, List, Option, Some, cond, ap, ◌∙◌, arith}, lemmas.Grind.{common_steps}}
 use Rattle.std.specs.Prelude.{nat_eq}
 use lib.Pointwise.{pointwise}
 use Rattle.gs_game.specs.Games.{game_of}

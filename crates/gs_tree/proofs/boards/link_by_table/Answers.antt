@@ -1,5 +1,4 @@
-use Rattle.std.proofs.Common.{◌≡◌, ◌+◌, ◌<◌, ◌^◌, ℕ, List, set, length, refl, sym, ap, ◌∙◌, subst, arith}
-use Rattle.std.proofs.lemmas.Grind.{common_steps}
+use Rattle.std.proofs.{Common.{◌≡◌, ◌+◌, ◌<◌, ◌^◌, ℕ, List, set, length, refl, sym, ap, ◌∙◌, subst, arith}, lemmas.Grind.{common_steps}}
 use Rattle.gs_card.specs.Decks.{kinds}
 use Rattle.gs_game.specs.Games.{game_of}
 use Rattle.gs_model.specs.{Game.{Game, round_count}, Signals.{public_cards, signal_at}}

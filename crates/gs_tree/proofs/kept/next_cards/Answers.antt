@@ -1,7 +1,5 @@
 use Rattle.std.proofs.Common.{◌≡◌, ◌*◌, ◌<◌, ◌++◌, ℕ, List, [], suc, length, map, drop, take, take_all, get_or, slice_index, refl, sym, ap, ◌∙◌, subst}
-use Rattle.std.proofs.lemmas.Grind.{common_steps}
-use Rattle.std.proofs.Common.{append_assoc, arith}
-use Rattle.std.proofs.{lemmas.Grind.{get_or_default_zero}, lemmas.List.{length-map}}
+use Rattle.std.proofs.{lemmas.Grind.{common_steps, get_or_default_zero}, Common.{append_assoc, arith}, lemmas.List.{length-map}}
 use Rattle.std.specs.Prelude.{flat_map, IfOk}
 use Rattle.gs_game.specs.{Games.{game_of, round_rules}, declared.game.Round.{Round}}
 use Rattle.gs_model.specs.{Game.{Game}, Signals.{Seen, Signal, signal_at, signals}}

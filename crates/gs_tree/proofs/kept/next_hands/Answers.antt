@@ -1,5 +1,4 @@
-use Rattle.std.proofs.lemmas.Grind.{common_steps}
-use Rattle.std.proofs.{Common.{◌≡◌, ◌≤◌, ℕ, List, [], suc, length, take, ap, ◌∙◌, arith}, lemmas.List.{length-map}}
+use Rattle.std.proofs.{lemmas.Grind.{common_steps}, Common.{◌≡◌, ◌≤◌, ℕ, List, [], suc, length, take, ap, ◌∙◌, arith}, lemmas.List.{length-map}}
 use Rattle.std.specs.Prelude.{max}
 use Rattle.gs_game.specs.{Games.{game_of}, Refusals.{own_card_total as own_count, public_card_total as public_count}}
 use Rattle.gs_model.specs.{Deals.{path_weight}, Game.{Game}, Signals.{Signal, own_cards, public_cards, signals}}

@@ -1,5 +1,4 @@
-use Rattle.std.proofs.Common.{arith}
-use Rattle.std.proofs.lemmas.Grind.{common_steps}
+use Rattle.std.proofs.{Common.{arith}, lemmas.Grind.{common_steps}}
 use Rattle.gs_tree.proofs.kept.parent_cards.Goals as goal
 
 pub loop-parent-preserved : goal.loop-parent-preserved

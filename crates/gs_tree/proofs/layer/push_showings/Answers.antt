@@ -1,9 +1,8 @@
-use Rattle.std.proofs.Common.{◌≡◌, ◌++◌, ◌*◌, ℕ, List, map, length, ◌<◌, ◌≤◌, get_or, take_all, ap, subst, sym, ◌∙◌, arith}
+use Rattle.std.proofs.{Common.{◌≡◌, ◌++◌, ◌*◌, ℕ, List, map, length, ◌<◌, ◌≤◌, get_or, take_all, ap, subst, sym, ◌∙◌, arith}, lemmas.Grind.{common_steps}}
 use Rattle.std.specs.Prelude.{OnOk, flat_map}
 use Rattle.gs_model.specs.{Cards.{groups, ways, left_after}, Signals.{Seen}}
 use Rattle.gs_game.specs.Games.{round_rules}
 use Rattle.gs_tree.specs.{Layers.{showing}, Shown.{seen_of, cards_of}}
-use Rattle.std.proofs.lemmas.Grind.{common_steps}
 use Rattle.gs_tree.proofs.Pushed.{edges_alone, edges_of, joined_more, shown_alone}
 use Rattle.gs_tree.proofs.layer.push_showings.Goals as goal
 

@@ -1,8 +1,6 @@
 use Rattle.std.proofs.Common.{◌≡◌, ◌<◌, ◌≢◌, ◌*◌, ◌%◌, ◌^◌, ℕ, List, ap, arith, eqb, false, get_or, true, ⊎_elim, ◌∙◌}
-use Rattle.std.proofs.{lemmas.Bool.{cases_eq}, lemmas.List.Sums.{count_by_more_no, count_by_more_yes}}
-use Rattle.std.proofs.lemmas.Nat.Bits.{bit_at_set_other, bit_at_set_same}
-use Rattle.std.specs.Int.{bit_at, w64}
-use Rattle.std.specs.Int.RustNames.{bit_or}
+use Rattle.std.proofs.{lemmas.Bool.{cases_eq}, lemmas.List.Sums.{count_by_more_no, count_by_more_yes}, lemmas.Nat.Bits.{bit_at_set_other, bit_at_set_same}}
+use Rattle.std.specs.{Int.{bit_at, w64}, Int.RustNames.{bit_or}}
 use Rattle.gs_tree.proofs.masks.mask_of.Goals as goal
 
 pub loop-card-preserved : goal.loop-card-preserved

@@ -1,11 +1,9 @@
 use Rattle.std.proofs.Common.{◌≡◌, ◌<◌, ◌+◌, ◌*◌, ◌≤◌, ◌==◌, ◌∙◌, ℕ, List, All, ap, arith, count_by, drop, get_or, length, min, subst, sym, take}
-use Rattle.std.proofs.lemmas.Grind.{common_steps}
-use Rattle.std.proofs.lemmas.List.{length_push}
+use Rattle.std.proofs.{lemmas.Grind.{common_steps}, lemmas.List.{length_push}}
 use Rattle.std.specs.Int.{bit_at}
 use Rattle.gs_game.specs.Games.{game_of}
 use Rattle.gs_model.specs.{Game.{Game, round_count}, Signals.{own_cards, signal_at, signals}}
-use Rattle.gs_tree.proofs.{Hands.{dealt}, Linked.{old_read}, Parts.{own_part, own_room, paths_long}}
-use Rattle.gs_tree.proofs.masks.masks_of.Goals.{After-deref, After-part}
+use Rattle.gs_tree.proofs.{Hands.{dealt}, Linked.{old_read}, Parts.{own_part, own_room, paths_long}, masks.masks_of.Goals.{After-deref, After-part}}
 use Rattle.gs_tree.proofs.masks.masks_of.Goals as goal
 
 -- the signal is one of the last round

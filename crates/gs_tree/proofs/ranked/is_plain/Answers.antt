@@ -1,5 +1,4 @@
-use Rattle.std.proofs.Common.{arith}
-use Rattle.std.proofs.lemmas.Grind.{common_steps}
+use Rattle.std.proofs.{Common.{arith}, lemmas.Grind.{common_steps}}
 use Rattle.gs_tree.proofs.ranked.is_plain.Goals as goal
 
 pub returns-then-hands-eq1-clause-plain : goal.returns-then-hands-eq1-clause-plain

@@ -1,5 +1,4 @@
-use Rattle.std.proofs.lemmas.Grind.{common_steps}
-use Rattle.std.proofs.{Common.{◌≡◌, [], ◌<◌, ℕ, List, length, sym, ◌∙◌, subst, arith}, lemmas.List.Elements.{All-push}}
+use Rattle.std.proofs.{lemmas.Grind.{common_steps}, Common.{◌≡◌, [], ◌<◌, ℕ, List, length, sym, ◌∙◌, subst, arith}, lemmas.List.Elements.{All-push}}
 use Rattle.std.specs.Prelude.{All}
 use Rattle.gs_card.specs.Rankings.{ranking_of}
 use Rattle.gs_rank.specs.Hands.{IsStrength}

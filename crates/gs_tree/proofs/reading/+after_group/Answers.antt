@@ -1,5 +1,4 @@
-use Rattle.std.proofs.Common.{arith}
-use Rattle.std.proofs.lemmas.Grind.{common_steps, elements}
+use Rattle.std.proofs.{Common.{arith}, lemmas.Grind.{common_steps, elements}}
 use Rattle.gs_tree.proofs.reading.+after_group.Goals as goal
 
 pub returns-in-empty : goal.returns-in-empty

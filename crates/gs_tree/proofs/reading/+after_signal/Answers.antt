@@ -1,5 +1,4 @@
-use Rattle.std.proofs.Common.{◌≡◌, ◌++◌, ◌∷◌, [], ◌-◌, ℕ, List, None, Option, Some, Bor, sym, subst, arith}
-use Rattle.std.proofs.lemmas.Grind.{common_steps}
+use Rattle.std.proofs.{Common.{◌≡◌, ◌++◌, ◌∷◌, [], ◌-◌, ℕ, List, None, Option, Some, Bor, sym, subst, arith}, lemmas.Grind.{common_steps}}
 use Rattle.gs_card.specs.Decks.{DeckValue, kinds}
 use Rattle.gs_game.specs.Games.{game_of}
 use Rattle.gs_model.specs.{Game.{Game}, Signals.{signal_at}}

@@ -1,5 +1,4 @@
-use Rattle.std.proofs.Common.{◌++◌, [], ◌∷◌, ℕ, List, None, Option, Bor, subst, sym, arith}
-use Rattle.std.proofs.lemmas.Grind.{common_steps}
+use Rattle.std.proofs.{Common.{◌++◌, [], ◌∷◌, ℕ, List, None, Option, Bor, subst, sym, arith}, lemmas.Grind.{common_steps}}
 use Rattle.gs_card.specs.Decks.{DeckValue}
 use Rattle.gs_tree.specs.{Shown.{cards_of, seen_of}, Texts.{IsRest, group_text, public_text, seen_text}}
 use Rattle.gs_tree.proofs.{Rests.{public_shown, rest_both, rest_none}, reading.after_seen.Goals.{Else-is_empty}}

@@ -1,6 +1,4 @@
-use Rattle.std.proofs.Common.{arith}
-use Rattle.std.proofs.lemmas.Grind.{common_steps}
-use Rattle.std.proofs.{Common.{[], sym, ◌∙◌, append-nil}, lemmas.Bool.{true≢false}}
+use Rattle.std.proofs.{Common.{arith, [], sym, ◌∙◌, append-nil}, lemmas.Grind.{common_steps}, lemmas.Bool.{true≢false}}
 use Rattle.gs_game.specs.Games.{game_of}
 use Rattle.gs_model.specs.Signals.{signal_at}
 use Rattle.gs_tree.specs.Texts.{signal_text}

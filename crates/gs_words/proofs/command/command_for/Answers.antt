@@ -1,5 +1,4 @@
-use Rattle.std.proofs.Common.{arith}
-use Rattle.std.proofs.lemmas.Grind.{common_steps}
+use Rattle.std.proofs.{Common.{arith}, lemmas.Grind.{common_steps}}
 use Rattle.gs_words.proofs.Added.{with_next}
 use Rattle.gs_words.proofs.command.command_for.Goals as goal
 

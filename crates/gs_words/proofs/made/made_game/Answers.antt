@@ -1,5 +1,4 @@
-use Rattle.std.proofs.Common.{◌≡◌, ◌∙◌, ◌++◌, ◌+◌, ◌<◌, ℕ, List, get_or, length, map, take, ap, sym, rules, arith}
-use Rattle.std.proofs.lemmas.Grind.{common_steps}
+use Rattle.std.proofs.{Common.{◌≡◌, ◌∙◌, ◌++◌, ◌+◌, ◌<◌, ℕ, List, get_or, length, map, take, ap, sym, rules, arith}, lemmas.Grind.{common_steps}}
 use Rattle.std.proofs.lemmas.List.{flat_map_more, map_more}
 use Rattle.std.specs.Prelude.{flat_map}
 use Rattle.gs_words.specs.{Made.{round_block, three_numbers}, declared.kind.Round.{Round}}

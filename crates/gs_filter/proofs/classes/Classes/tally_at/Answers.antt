@@ -1,8 +1,7 @@
 use Rattle.std.proofs.Common.{◌≡◌, length, map, ◌∙◌, ap, subst, arith}
 use Rattle.gs_model.specs.Classes.{list_of}
 use Rattle.gs_filter.specs.{Filter.{Filter}, Tallies.{tallies_of}}
-use Rattle.gs_filter.proofs.TallyLaws.{round_tallies, length-tallies_of, tally_read}
-use Rattle.gs_filter.proofs.classes.Classes.tally_at.Goals.{After-index}
+use Rattle.gs_filter.proofs.{TallyLaws.{round_tallies, length-tallies_of, tally_read}, classes.Classes.tally_at.Goals.{After-index}}
 use Rattle.gs_filter.proofs.classes.Classes.tally_at.Goals as goal
 
 module _ (c : After-index) where

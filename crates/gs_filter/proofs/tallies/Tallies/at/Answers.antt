@@ -1,5 +1,4 @@
-use Rattle.std.proofs.Common.{◌<◌, ◌-◌, length, ap, get_or, ◌∙◌, arith}
-use Rattle.std.proofs.lemmas.List.{length-append, get_or_default}
+use Rattle.std.proofs.{Common.{◌<◌, ◌-◌, length, ap, get_or, ◌∙◌, arith}, lemmas.List.{length-append, get_or_default}}
 use Rattle.gs_filter.specs.Tallies.{single_tallies}
 use Rattle.gs_filter.proofs.Singles.{length-singles, read_single, read_rest}
 use Rattle.gs_filter.proofs.tallies.Tallies.at.Goals as goal

@@ -1,5 +1,4 @@
-use Rattle.std.proofs.Common.{length, ap, arith}
-use Rattle.std.proofs.lemmas.List.{length-append}
+use Rattle.std.proofs.{Common.{length, ap, arith}, lemmas.List.{length-append}}
 use Rattle.gs_filter.proofs.Singles.{length-singles}
 use Rattle.gs_filter.specs.Tallies.{single_tallies}
 use Rattle.gs_filter.proofs.tallies.Tallies.len.Goals as goal

@@ -1,6 +1,5 @@
 use Rattle.std.proofs.Common.{length, refl, ◌≡◌, ◌≤◌, ◌++◌, ◌∷◌, ℕ, [], List, length-take, map, take, ap, sym, ◌∙◌, subst, arith, rules}
-use Rattle.std.proofs.lemmas.Grind.{common_steps}
-use Rattle.std.proofs.{lemmas.List.{get_or-take, take-map}, lemmas.List.Elements.{All-from_recursion, recursion_from_All}}
+use Rattle.std.proofs.{lemmas.Grind.{common_steps}, lemmas.List.{get_or-take, take-map}, lemmas.List.Elements.{All-from_recursion, recursion_from_All}}
 use Rattle.std.specs.{Prelude.{All, IfOk, MatchOption, Option, Result, None, ◌≢◌}, declared.alloc.AllocError.{AllocError}, List.{AllByRecursion}}
 use Rattle.gs_card.specs.Decks.{DeckValue}
 use Rattle.gs_model.specs.Game.{Game as Rules, Round as RoundRules, High}

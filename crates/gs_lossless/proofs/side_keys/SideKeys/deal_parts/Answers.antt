@@ -3,9 +3,8 @@ use Rattle.std.specs.Prelude.{◌==◌, filter, slice_index}
 use Rattle.gs_model.specs.{Frame.{frame_of}, Game.{round_count}}
 use Rattle.gs_model.proofs.Walked.{last_round_of}
 use Rattle.gs_tree.specs.{Trees.{rules_of}, Walk.{shows_same}}
-use Rattle.gs_lossless.specs.{Amounts.{ArePartsOf, key_count}, Boards.{strengths_of}, Rivals.{IsRivalTable, is_other, part_against}}
+use Rattle.gs_lossless.specs.{Amounts.{ArePartsOf, key_count}, Boards.{strengths_of}, Rivals.{IsRivalTable, is_other, part_against}, declared.sides.Side.{Side}}
 use Rattle.gs_lossless.specs.{declared.parts.Part.{Part}, declared.rivals.Rival.{Rival}, declared.rivals.Table.{Table}}
-use Rattle.gs_lossless.specs.declared.sides.Side.{Side}
 use Rattle.gs_lossless.proofs.{Descent.{count_last, playable}, SideOf.{many}}
 use Rattle.gs_lossless.proofs.{PartsOf.{of_deals, of_last, same_parts}, Ranks.{strength_at}, Faced.{met_some, table_met}, Scanned.{side_in, side_signals}}
 use Rattle.gs_lossless.proofs.side_keys.SideKeys.deal_parts.Goals as goal

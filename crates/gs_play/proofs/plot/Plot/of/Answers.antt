@@ -1,12 +1,9 @@
-use Rattle.std.proofs.Common.{◌≡◌, List, Option, None, length, get_or, replicate, sym, ap, ◌∙◌, subst, arith, rules}
-use Rattle.std.proofs.lemmas.List.{with_items_is}
+use Rattle.std.proofs.{Common.{◌≡◌, List, Option, None, length, get_or, replicate, sym, ap, ◌∙◌, subst, arith, rules}, lemmas.List.{with_items_is}}
 use Rattle.gs_game.specs.declared.positions.Step.{Step as StoredStep}
 use Rattle.gs_model.specs.{Frame.{end_count, point_count}, Positions.{at_end, at_point}}
 use Rattle.gs_seq.specs.Abstracts.{abstract_frame}
-use Rattle.gs_play.specs.Plots.{AreSpans, AreMovesNoted, MatchMove}
-use Rattle.gs_play.specs.declared.plot.Span.{Span}
-use Rattle.gs_play.proofs.PlotLaws.{ways_match, ways_none}
-use Rattle.gs_play.proofs.plot.Plot.of.Goals.{In_ok-to_ends, In_ok-to_points}
+use Rattle.gs_play.specs.{Plots.{AreSpans, AreMovesNoted, MatchMove}, declared.plot.Span.{Span}}
+use Rattle.gs_play.proofs.{PlotLaws.{ways_match, ways_none}, plot.Plot.of.Goals.{In_ok-to_ends, In_ok-to_points}}
 use Rattle.gs_play.proofs.plot.Plot.of.Goals as goal
 
 no_points : (c : In_ok-to_points) → c.in_ok-to_points.to_points.items ≡ replicate c.point_total-points.result None

@@ -1,8 +1,7 @@
 use Rattle.std.proofs.Common.{ap, arith}
 use Rattle.gs_game.specs.declared.valid.ValidGame.{ValidGame}
 use Rattle.gs_model.specs.Frame.{total_weight}
-use Rattle.gs_seq.specs.Games.{frame_in}
-use Rattle.gs_seq.specs.Abstracts.{game_in}
+use Rattle.gs_seq.specs.{Games.{frame_in}, Abstracts.{game_in}}
 use Rattle.gs_seq.proofs.SomeDeal.{some_deal}
 use Rattle.gs_seq.proofs.form.Abstract.deal_weight.Goals as goal
 

@@ -3,8 +3,7 @@ use Rattle.std.specs.Prelude.{IfSome, pos, ◌*ℤ◌, unsigned_abs}
 use Rattle.gs_model.specs.{Classes.{IsClass}, Frame.{end_at}}
 use Rattle.gs_seq.specs.{Abstracts.{abstract_frame, lists_of}, Payoffs.{AreWholesFor, pair_pays, row_pays}, Rows.{IsRow}, declared.pair.Pair.{Pair}}
 use Rattle.gs_seq.proofs.{Forms.{given_in, one_or_two}, Signed.{read_back}, Turns.{IsAlong}, AlongRows.{row_numbers, row_slim, row_total}}
-use Rattle.gs_seq.proofs.Wholes.{same_sum, whole_few, whole_moderate}
-use Rattle.gs_seq.proofs.form.Abstract.paid.Goals.{After-row, In-Some}
+use Rattle.gs_seq.proofs.{Wholes.{same_sum, whole_few, whole_moderate}, form.Abstract.paid.Goals.{After-row, In-Some}}
 use Rattle.gs_seq.proofs.form.Abstract.paid.Goals as goal
 
 pub row-requires-clause-listed : goal.row-requires-clause-listed

@@ -5,8 +5,7 @@ use Rattle.gs_game.specs.Games.{game_of}
 use Rattle.gs_model.specs.{Classes.{class_count, list_of}, Deals.{Deal, deals}, Frame.{last_round}}
 use Rattle.gs_tree.specs.{Trees.{rules_of}, Walk.{last_count}, declared.signals.Signals.{Signals}}
 use Rattle.gs_seq.specs.{Abstracts.{abstract_frame, lists_of}, Rows.{IsRow, IsSingleIn}, Singles.{IsSlight, deal_pair}, declared.pair.Pair.{Pair}}
-use Rattle.gs_seq.proofs.{Singles.{count_is, made_row, slight}, SlotLaws.{over}}
-use Rattle.gs_seq.proofs.form.Abstract.pairs.Goals.{After-deals_of, After-signals}
+use Rattle.gs_seq.proofs.{Singles.{count_is, made_row, slight}, SlotLaws.{over}, form.Abstract.pairs.Goals.{After-deals_of, After-signals}}
 use Rattle.gs_seq.proofs.form.Abstract.pairs.Goals as goal
 
 -- what holds of a round with no rows

@@ -3,9 +3,8 @@ use Rattle.std.specs.{declared.alloc.Global.{Global}, Prelude.{All, IfErr, None,
 use Rattle.gs_model.specs.{Classes.{ClassLists}, Frame.{Frame}}
 use Rattle.gs_tree.specs.declared.signals.Signals.{Signals}
 use Rattle.gs_seq.specs.{Cells.{cell_count}, Games.{frame_in}, Rows.{AreRows, AreWholes, IsSlim}, Slots.{AreOffsets, slot_count}}
-use Rattle.gs_seq.specs.Stops.{HasSequencesWithin, IsStopAt, IsTooLong}
+use Rattle.gs_seq.specs.{Stops.{HasSequencesWithin, IsStopAt, IsTooLong}, declared.stop.SeqStop.TheVariants.{TooManySequences, TooManyCells, Memory}}
 use Rattle.gs_seq.specs.{declared.limits.Limits.{Limits}, declared.pair.Pair.{Pair}, declared.stop.SeqStop.{SeqStop}}
-use Rattle.gs_seq.specs.declared.stop.SeqStop.TheVariants.{TooManySequences, TooManyCells, Memory}
 use Rattle.gs_seq.proofs.{Carried.{carried}, Wholed.{rows_slim}, form.Abstract.within.Goals.{After-game-game, In_ok-count}}
 use Rattle.gs_seq.proofs.form.Abstract.within.Goals as goal
 

@@ -1,5 +1,4 @@
-use Rattle.std.proofs.Common.{arith}
-use Rattle.std.proofs.lemmas.Grind.{elements, common_steps}
+use Rattle.std.proofs.{Common.{arith}, lemmas.Grind.{elements, common_steps}}
 use Rattle.gs_simplex.proofs.sparse.Program.dense.Goals as goal
 
 pub returns : goal.returns

@@ -1,7 +1,6 @@
 use Rattle.std.proofs.Common.{Result, Ok, Err, ◌≡◌, ℕ, ◌+◌, ℤ, pos, ◌<ℤ◌, length, refl, sym, subst, arith}
-use Rattle.gs_simplex.specs.{declared.program.Program.{Program}, Program.{Listing}, declared.answer.Path.{Path}}
+use Rattle.gs_simplex.specs.{declared.program.Program.{Program}, Program.{Listing}, declared.answer.Path.{Path}, Trace.{IsPathAnswer}}
 use Rattle.gs_simplex.specs.{declared.answer.Stop.{Stop}, Table.{grid_of, table_aim}, State.{IsSoFar}, Answer.{IsStop}}
-use Rattle.gs_simplex.specs.{Trace.{IsPathAnswer}}
 use Rattle.std.specs.Result.{IsErrAnd}
 use Rattle.gs_simplex.proofs.{Paths.{rows_at}, Kept.{multiple_kept}, Traces.{shown_of}}
 use Rattle.gs_simplex.proofs.sparse.Program.path.Goals as goal

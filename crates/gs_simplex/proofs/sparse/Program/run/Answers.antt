@@ -1,5 +1,4 @@
-use Rattle.std.proofs.lemmas.Grind.{common_steps}
-use Rattle.std.proofs.{Common.{Result, Ok, Err, ◌≡◌, ℕ, ◌++◌, length, take, drop, sym, subst, ◌∙◌, arith}, lemmas.List.{take_at}}
+use Rattle.std.proofs.{lemmas.Grind.{common_steps}, Common.{Result, Ok, Err, ◌≡◌, ℕ, ◌++◌, length, take, drop, sym, subst, ◌∙◌, arith}, lemmas.List.{take_at}}
 use Rattle.gs_simplex.specs.{declared.program.Program.{Program}, Program.{Listing}, Path.{PathStops, ends}, declared.answer.Best.{Best}}
 use Rattle.gs_simplex.specs.{declared.table.Table.{Table}, Table.{grid_of, IsTableOf}, State.{IsEnd}}
 use Rattle.gs_simplex.specs.{Answer.{IsSmallTable, IsStop, IsAnswer, IsBest, IsBestAt, IsBestTable}, declared.answer.Stop.{Stop}}

@@ -1,10 +1,8 @@
 use Rattle.std.proofs.Common.{◌≡◌, ℕ, ◌+◌, List, ◌++◌, length, take, drop, slice_index, vec_len, ℤ, sym, ap, subst, ◌∙◌, arith}
 use Rattle.std.proofs.lemmas.List.{take_at, get_or_default}
 use Rattle.std.specs.Vec.{with_items}
-use Rattle.gs_simplex.specs.{Numbers.{AreTops}}
+use Rattle.gs_simplex.specs.{Numbers.{AreTops}, Columns.{IsPivotDone, IsPivotWide}, Table.{IsWideAfter}}
 use Rattle.gs_simplex.specs.Columns.{place_in, in_columns, AreStands, AreStandsAfter, AreLivePlaces, IsLive, IsTimes, IsFirstWideOf, HasWideColumn}
-use Rattle.gs_simplex.specs.Columns.{IsPivotDone, IsPivotWide}
-use Rattle.gs_simplex.specs.Table.{IsWideAfter}
 use Rattle.gs_simplex.proofs.Relisting.{stands_next, live_next, laid_next, table_next, has_wide, wide_next}
 use Rattle.gs_simplex.proofs.table.Table.list.Goals.{After-make_own, After-place_of-q, After-deref, After-live_places-found, After-clear, After-deref_mut-4}
 use Rattle.gs_simplex.proofs.table.Table.list.Goals.{After-deref-in-Some, After-deref-in-Some-2}

@@ -1,8 +1,7 @@
 use Rattle.std.proofs.Common.{◌≡◌, ℕ, ◌+◌, ◌*◌, ◌≤◌, List, ◌^◌, ℤ, length, slice_index, drop, sym, ap, subst, ◌∙◌, arith}
 use Rattle.std.proofs.{lemmas.List.{take_at, get_or-replicate, length-replicate}, Math.Nat.{le-mul_of_pos_right}}
 use Rattle.gs_simplex.specs.{State.{AreRaw}, Columns.{AreStands, AreSlots}}
-use Rattle.gs_simplex.proofs.{Starts.{start_of}, Slots.{stands_given}}
-use Rattle.gs_simplex.proofs.table.Table.start.Goals.{After-give_slots-width, After-deref-3}
+use Rattle.gs_simplex.proofs.{Starts.{start_of}, Slots.{stands_given}, table.Table.start.Goals.{After-give_slots-width, After-deref-3}}
 use Rattle.gs_simplex.proofs.table.Table.start.Goals as goal
 
 -- where the columns stand

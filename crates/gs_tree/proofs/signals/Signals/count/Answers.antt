@@ -1,7 +1,6 @@
 use Rattle.std.proofs.Common.{◌≡◌, ◌-◌, ◌≤◌, List, length, get_or, ap, ◌∙◌, arith}
 use Rattle.gs_tree.specs.{Trees.{rules_of}, declared.layer.Layer.{Layer}}
-use Rattle.gs_tree.proofs.Lookups.{layer_of}
-use Rattle.gs_tree.proofs.signals.Signals.count.Goals.{After-index}
+use Rattle.gs_tree.proofs.{Lookups.{layer_of}, signals.Signals.count.Goals.{After-index}}
 use Rattle.gs_tree.proofs.signals.Signals.count.Goals as goal
 
 -- a valid game has few signals in a round

@@ -1,5 +1,4 @@
-use Rattle.std.proofs.Common.{◌≡◌, ◌-◌, List, get_or, ap, ◌∙◌, arith}
-use Rattle.std.proofs.lemmas.Grind.{common_steps}
+use Rattle.std.proofs.{Common.{◌≡◌, ◌-◌, List, get_or, ap, ◌∙◌, arith}, lemmas.Grind.{common_steps}}
 use Rattle.gs_model.specs.Game.{Game}
 use Rattle.gs_tree.specs.{Trees.{rules_of}, declared.layer.Layer.{Layer}}
 use Rattle.gs_tree.proofs.Lookups.{layer_of}

@@ -1,5 +1,4 @@
-use Rattle.std.proofs.Common.{◌≡◌, ◌<◌, ℕ, Some, length, sym, ap, ◌∙◌, arith}
-use Rattle.std.proofs.lemmas.Grind.{common_steps}
+use Rattle.std.proofs.{Common.{◌≡◌, ◌<◌, ℕ, Some, length, sym, ap, ◌∙◌, arith}, lemmas.Grind.{common_steps}}
 use Rattle.gs_game.specs.{Games.{game_of}, declared.game.Game.{Game as Described}}
 use Rattle.gs_model.specs.{Game.{Game}, Signals.{signal_at, signals}}
 use Rattle.gs_tree.specs.{Texts.{signal_text}, Trees.{deck_of, rules_of}}

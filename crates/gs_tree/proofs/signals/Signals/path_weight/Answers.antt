@@ -1,5 +1,4 @@
-use Rattle.std.proofs.lemmas.Grind.{common_steps}
-use Rattle.std.proofs.{Common.{◌≡◌, ℕ, List, [], get_or, ap, ◌∙◌, arith}, lemmas.List.{get_or-map}}
+use Rattle.std.proofs.{lemmas.Grind.{common_steps}, Common.{◌≡◌, ℕ, List, [], get_or, ap, ◌∙◌, arith}, lemmas.List.{get_or-map}}
 use Rattle.gs_model.specs.{Deals.{path_weight}, Game.{Game, round_count}, Signals.{signal_at, signals}}
 use Rattle.gs_model.proofs.Facing.{leaves_are_deals}
 use Rattle.gs_tree.specs.Trees.{rules_of}

@@ -3,9 +3,8 @@ use Rattle.gs_game.specs.Games.{game_of}
 use Rattle.gs_model.specs.{Cards.{left_after}, Game.{Game}, Signals.{parents, signal_at}}
 use Rattle.gs_model.proofs.Ranges.{length-parents}
 use Rattle.gs_tree.specs.{Layers.{last_seen}, Shown.{seen_of, cards_of}, declared.layer.Layer.{Layer}}
-use Rattle.gs_tree.proofs.Lookups.{layer_of, parents_of, is_child, left_step, parent_read}
+use Rattle.gs_tree.proofs.{Lookups.{layer_of, parents_of, is_child, left_step, parent_read}, tables.Tables.+copies_left.Goals.{After-index-2}}
 use Rattle.gs_tree.proofs.tables.Tables.+copies_left.Goals as goal
-use Rattle.gs_tree.proofs.tables.Tables.+copies_left.Goals.{After-index-2}
 
 pub index-shown-requires : goal.index-shown-requires
 index-shown-requires t c =

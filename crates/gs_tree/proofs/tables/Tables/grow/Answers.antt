@@ -1,11 +1,9 @@
 use Rattle.std.proofs.Common.{◌≡◌, ◌+◌, ◌-◌, ◌<◌, ◌≤◌, ◌++◌, ◌∷◌, [], ℕ, suc, List, length, map, take, take_all, replicate, length-append, get_or, vec_len, sym}
-use Rattle.std.proofs.Common.{ap, ◌∙◌, arith}
-use Rattle.std.proofs.{lemmas.List.{length-map}, lemmas.List.FromFn.{map-range_with_len_more}}
+use Rattle.std.proofs.{Common.{ap, ◌∙◌, arith}, lemmas.List.{length-map}, lemmas.List.FromFn.{map-range_with_len_more}, lemmas.Grind.{common_steps}}
 use Rattle.std.specs.{Prelude.{flat_map}, List.{range_with_len}}
 use Rattle.gs_game.specs.Games.{game_of, round_rules}
 use Rattle.gs_model.specs.{Game.{Game, Round, round_at}, Signals.{Seen, Signal, signals, children, owners, showings, edge, left_by, first_child, signal_at}}
 use Rattle.gs_tree.specs.{Shown.{seen_of}, Tables.{shown_in}}
-use Rattle.std.proofs.lemmas.Grind.{common_steps}
 use Rattle.gs_tree.proofs.{Pushed.{joined_more}, Grown.{shows_of, few_before, first_grown, owners_more, filled, seen_grown, edges_grown}}
 use Rattle.gs_tree.proofs.tables.Tables.grow.Goals.{At-loop-parent}
 use Rattle.gs_tree.proofs.tables.Tables.grow.Goals as goal
