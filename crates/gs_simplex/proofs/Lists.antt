@@ -1,9 +1,18 @@
 -- What is listed after a push, and that an elimination makes the rows of the next list from those of the list before.
-use Rattle.std.proofs.Common.{◌≡◌, ◌≢◌, ℕ, suc, ◌+◌, ◌<◌, ◌≤◌, ◌⊎◌, inl, inr, [], ◌∷◌, ◌++◌, ℤ, pos, ◌-ℤ◌, ◌*ℤ◌, neg_ℤ, ◌<ℤ◌, sym, ap, subst, ◌∙◌, arith}
+use Rattle.std.proofs.Common.{◌≡◌, ◌≢◌, ℕ, suc, ◌+◌, ◌<◌, ◌≤◌, ◌⊎◌, inl, inr, List, [], ◌∷◌, ◌++◌, length, slice_index_or, ℤ, pos, ◌-ℤ◌, ◌*ℤ◌, neg_ℤ}
+use Rattle.std.proofs.{Common.{◌<ℤ◌, sym, ap, subst, ◌∙◌, arith, below_more}, lemmas.List.{get_or_append_left, get_or_push}}
 use Rattle.std.proofs.{lemmas.Bool.{cases_eq}, lemmas.List.Elements.{Contains-push, Contains-push_cases, Contains-append_left}}
 use Rattle.gs_simplex.specs.{declared.program.Program.{Program}, Rows.{IsCombination, IsUnlistedRow, IsListedRow, IsAimRow}, Elimination.{IsEliminated}}
 use Rattle.gs_simplex.specs.Program.{number, Listing, IsListed, RowListed, ColListed, IsRowsOf}
 use Rattle.gs_simplex.proofs.{Ring.{ring, linear, sign_of, times_zero, cancel_zero}, Pivot.{pivot_unlisted, pivot_listed, pivot_aim, combination_divided}}
+
+-- what holds of each item, and of one more
+pub pushed_all : {X : Type 0} (P : ℕ → X → Type 0) (xs ys : List X) (x : X) (n : ℕ) → ys ≡ xs ++ x ∷ [] → length xs ≡ n
+    → ((k : ℕ) → k < n → (d : X) → P k (slice_index_or xs k d)) → P n x → (k : ℕ) → k < n + 1 → (d : X) → P k (slice_index_or ys k d)
+pushed_all {X} P xs ys x n is long u here = below_more (λ k. (d : X) → P k (slice_index_or ys k d)) n
+    (λ k h d. let Q : X → Type 0 = λ t. P k t in subst Q
+    (sym (ap (λ (t : List X). slice_index_or t k d) is ∙ get_or_append_left xs (x ∷ []) d k (omega arith))) (u k h d))
+    (λ d. let Q : X → Type 0 = λ t. P n t in subst Q (sym (ap (λ (t : List X). slice_index_or t n d) is ∙ get_or_push xs x d n long)) here)
 
 -- ---- what is listed after a push
 pub listed_push : (l : Listing) (r c : ℕ) → IsListed (l ++ (r + 1, c + 1) ∷ []) r c

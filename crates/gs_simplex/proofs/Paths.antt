@@ -260,6 +260,13 @@ same_names l q r c k d a b =
     let e : (r + 1, c + 1) ≡ (k + 1, d + 1) = sym a ∙ b in
     (less_one r k (ap (λ (x : ℕ × ℕ). x.0) e), less_one c d (ap (λ (x : ℕ × ℕ). x.1) e))
 
+-- the row that leaves is not 0 in the column that enters
+pub leaving_nonzero : {p : Program} {l : Listing} {grid : ℕ → ℕ → ℤ} {e : ℕ} (q : ℕ) → IsLeaving p l grid e (Some q) → (r c : ℕ)
+    → slice_index_or l q (0, 0) ≡ (r + 1, c + 1) → grid r e ≢ pos 0
+leaving_nonzero {l = l} {grid} {e} q lv r c at z =
+    let P : ℕ → Type 0 = λ x. pos 0 <ℤ grid x e in
+    let up : pos 0 <ℤ grid r e = subst P (same_names l q lv.0 lv.1 r c lv.3 at).0 lv.4.pivot in absurd (omega (arith, linear))
+
 -- after t steps column e enters and the row at place q leaves
 module _ {p : Program} {o : Listing} {t : ℕ} {l : Listing} {grid : ℕ → ℕ → ℤ} {e : ℕ} (q : ℕ) (h : length o ≤ t) (pairs : IsPairList p l) (table : IsTable p
     grid)

@@ -1,10 +1,10 @@
 -- Where columns stand at the start: noted as the only row with a number other than 0, then given slots, and the rows set by places.
-use Rattle.std.proofs.Common.{◌≡◌, ℕ, ◌+◌, ◌-◌, ◌*◌, ◌<◌, ◌≤◌, ◌^◌, inl, inr, List, ◌++◌, length, slice_index, ℤ, pos, refl, sym, ap}
-use Rattle.std.proofs.Common.{subst, ◌∙◌, arith, below_more}
+use Rattle.std.proofs.Common.{◌≡◌, ◌≢◌, ℕ, ◌+◌, ◌-◌, ◌*◌, ◌<◌, ◌≤◌, ◌^◌, inl, inr, List, ◌++◌, length, slice_index, slice_set, ℤ, pos, refl, sym, ap}
+use Rattle.std.proofs.Common.{subst, ◌∙◌, arith, below_more, get_or-set_other, get_or-set_same}
 use Rattle.std.proofs.{lemmas.Bool.{cases_eq, cases_lt}, lemmas.List.{length-append, get_or_append_left, get_or-append_right}}
 use Rattle.gs_simplex.specs.{declared.program.Program.{Program}, Rows.{IsNarrow}, Program.{number, aim_of, IsShaped}, State.{raw, AreOnly}}
-use Rattle.gs_simplex.specs.{Numbers.{at, cell, AreNarrowNumbers}, Columns.{place_in, at_place, AreStands, AreSlots, IsSetRow}}
-use Rattle.gs_simplex.proofs.{Places.{row_inside}, Standing.{placed, number_inside}}
+use Rattle.gs_simplex.specs.{Numbers.{at, cell, AreNarrowNumbers}, Columns.{place_in, at_place, in_columns, AreStands, AreSlots, IsNoted, IsSetRow}}
+use Rattle.gs_simplex.proofs.{Places.{row_inside}, Standing.{placed, same_place, number_inside, number_none}}
 
 -- ---- the program's rows
 module _ (p : Program) where
@@ -39,6 +39,26 @@ module _ (p : Program) where
           ]
         ])
       ]
+
+  -- one more row is noted
+  pub only_more : (i : ℕ) (old new : ℕ → ℕ) → i < p.rows + 1 → p.rows < 2 ^ 31 → AreOnly p i old
+      → ((j : ℕ) → j < p.cols + 2 → IsNoted i (raw p i j) (old j) (new j)) → AreOnly p (i + 1) new
+  only_more i old new im small u noted h j hi jn = elim (cases_lt h i) [
+    | inl l ↦ elim (noted j jn) [
+      | inl a ↦ elim (u h j l jn) [ inl x ↦ inl (a.1 ∙ x) | inr y ↦ elim y [ inl x ↦ inr (inl (a.1 ∙ x)) | inr x ↦ inr (inr x) ] ]
+      | inr b ↦ elim b [
+        | inl a ↦ elim (u h j l jn) [
+          | inl x ↦ absurd (omega (arith, a.0, x, l, im, small))
+          | inr y ↦ elim y [ inl x ↦ absurd (omega (arith, a.0, x)) | inr x ↦ inr (inr x) ]
+        ]
+        | inr a ↦ inr (inl a)
+      ]
+    ]
+    | inr m ↦ (let e : i ≡ h = omega (arith, m, hi) in elim (noted j jn) [
+      | inl a ↦ inr (inr (ap (λ t. raw p t j) (sym e) ∙ a.0))
+      | inr b ↦ elim b [ inl a ↦ inl (a.1 ∙ e) | inr a ↦ inr (inl a) ]
+    ])
+  ]
 
 -- ---- slots are given
 pub record AreSlotsSoFar (rows count : ℕ) (owns : List ℕ) (old new : List ℕ) (place : ℕ) : Type 0 where
@@ -89,6 +109,38 @@ set_narrow m w n s i numbers row u narrow k h =
       | inl z ↦ subst N (sym z) (omega arith)
       | inr x ↦ subst N (sym (u.each x.0 x.1) ∙ ap (at_place w row) x.2 ∙ number_inside w row k h) (narrow x.0 x.1)
     ]
+
+-- one more number is set
+module _ (m n : ℕ) (s : ℕ → ℕ) (i j : ℕ) (numbers : ℕ → ℤ) (part : List ℤ) (k : ℕ) (is : k ≡ place_in m (length part) (s j) i)
+    (u : IsSetRow m (length part) j s i numbers (at part)) where
+  pub set_more : AreStands m (length part) n s → j < n → k < length part → IsSetRow m (length part) (j + 1) s i numbers (at (slice_set part k (numbers j)))
+  set_more st jn kw =
+      let w = length part in let new = slice_set part k (numbers j) in
+      let other : (h : ℕ) → h ≢ k → at new h ≡ at part h = λ h ne. get_or-set_other part k h (numbers j) (pos 0) ne in
+      let here : at new k ≡ numbers j = get_or-set_same part k (numbers j) (pos 0) kw in
+      record {
+        each = below_more (λ h. in_columns m w s i (at new) h ≡ numbers h) j
+            (λ h l. elim (cases_lt (place_in m w (s h) i) w) [
+              | inl hw ↦ number_inside w (at new) (place_in m w (s h) i) hw
+                  ∙ other (place_in m w (s h) i) (λ e. omega (arith, same_place m w n s i st h j (omega (arith, l, jn)) jn (e ∙ is) hw, l))
+                  ∙ sym (number_inside w (at part) (place_in m w (s h) i) hw) ∙ u.each h l
+              | inr hw ↦ number_none w (at new) (place_in m w (s h) i) hw ∙ sym (number_none w (at part) (place_in m w (s h) i) hw) ∙ u.each h l
+            ])
+            (ap (at_place w (at new)) (sym is) ∙ number_inside w (at new) k kw ∙ here);
+        covered = λ h hw. elim (cases_eq h k) [
+          | inl e ↦ inr (j, omega arith, sym is ∙ sym e)
+          | inr ne ↦ elim (u.covered h hw) [ inl z ↦ inl (other h ne ∙ z) | inr x ↦ inr (x.0, omega (arith, x.1), x.2) ]
+        ];
+      }
+
+  pub set_none : length part ≤ k → numbers j ≡ pos 0 → IsSetRow m (length part) (j + 1) s i numbers (at part)
+  set_none kw z =
+      let w = length part in
+      record {
+        each = below_more (λ h. in_columns m w s i (at part) h ≡ numbers h) j u.each
+            (ap (at_place w (at part)) (sym is) ∙ number_none w (at part) k kw ∙ sym z);
+        covered = λ h hw. elim (u.covered h hw) [ inl z ↦ inl z | inr x ↦ inr (x.0, omega (arith, x.1), x.2) ];
+      }
 
 -- ---- one more row behind those before
 module _ (xs part ys : List ℤ) (n w : ℕ) (is : ys ≡ xs ++ part) (long : length xs ≡ n * w) (wide : length part ≡ w) where

@@ -126,6 +126,30 @@ own_at m w s i h e = elim (placed m w s i).place [
   | inr x ↦ elim x [ inl b ↦ b.0 | inr c ↦ absurd (omega (arith, c.2)) ]
 ]
 
+-- a column with no place before w has none
+pub place_past : (m w n : ℕ) (s : ℕ → ℕ) (i : ℕ) → AreStands m w n s → (j : ℕ) → j < n → w ≤ place_in m w (s j) i → place_in m w (s j) i ≡ w
+place_past m w n s i st j jn h = elim (placed m w (s j) i).place [
+  | inl a ↦ absurd (omega (arith, st.inside j jn, a.0, a.1, h))
+  | inr x ↦ elim x [ inl b ↦ omega (arith, b.2, h) | inr d ↦ d.2 ]
+]
+
+-- two columns have no place in common
+pub same_place : (m w n : ℕ) (s : ℕ → ℕ) (i : ℕ) → AreStands m w n s → (h j : ℕ) → h < n → j < n → place_in m w (s h) i ≡ place_in m w (s j) i
+    → place_in m w (s h) i < w → h ≡ j
+same_place m w n s i st h j hn jn e hw = st.differ h j hn jn (elim (placed m w (s h) i).place [
+  | inl a ↦ elim (placed m w (s j) i).place [
+    | inl b ↦ omega (arith, a.0, a.1, b.0, b.1, e)
+    | inr y ↦ elim y [ inl b ↦ absurd (omega (arith, a.0, a.1, b.2, e)) | inr b ↦ absurd (omega (arith, hw, b.2, e)) ]
+  ]
+  | inr x ↦ elim x [
+    | inl a ↦ elim (placed m w (s j) i).place [
+      | inl b ↦ absurd (omega (arith, a.2, b.0, b.1, e))
+      | inr y ↦ elim y [ inl b ↦ a.0 ∙ sym b.0 | inr b ↦ absurd (omega (arith, hw, b.2, e)) ]
+    ]
+    | inr a ↦ absurd (omega (arith, hw, a.2))
+  ]
+])
+
 -- ---- row r is listed with column c, whose place in it is q
 module _ (m w n : ℕ) (s s' : ℕ → ℕ) (r c q : ℕ) (some : 1 < w) (rm : r < m) (cn : c < n) (st : AreStands m w n s) (af : AreStandsAfter n s s' r c)
     (here : place_in m w (s c) r ≡ q) (qw : q < w) where

@@ -84,3 +84,21 @@ returns-clause-verdict c =
     ∙ ap (λ z. pos gap1.1 *ℤ (pos x.total *ℤ s1 -ℤ z)) paid)
     (scale gap2.0 ∙ j.second.value ∙ ap (λ z. pos gap2.1 *ℤ (pos y.total *ℤ z +ℤ to_z w128 (of_z w128 c.plans_pay-paid.result))) two
     ∙ ap (λ z. pos gap2.1 *ℤ (pos y.total *ℤ s2 +ℤ z)) paid)
+
+pub plans_pay-paid-requires-clause-two : goal.plans_pay-paid-requires-clause-two
+plans_pay-paid-requires-clause-two c = grind arith
+
+pub plans_pay-paid-requires-clause-one : goal.plans_pay-paid-requires-clause-one
+plans_pay-paid-requires-clause-one c = grind arith
+
+pub plans_pay-paid-requires-clause-room : goal.plans_pay-paid-requires-clause-room
+plans_pay-paid-requires-clause-room c = grind arith
+
+pub best_total-requires-2-clause-laid : goal.best_total-requires-2-clause-laid
+best_total-requires-2-clause-laid c = grind arith
+
+pub best_total-requires-2-clause-rows : goal.best_total-requires-2-clause-rows
+best_total-requires-2-clause-rows c = grind arith
+
+pub invariant_of-second : goal.invariant_of-second
+invariant_of-second c = grind arith

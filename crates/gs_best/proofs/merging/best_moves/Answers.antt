@@ -19,3 +19,15 @@ returns c =
     let some : 0 < c.loop-choice.choice = omega (arith, c.loop-choice-test.false, c.loop-choice.auto.choice-end, c.move_total-choice-end.ensures.some) in
     subst (λ n. AreGreatest (frame_on at) (lists_on at) (total_worth (frame_on at) (lists_on at) (totals_on at)) at.point n c.loop-choice.best
     c.loop-choice.moves) all (c.loop-choice.invariant some)
+
+pub loop-choice-init : goal.loop-choice-init
+loop-choice-init c = grind arith
+
+pub read_worths-read-requires-clause-wide : goal.read_worths-read-requires-clause-wide
+read_worths-read-requires-clause-wide c = grind arith
+
+pub read_worths-read-requires-clause-numbers : goal.read_worths-read-requires-clause-numbers
+read_worths-read-requires-clause-numbers c = grind arith
+
+pub read_worths-read-requires-clause-row : goal.read_worths-read-requires-clause-row
+read_worths-read-requires-clause-row c = grind arith

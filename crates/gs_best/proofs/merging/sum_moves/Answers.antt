@@ -21,3 +21,12 @@ loop-choice-preserved c =
     λ some. sum_step (frame_on at) (lists_on at) (total_worth (frame_on at) (lists_on at) (totals_on at)) at.point c.loop-choice.choice at.count at.count_is
     c.read_worths-read.result.now c.read_worths-read.ensures.worths
     c.loop-choice.sums c.add.new.sums c.add.ensures.added c.loop-choice.invariant
+
+pub read_worths-read-requires-clause-wide : goal.read_worths-read-requires-clause-wide
+read_worths-read-requires-clause-wide c = grind arith
+
+pub read_worths-read-requires-clause-numbers : goal.read_worths-read-requires-clause-numbers
+read_worths-read-requires-clause-numbers c = grind arith
+
+pub read_worths-read-requires-clause-row : goal.read_worths-read-requires-clause-row
+read_worths-read-requires-clause-row c = grind arith

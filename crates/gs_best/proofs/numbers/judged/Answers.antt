@@ -1,4 +1,4 @@
-use Rattle.std.proofs.{Common.{◌≡◌, ◌*◌, ap, ◌∙◌, arith, to_z, of_z}, lemmas.Int.{fits_signed_from_abs, ints, to_z-of_z}}
+use Rattle.std.proofs.{lemmas.Grind.{common_steps}, Common.{◌≡◌, ◌*◌, ap, ◌∙◌, arith, to_z, of_z}, lemmas.Int.{fits_signed_from_abs, ints, to_z-of_z}}
 use Rattle.std.specs.Prelude.{pos, ◌+ℤ◌, ◌-ℤ◌, ◌*ℤ◌, ◌<ℤ◌, unsigned_abs}
 use borrow.Author.Differences.{abs_is}
 use mir.Syntax.{w128}
@@ -121,3 +121,18 @@ returns c =
       second = over_turn _ _ (pos c.args.totals.1 *ℤ c.args.best.1 +ℤ c.args.paid) (pos n) c.fraction-3.result c.fraction-3.ensures
           (gap_two at.After-plus-gap2 (second at.After-scaled-2)) scale;
     }
+
+pub minus-gap1-requires : goal.minus-gap1-requires
+minus-gap1-requires c = grind (arith, common_steps)
+
+pub scaled-requires-2 : goal.scaled-requires-2
+scaled-requires-2 c = grind (arith, common_steps)
+
+pub scaled-scale-requires : goal.scaled-scale-requires
+scaled-scale-requires c = grind arith
+
+pub scaled-requires : goal.scaled-requires
+scaled-requires c = grind arith
+
+pub fraction-requires-clause-fits : goal.fraction-requires-clause-fits
+fraction-requires-clause-fits c = grind (arith, common_steps)

@@ -1,4 +1,4 @@
-use Rattle.std.proofs.Common.{◌≡◌, ℕ, List, length, drop, sym, ap, subst, arith}
+use Rattle.std.proofs.{Common.{◌≡◌, ℕ, List, length, drop, sym, ap, subst, arith}, lemmas.Grind.{common_steps}}
 use Rattle.gs_model.specs.Frame.{point_count}
 use Rattle.gs_best.proofs.Written.{written}
 use Rattle.gs_best.specs.{Tables.{moves_of}, Sides.{frame_at, lists_at}, Puts.{ArePutBefore}}
@@ -14,3 +14,15 @@ returns-clause-puts c =
     (sym (written old.len new (drop (length new) old.items) full))
     (subst (λ l. ArePutBefore (frame_at d) (lists_at d) d.player (moves_of (frame_at d) (lists_at d) l) new (point_count (frame_at d))) c.deref-2.ensures.value
     c.put_moves.ensures)
+
+pub returns-clause-long : goal.returns-clause-long
+returns-clause-long c = grind (arith, common_steps)
+
+pub put_moves-requires-clause-clear : goal.put_moves-requires-clause-clear
+put_moves-requires-clause-clear c = grind (arith, common_steps)
+
+pub put_moves-requires-clause-moves : goal.put_moves-requires-clause-moves
+put_moves-requires-clause-moves c = grind arith
+
+pub put_moves-requires-clause-places : goal.put_moves-requires-clause-places
+put_moves-requires-clause-places c = grind arith

@@ -44,3 +44,6 @@ returns c =
     let f = abstract_frame a in
     let all : c.loop-point.point ≡ point_count f = omega (arith, c.loop-point-test.false, c.point_total-point-end.ensures, c.loop-point.auto.point-end) in
     subst (ArePutBefore f (lists_of a) c.args.player (moves_of f (lists_of a) c.args.picks.now) c.loop-point.weights) all c.loop-point.invariant.puts
+
+pub put_point-requires-clause-moves : goal.put_point-requires-clause-moves
+put_point-requires-clause-moves c = grind arith

@@ -133,3 +133,12 @@ returns-clause-clear c =
     let whole : c.loop-before.before ≡ class_count lists (round_of f (at_point q)) =
     omega (arith, c.loop-before-test.false, c.loop-before.auto.before-end, all (goal.at.returns-clause-clear c).After-class_total-before-end) in
     λ k l. c.loop-before.invariant.clear k (omega (arith, l, slots_own f lists c.args.player q c.requires.own, ap (λ n. n * move_count f q) whole))
+
+pub bounds-weights-slot : goal.bounds-weights-slot
+bounds-weights-slot c = grind arith
+
+pub slot-slot-requires-clause-class : goal.slot-slot-requires-clause-class
+slot-slot-requires-clause-class c = grind arith
+
+pub coming-came-requires-clause-class : goal.coming-came-requires-clause-class
+coming-came-requires-clause-class c = grind arith

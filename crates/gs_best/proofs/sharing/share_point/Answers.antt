@@ -1,5 +1,5 @@
+use Rattle.std.proofs.{lemmas.Grind.{common_steps, get_or-set_at}, lemmas.List.{get_or-set_other, get_or_read}, lemmas.Int.{to_z-of_z}}
 use Rattle.std.proofs.{Common.{◌≡◌, ◌+◌, ◌<◌, get_or, refl, sym, ap, ◌∙◌, arith, ⊎_elim, of_z, length, rules}, lemmas.Bool.{cases_eq}}
-use Rattle.std.proofs.{lemmas.Grind.{get_or-set_at}, lemmas.List.{get_or-set_other, get_or_read}, lemmas.Int.{to_z-of_z}}
 use Rattle.std.specs.{Prelude.{pos, ◌*ℤ◌}, Int.RustNames.{FitsSigned}}
 use mir.Syntax.{w128}
 use mir.Val.{to_z}
@@ -98,3 +98,6 @@ returns-clause-here c =
           (lists_at s)) round,
     ))
     (ap (λ i. get_or c.args.table.now.totals.items i (pos 0)) place ∙ is ∙ ap (λ j. share *ℤ pos (class_size (lists_at s) j (k + 1))) (sym round))
+
+pub returns-clause-before : goal.returns-clause-before
+returns-clause-before c = grind (arith, common_steps)

@@ -75,3 +75,9 @@ returns-clause-small c =
     let at = goal.at.returns-clause-small c in
     let small = round_small s t.totals.items (frame_at s).start (walked s).start_in (picks_at s t.picks.items) c.requires.best.followed in
     omega (arith, small, ap unsigned_abs (sum_is at.After-sum_between (held at.After-row_to-totals)))
+
+pub row_to-totals-requires-clause-numbers : goal.row_to-totals-requires-clause-numbers
+row_to-totals-requires-clause-numbers c = grind arith
+
+pub row_to-totals-requires-clause-row : goal.row_to-totals-requires-clause-row
+row_to-totals-requires-clause-row c = grind arith

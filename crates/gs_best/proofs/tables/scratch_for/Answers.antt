@@ -9,3 +9,6 @@ overflow_sub-round_total c =
     let g = c.args.form.now.lossless.now.signals.now.game.now in
     let some = (playable g).some in
     omega (arith, c.round_total.ensures.value, last_round_of (game_of g.game), some)
+
+pub returns : goal.returns
+returns c = grind arith

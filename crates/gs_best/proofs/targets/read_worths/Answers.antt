@@ -37,3 +37,9 @@ read_row-requires-clause-wide c = λ later.
 pub returns-clause-worths : goal.returns-clause-worths
 returns-clause-worths c = worths_by c.args.at.now c.args.choice c.requires.choice c.row_to-below.result
     (held (goal.at.returns-clause-worths c).After-row_to-below) c.read_row.result.now c.read_row.ensures.gathered
+
+pub returns-clause-long : goal.returns-clause-long
+returns-clause-long c = grind arith
+
+pub row_to-below-requires-clause-numbers : goal.row_to-below-requires-clause-numbers
+row_to-below-requires-clause-numbers c = grind arith

@@ -59,3 +59,9 @@ loop-point-preserved c =
           (kept_through t.picks _ picks picks_is c.fill_point.auto.picks
           (λ l. AreBestFrom (frame_at s) (lists_at s) s.player (totals_at s totals) (picks_at s l) p) c.fill_point.ensures.known);
     }
+
+pub loop-point-init : goal.loop-point-init
+loop-point-init c = grind arith
+
+pub fill_point-requires-clause-rows : goal.fill_point-requires-clause-rows
+fill_point-requires-clause-rows c = grind arith

@@ -93,3 +93,9 @@ known c =
 
 pub returns-clause-known : goal.returns-clause-known
 returns-clause-known c = known (goal.at.returns-clause-known c).After-fill_row
+
+pub returns-clause-rows : goal.returns-clause-rows
+returns-clause-rows c = grind arith
+
+pub fill_row-requires-clause-rows : goal.fill_row-requires-clause-rows
+fill_row-requires-clause-rows c = grind arith

@@ -56,3 +56,12 @@ returns-clause-behind c = λ i l.
     let here = (goal.at.returns-clause-behind c).After-merge_moves in
     put_behind 0 c.args.picks.now c.merge_moves.new.moves c.args.start (length c.args.totals.now - c.args.start) (inside_picks here) (long_moves here) i
     (omega (arith, l, c.requires.start))
+
+pub merge_moves-requires-clause-row : goal.merge_moves-requires-clause-row
+merge_moves-requires-clause-row c = grind arith
+
+pub merge_moves-requires-clause-numbers : goal.merge_moves-requires-clause-numbers
+merge_moves-requires-clause-numbers c = grind arith
+
+pub merge_moves-requires-clause-worths : goal.merge_moves-requires-clause-worths
+merge_moves-requires-clause-worths c = grind arith

@@ -23,3 +23,9 @@ loop-next-init t c =
 
 pub loop-next-preserved : goal.loop-next-preserved
 loop-next-preserved t c = grind (arith, common_steps)
+
+pub push_front-requires-clause-letter : goal.push_front-requires-clause-letter
+push_front-requires-clause-letter t c = grind (arith, common_steps)
+
+pub returns-after-loop-next : goal.returns-after-loop-next
+returns-after-loop-next t c = grind (arith, common_steps)

@@ -53,3 +53,6 @@ returns-clause-all c =
     let g : Game = rules_of c.args.signals.now in
     chain_end g (λ k. k) c.args.first c.loop-signal.signal (map signal_of c.loop-signal.places.items)
     (omega (arith, c.loop-signal-test.false, c.boards.ensures.nexts_long)) c.loop-signal.invariant.chain ∙ map-id _
+
+pub overflow_cast-signal-in-loop-signal-2 : goal.overflow_cast-signal-in-loop-signal-2
+overflow_cast-signal-in-loop-signal-2 c = grind arith

@@ -44,3 +44,12 @@ loop-at-preserved c =
           (omega arith)
           (λ is. subst (λ z. unsigned_abs z < 2 ^ 120) (sym kept) c.won.ensures.small) (λ ne. c.loop-at.invariant.small k e (omega (arith, m, ne)));
     }
+
+pub past-before-requires : goal.past-before-requires
+past-before-requires c = grind arith
+
+pub bounds-numbers-signal : goal.bounds-numbers-signal
+bounds-numbers-signal c = grind arith
+
+pub bounds-sums-signal : goal.bounds-sums-signal
+bounds-sums-signal c = grind arith

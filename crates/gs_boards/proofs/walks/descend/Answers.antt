@@ -1,4 +1,5 @@
 use Rattle.std.proofs.Common.{◌≡◌, ◌+◌, ◌-◌, ◌<◌, ◌^◌, ◌∙◌, ◌+ℤ◌, ℕ, ℤ, List, ap, arith, drop, get_or, length, pos, subst, sym, to_z, of_z}
+use Rattle.std.proofs.lemmas.Grind.{common_steps}
 use Rattle.std.specs.{Int.{w128}, Prelude.{All, unsigned_abs}}
 use Rattle.gs_boards.specs.{Runs.{paid_by, place_worth}, declared.place.Place.{Place}}
 use Rattle.gs_boards.proofs.{Added.{added}, Payments.{lost_is}, Steps.{come_down, come_within, go_down, one_back, stronger_behind, written}}
@@ -59,3 +60,18 @@ loop-at-preserved c =
       same = λ k e m. written places c.requires.apart c.loop-at.sums inside (λ k q z. z ≡ get_or c.args.sums.now q.signal (pos 0)) n d v l k e (omega arith)
           (λ is. absurd (omega (arith, is, m))) (λ ne. c.loop-at.invariant.same k e (omega arith));
     }
+
+pub past-behind-requires : goal.past-behind-requires
+past-behind-requires c = grind arith
+
+pub loop-at-init : goal.loop-at-init
+loop-at-init c = grind (arith, common_steps)
+
+pub bounds-numbers-signal : goal.bounds-numbers-signal
+bounds-numbers-signal c = grind arith
+
+pub bounds-sums-signal : goal.bounds-sums-signal
+bounds-sums-signal c = grind arith
+
+pub slice_copy_out-sums : goal.slice_copy_out-sums
+slice_copy_out-sums c = grind arith

@@ -77,3 +77,9 @@ returns c =
     let all : c.loop-before.before ≡ class_count ls (round_of f (at_end c.args.end)) =
     omega (arith, c.loop-before-test.false, c.loop-before.auto.before-end, count_is (goal.at.returns c).After-class_total-before-end) in
     c.loop-before.invariant ∙ ap (λ n. sum_z (class_term f ls (class_plan f ls c.args.x.now) (class_plan f ls d.other.now) c.args.end) (range_with_len 1 n)) all
+
+pub kept_at-requires-clause-ends : goal.kept_at-requires-clause-ends
+kept_at-requires-clause-ends c = grind arith
+
+pub kept_at-requires-clause-class : goal.kept_at-requires-clause-class
+kept_at-requires-clause-class c = grind arith

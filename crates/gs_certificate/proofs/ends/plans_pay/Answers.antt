@@ -36,3 +36,6 @@ returns c =
     let d = c.args.first.now in
     let all : c.loop-end.end ≡ end_count (frame_at d) = omega (arith, c.end_total-end-end.ensures, c.loop-end-test.false, c.loop-end.auto.end-end) in
     ends_are_all _ _ (side_given d) _ _ c.requires.x.plan.plan (other_plan d c.requires.first) c.loop-end.end all _ c.loop-end.invariant
+
+pub end_paid-requires-clause-ends : goal.end_paid-requires-clause-ends
+end_paid-requires-clause-ends c = grind arith

@@ -1,3 +1,4 @@
+use Rattle.std.proofs.lemmas.Grind.{common_steps}
 use Rattle.std.proofs.{Common.{◌≡◌, ℕ, ◌+◌, ◌-◌, ◌<◌, ◌≤◌, ◌∷◌, [], ◌++◌, length, take, sym, ap, ◌∙◌, subst, arith}, lemmas.List.{get_or-take, length-take-le}}
 use Rattle.std.specs.Prelude.{pos}
 use Rattle.gs_model.specs.{Classes.{class_count}, Frame.{end_count, round_of}, Positions.{at_end}}
@@ -67,3 +68,12 @@ returns c =
     let ls = lists_at d in
     let all : c.loop-end.end ≡ end_count f = omega (arith, c.loop-end-test.false, c.loop-end.auto.end-end, c.end_total-ends.ensures) in
     subst (λ n. AreKept f ls d.player (class_plan f ls d.other.now) n c.loop-end.starts.items c.loop-end.sums.items) all c.loop-end.invariant
+
+pub slice_bounds-extend_from_slice-end-in-loop-end : goal.slice_bounds-extend_from_slice-end-in-loop-end
+slice_bounds-extend_from_slice-end-in-loop-end c = grind (arith, common_steps)
+
+pub slice_bounds-extend_from_slice-end : goal.slice_bounds-extend_from_slice-end
+slice_bounds-extend_from_slice-end c = grind arith
+
+pub end_sums-requires-clause-other : goal.end_sums-requires-clause-other
+end_sums-requires-clause-other c = grind arith

@@ -1,4 +1,4 @@
-use Rattle.std.proofs.Common.{sym, subst, arith}
+use Rattle.std.proofs.{Common.{sym, subst, arith}, lemmas.Grind.{common_steps}}
 use Rattle.gs_model.specs.{Frame.{leads_to}, FrameFacts.{IsFrom, IsInside}}
 use Rattle.gs_best.specs.Sides.{frame_at}
 use Rattle.gs_best.proofs.Players.{walked}
@@ -20,3 +20,6 @@ way_from-requires-clause-onward c =
     subst (IsFrom p.point) (sym c.target_at-to.ensures)
     (not_before p.point (leads_to (frame_at s) p.point m)
     ((walked s).later p.point m p.inside (omega (arith, c.loop-choice-test.true, c.move_total-choice-end.ensures.value))))
+
+pub loop-choice-preserved : goal.loop-choice-preserved
+loop-choice-preserved c = grind (arith, common_steps)

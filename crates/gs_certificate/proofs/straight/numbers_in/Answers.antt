@@ -1,3 +1,4 @@
+use Rattle.std.proofs.{Common.{arith}, lemmas.Grind.{common_steps}}
 use Rattle.std.proofs.{Common.{◌≡◌, ◌∷◌, [], ◌++◌, ◌<◌, ◌^◌, All, List, ℕ, sym, ap, subst, ◌∙◌}, lemmas.List.Elements.{All-push}}
 use Rattle.std.specs.Prelude.{ℤ, unsigned_abs}
 use Rattle.gs_certificate.specs.Straight.{opened}
@@ -16,3 +17,9 @@ loop-preserved c =
           (goes_on c.args.bytes.now c.loop.left.now c.in_ok-number.rest.now next zs z c.loop.invariant.text c.in_ok-number.ensures.text c.in-Ok.ensures);
       small = subst (All (λ (x : ℤ). unsigned_abs x < 2 ^ 90)) one_more (All-push (λ (x : ℤ). unsigned_abs x < 2 ^ 90) zs z c.loop.invariant.small small);
     }
+
+pub returns-in-Err-clause-small : goal.returns-in-Err-clause-small
+returns-in-Err-clause-small c = grind (arith, common_steps)
+
+pub returns-in-Err-clause-text : goal.returns-in-Err-clause-text
+returns-in-Err-clause-text c = grind arith

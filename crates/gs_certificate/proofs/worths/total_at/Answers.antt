@@ -1,3 +1,4 @@
+use Rattle.std.proofs.{lemmas.Grind.{common_steps}, Math.Nat.{mul-le-mul_left, mul-le-mul_right}}
 use Rattle.gs_seq.proofs.Forms.{form_classes}
 use Rattle.gs_best.specs.Sides.{frame_at, lists_at}
 use Rattle.gs_certificate.specs.Claims.{first_place_of}
@@ -8,7 +9,6 @@ use Rattle.std.specs.Prelude.{ℤ, pos, unsigned_abs}
 use borrow.Author.Differences.{abs_is}
 use mir.Syntax.{w128}
 use mir.Val.{to_z}
-use Rattle.std.proofs.Math.Nat.{mul-le-mul_left, mul-le-mul_right}
 use Rattle.gs_model.proofs.Basics.{product_le}
 use Rattle.gs_game.specs.Seen.{target_of}
 use Rattle.gs_model.specs.{Classes.{IsClass, class_size}, Frame.{end_count, point_count, round_of}, FrameFacts.{IsInside}, Positions.{at_end, at_point}}
@@ -74,3 +74,9 @@ returns-in-End-clause-small c =
     let some = some_member (frame_at k.side) (lists_at k.side) (form_classes k.side.form.now) c.args.way.round c.args.class r.0 r.1 c.requires.class in
     let one = mul-le-mul_right (2 ^ 90) some in
     omega (arith, ap unsigned_abs out, small, one)
+
+pub size_of-members-requires-clause-top : goal.size_of-members-requires-clause-top
+size_of-members-requires-clause-top c = grind (arith, common_steps)
+
+pub returns-in-Point-clause-value : goal.returns-in-Point-clause-value
+returns-in-Point-clause-value c = grind arith

@@ -1,4 +1,4 @@
-use Rattle.std.proofs.Common.{arith}
+use Rattle.std.proofs.{Common.{arith}, lemmas.Grind.{common_steps}}
 use Rattle.gs_model.specs.Rows.{rows}
 use Rattle.gs_filter.proofs.{RowLaws.{length-rows}, ApartLaws.{ready_at}}
 use Rattle.gs_filter.proofs.apart.first_apart.Goals as goal
@@ -13,3 +13,9 @@ first_apart_in-apart-requires c =
 
 pub returns : goal.returns
 returns c = λ r some top. c.loop-round.invariant r some (omega (arith, length-rows c.args.lists.now))
+
+pub returns-in-Some : goal.returns-in-Some
+returns-in-Some c = grind (arith, common_steps)
+
+pub loop-round-preserved : goal.loop-round-preserved
+loop-round-preserved c = grind arith

@@ -1,4 +1,4 @@
-use Rattle.std.proofs.Common.{get_or, below_more, sym, ◌∙◌, ap}
+use Rattle.std.proofs.Common.{get_or, below_more, sym, ◌∙◌, ap, arith}
 use Rattle.gs_filter.specs.Faults.{StaysTogether}
 use Rattle.gs_filter.proofs.ApartLaws.{class_within, first_is, read_first_within, above_first_within}
 use Rattle.gs_filter.proofs.apart.first_apart_in.Goals as goal
@@ -31,3 +31,9 @@ loop-at-preserved c =
     c.at-first.result (c.at-first.ensures c.at-first.result) in
     below_more (StaysTogether c.args.parents.now c.args.above.now c.args.list.now) c.loop-at.at c.loop-at.invariant
     (ap (λ k. get_or c.args.above.now (get_or c.args.parents.now k 0) 0) (sym e) ∙ sym c.if-above-parents.false)
+
+pub bounds-above-parents-in-loop-at : goal.bounds-above-parents-in-loop-at
+bounds-above-parents-in-loop-at c = grind arith
+
+pub bounds-parents-at : goal.bounds-parents-at
+bounds-parents-at c = grind arith

@@ -1,4 +1,4 @@
-use Rattle.std.proofs.{Common.{◌≡◌, ◌≤◌, length, ◌∙◌, ap, arith, subst, ⊎_elim}, lemmas.Bool.{cases_lt}}
+use Rattle.std.proofs.{lemmas.Grind.{common_steps}, Common.{◌≡◌, ◌≤◌, length, ◌∙◌, ap, arith, subst, ⊎_elim}, lemmas.Bool.{cases_lt}}
 use Rattle.gs_model.specs.{Numbering.{IsNumbered}, Classes.{list_of}, Rows.{rows}}
 use Rattle.gs_filter.specs.Tallies.{tallies_of}
 use Rattle.gs_filter.proofs.RowLaws.{length-rows, made_more}
@@ -20,3 +20,15 @@ loop-round-preserved c =
           (subst IsNumbered c.of_round.ensures c.in-Ok.ensures.numbered))
           (cases_lt r c.loop-round.round);
     }
+
+pub returns-in-Err-Unseen-clause-unseen : goal.returns-in-Err-Unseen-clause-unseen
+returns-in-Err-Unseen-clause-unseen c = grind (arith, common_steps)
+
+pub returns-clause-numbered : goal.returns-clause-numbered
+returns-clause-numbered c = grind (arith, common_steps)
+
+pub tally_list-requires : goal.tally_list-requires
+tally_list-requires c = grind (arith, common_steps)
+
+pub returns-clause-tallied : goal.returns-clause-tallied
+returns-clause-tallied c = grind (arith, common_steps)

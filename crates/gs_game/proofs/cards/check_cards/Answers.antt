@@ -9,3 +9,11 @@ returns-then-have-need c = grind (arith, common_steps)
 pub returns : goal.returns
 unfolding card_refusal rounds_refusal private_refusal ranking_refusal copies_refusal
 returns c = grind (arith, common_steps)
+
+pub returns-then-not-ranks : goal.returns-then-not-ranks
+unfolding card_refusal rounds_refusal private_refusal ranking_refusal copies_refusal
+returns-then-not-ranks c = grind (arith, common_steps)
+
+pub all_copies-have-requires : goal.all_copies-have-requires
+unfolding card_refusal rounds_refusal private_refusal ranking_refusal copies_refusal
+all_copies-have-requires c = grind arith

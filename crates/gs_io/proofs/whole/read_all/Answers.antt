@@ -1,3 +1,4 @@
+use Rattle.std.proofs.lemmas.Grind.{common_steps}
 use Rattle.std.proofs.{Common.{rules, ◌≡◌, ◌≤◌, ◌++◌, ℕ, List, length, take, ◌∙◌, arith}, lemmas.List.{length-append, length-take}, KnownBytes.{Consumes-trans}}
 use Rattle.gs_io.proofs.whole.read_all.Goals as goal
 
@@ -22,3 +23,12 @@ returns-then-is_err g c =
 
 pub returns : goal.returns
 returns g c = search rules
+
+pub loop-piece-preserved : goal.loop-piece-preserved
+loop-piece-preserved g c = grind (arith, common_steps)
+
+pub returns-in-Err : goal.returns-in-Err
+returns-in-Err g c = grind arith
+
+pub loop-piece-smaller : goal.loop-piece-smaller
+loop-piece-smaller g c = grind arith

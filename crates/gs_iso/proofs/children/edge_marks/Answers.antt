@@ -21,3 +21,6 @@ returns c = record {
   long = omega (arith, c.count-count.ensures.value, c.loop-signal.invariant.long);
   same = λ x y lx ly. c.loop-signal.invariant.seen.grouped.same x y lx ly;
 }
+
+pub loop-signal-init : goal.loop-signal-init
+loop-signal-init c = grind arith

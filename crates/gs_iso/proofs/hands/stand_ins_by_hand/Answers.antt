@@ -29,3 +29,15 @@ returns c =
     let count = ap (λ k. length (signals g k)) c.rounds.ensures.value in
     handed_all g c.args.keys.now c.loop-signal.firsts.items c.loop-signal.signal c.loop-signal.invariant.firsts
     (omega (arith, c.loop-signal-test.false, c.loop-signal.auto.signal-end, c.count-count.ensures.value, count))
+
+pub loop-signal-init : goal.loop-signal-init
+loop-signal-init c = grind arith
+
+pub bounds-keys-place : goal.bounds-keys-place
+bounds-keys-place c = grind arith
+
+pub bounds-masks-place : goal.bounds-masks-place
+bounds-masks-place c = grind arith
+
+pub strength-requires : goal.strength-requires
+strength-requires c = grind arith

@@ -62,3 +62,18 @@ returns c =
           (λ i j a b li lj one ha hb. subst (λ P. (a ≡ b) ↔ P) (sym (isomorphic_last g (signal_at g r i) (signal_at g r j)))
           (leaf_law g i j a b ha hb)) i j li lj tt;
     }
+
+pub index_mut-requires-in-loop-signal : goal.index_mut-requires-in-loop-signal
+index_mut-requires-in-loop-signal c = grind arith
+
+pub index_mut-requires : goal.index_mut-requires
+index_mut-requires c = grind arith
+
+pub sign_leaves-requires : goal.sign_leaves-requires
+sign_leaves-requires c = grind arith
+
+pub index-number-requires : goal.index-number-requires
+index-number-requires c = grind arith
+
+pub index-first-requires : goal.index-first-requires
+index-first-requires c = grind arith

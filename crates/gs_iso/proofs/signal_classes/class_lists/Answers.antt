@@ -1,4 +1,5 @@
 use Rattle.std.proofs.Common.{◌≡◌, ◌+◌, ◌-◌, ◌<◌, ◌∷◌, [], ◌∙◌, suc, ℕ, List, Vec, Global, ap, arith, get_or, length, length-append, subst, sym}
+use Rattle.std.proofs.lemmas.Grind.{common_steps}
 use Rattle.gs_model.specs.{Signals.{parents}, Rows.{rows}}
 use Rattle.gs_filter.proofs.RowLaws.{length-rows, row_read}
 use Rattle.gs_tree.specs.Trees.{rules_of}
@@ -63,3 +64,9 @@ returns c =
     all_classes (rules_of c.args.signals.now) (rows c.loop-done.lists.items)
     (omega (arith, n, c.loop-done.invariant.long, c.loop-done-test.false, c.loop-done.auto.done-end, c.rounds-rounds.ensures.value))
     (λ k l. c.loop-done.invariant.each k (omega (arith, l, n)))
+
+pub bounds-numbers-from : goal.bounds-numbers-from
+bounds-numbers-from c = grind (arith, common_steps)
+
+pub loop-done-init : goal.loop-done-init
+loop-done-init c = grind arith

@@ -46,3 +46,6 @@ returns c =
       );
       each = λ k l. c.loop-done.invariant.each k (omega (arith, l, n));
     }
+
+pub loop-done-init : goal.loop-done-init
+loop-done-init c = grind arith

@@ -1,4 +1,4 @@
-use Rattle.std.proofs.Common.{List, ℕ, subst, sym}
+use Rattle.std.proofs.Common.{List, ℕ, subst, sym, arith}
 use Rattle.gs_model.specs.{Classes.{IsClasses}, Rows.{rows}}
 use Rattle.gs_filter.specs.Filter.{AreParents}
 use Rattle.gs_tree.specs.Trees.{rules_of}
@@ -13,3 +13,6 @@ pub of_filter-requires-clause-classes : goal.of_filter-requires-clause-classes
 of_filter-requires-clause-classes c =
     subst (λ (ps : List (List ℕ)). IsClasses ps (rows c.in_ok-lists.lists.items)) (sym c.parents.ensures)
     (are_classes (rules_of c.args.signals.now) (rows c.in_ok-lists.lists.items) c.in_ok-lists.ensures)
+
+pub class_lists-requires : goal.class_lists-requires
+class_lists-requires c = grind arith

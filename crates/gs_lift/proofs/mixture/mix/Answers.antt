@@ -1,4 +1,4 @@
-use Rattle.std.proofs.Common.{◌<◌, List, ap, sym, subst, ◌∙◌, arith, map}
+use Rattle.std.proofs.{Common.{◌<◌, List, ap, sym, subst, ◌∙◌, arith, map}, lemmas.Grind.{common_steps}}
 use Rattle.std.specs.List.{AllByRecursion}
 use Rattle.gs_game.specs.declared.positions.Arrow.{Arrow}
 use Rattle.gs_seq.specs.{Abstracts.{abstract_frame, lists_of}, Plans.{lifted}}
@@ -56,3 +56,9 @@ returns c =
     let read = ap (λ (ms : List Arrow). map (λ (a : Arrow). a.letter) ms) c.deref-arrow-items.ensures.value in
     mixed_all f (lifted f (lists_of c.args.a.now) c.args.plan.now) c.args.spot.point c.args.spot.signal c.deref-arrow-items.result.now c.loop-choice.choice
     c.loop-choice.out c.loop-choice-test.false (read ∙ r.letters) c.loop-choice.invariant
+
+pub bounds-points-spot : goal.bounds-points-spot
+bounds-points-spot c = grind (arith, common_steps)
+
+pub share-requires-clause-plan : goal.share-requires-clause-plan
+share-requires-clause-plan c = grind arith

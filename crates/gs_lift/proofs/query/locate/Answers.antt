@@ -1,3 +1,4 @@
+use Rattle.std.proofs.{Common.{arith}, lemmas.Grind.{common_steps}}
 use Rattle.std.proofs.{Common.{◌≡◌, get_or, sym, ◌∙◌, subst, MatchResult}, lemmas.Bool.{false≢true}, lemmas.Result.{err_from_is_err_and}}
 use Rattle.gs_tree.specs.declared.signals.Signals.{Signals}
 use Rattle.gs_lift.specs.{Queries.{IsFaultOf, IsQuerySpot, IsTextOfSignal, signals_of}, declared.fault.QueryFault.TheVariants.{Round, Signal}}
@@ -64,3 +65,9 @@ returns-else-is_signal c =
     let at = goal.at.returns-else-is_signal c in
     subst (λ (x : Signals). IsFaultOf x c.args.player c.args.line.now c.args.signal.now Signal) (same at.After-signals-signals)
     (c.in_ok-point.point, (found at.After-index-points-point).own, λ h. false≢true (sym c.if-is_signal.false ∙ c.is_signal.ensures.1 h))
+
+pub bounds-points-point-in_ok-point : goal.bounds-points-point-in_ok-point
+bounds-points-point-in_ok-point c = grind (arith, common_steps)
+
+pub bounds-points-point : goal.bounds-points-point
+bounds-points-point c = grind (arith, common_steps)

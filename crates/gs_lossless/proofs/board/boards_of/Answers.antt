@@ -1,4 +1,4 @@
-use Rattle.std.proofs.{Common.{◌∙◌, List, ap, subst, sym}, lemmas.List.Elements.{All-push}}
+use Rattle.std.proofs.{Common.{arith, ◌∙◌, List, ap, subst, sym}, lemmas.List.Elements.{All-push}}
 use Rattle.std.specs.{Global.{Vec}, List.{All}}
 use Rattle.gs_tree.specs.Trees.{rules_of}
 use Rattle.gs_lossless.specs.{Boards.{IsBoard}, declared.board.Board.{Board}}
@@ -15,3 +15,6 @@ loop-signal-preserved c =
           (All-push P old w.in_ok-board.board c.loop-signal.invariant w.in_ok-board.ensures)
       | else-first-signal w ↦ subst (All P) (sym (ap (λ (v : Vec Board). v.items) w.boards-is)) c.loop-signal.invariant
     ]
+
+pub board_of-requires-clause-plain : goal.board_of-requires-clause-plain
+board_of-requires-clause-plain c = grind arith

@@ -45,3 +45,6 @@ returns c =
     let g : Game = rules_of c.args.signals.now in
     chain_end g (seat_of g) c.args.first c.loop-signal.signal c.loop-signal.seats.items (omega (arith, c.loop-signal-test.false, c.boards.ensures.nexts_long))
     c.loop-signal.invariant
+
+pub overflow_cast-signal-in-loop-signal-3 : goal.overflow_cast-signal-in-loop-signal-3
+overflow_cast-signal-in-loop-signal-3 c = grind arith

@@ -1,4 +1,4 @@
-use Rattle.std.proofs.Common.{◌+◌, ◌≤◌, arith, subst}
+use Rattle.std.proofs.{Common.{◌+◌, ◌≤◌, arith, subst}, lemmas.Grind.{common_steps}}
 use Rattle.gs_model.specs.{Frame.{frame_of}, Game.{round_count}}
 use Rattle.gs_model.proofs.{Ranges.{signal_count_is}, Walked.{last_round_of}}
 use Rattle.gs_tree.specs.Trees.{rules_of}
@@ -57,3 +57,9 @@ returns-clause-lossless c =
     let l = c.args.grouped.now.classes.now in
     let classes = over f l c.args.grouped.now.parents l.classes in
     lossless_by_firsts f l.lists classes.filter (λ r s some top ls. c.loop-before.invariant r some (omega (arith, top, last_round_of g)) s ls)
+
+pub first-first-requires-clause-top : goal.first-first-requires-clause-top
+first-first-requires-clause-top c = grind (arith, common_steps)
+
+pub class_of-class-requires-clause-top : goal.class_of-class-requires-clause-top
+class_of-class-requires-clause-top c = grind (arith, common_steps)

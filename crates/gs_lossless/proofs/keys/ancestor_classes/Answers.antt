@@ -35,3 +35,6 @@ returns c =
     let r = ap (λ k. length (signals g k)) c.rounds.ensures.value in
     let all : c.loop-signal.signal ≡ signal_count (frame_of g) (last_round (frame_of g)) = omega (arith, n, r, c.count-count.ensures.value) in
     c.loop-signal.invariant ∙ ap (λ (k : ℕ). map key (range_with_len 0 k)) all
+
+pub class_of-requires-clause-top : goal.class_of-requires-clause-top
+class_of-requires-clause-top c = grind arith

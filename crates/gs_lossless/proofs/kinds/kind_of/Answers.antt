@@ -37,3 +37,6 @@ returns-clause-list c = inr (record {
       refl;
   hands_are = c.in_ok-hands.ensures.items;
 })
+
+pub returns-clause-kind : goal.returns-clause-kind
+returns-clause-kind c = grind arith

@@ -23,3 +23,6 @@ loop-place-preserved c =
     ∙ ap (λ (k : ℕ). get_or keys k 0) (sym (get_or-map (λ (s : Seat). s.signal) seats n none 0 l)) in
     one_filled (hand_of c.args.board.now keys) c.loop-place.hands.items seats n (c.from.result * 4294967296 + c.from-in-loop-place.result)
     c.loop-place.invariant l (omega (arith, level, key))
+
+pub bounds-keys-seat : goal.bounds-keys-seat
+bounds-keys-seat c = grind arith

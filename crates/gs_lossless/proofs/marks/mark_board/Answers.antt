@@ -28,3 +28,6 @@ loop-place-preserved c =
 
 pub returns-clause-each : goal.returns-clause-each
 returns-clause-each c = c.loop-place.invariant.each
+
+pub bounds-marks-seats : goal.bounds-marks-seats
+bounds-marks-seats c = grind arith

@@ -1,5 +1,5 @@
 use Rattle.std.proofs.Common.{◌≡◌, ◌+◌, ◌-◌, ◌∷◌, ◌++◌, [], false, length, get_or, arith, ap, ◌∙◌, set, subst, sym, refl, List, Vec, Global, of_z, ◌<◌}
-use Rattle.std.proofs.{lemmas.Int.{ints}, lemmas.List.{set-get_or}}
+use Rattle.std.proofs.{lemmas.Grind.{common_steps}, lemmas.Int.{ints}, lemmas.List.{set-get_or}}
 use mir.Syntax.{w8}
 use Rattle.gs_lossless.specs.{Sums.{is_at, put_last}, declared.parts.Part.{Part}}
 use Rattle.gs_lossless.proofs.{Merge.{join_last, push_last, exact, not_at}, parts.add.Goals.{else-last-part-via-else-last-part, else-count-gt0}}
@@ -47,3 +47,6 @@ returns c =
     empty : {X : Type 0} (ys : List X) → length ys ≡ 0 → ys ≡ []
     empty [] e = refl
     empty (y ∷ ys) e = absurd (omega (arith, e))
+
+pub overflow_add-last : goal.overflow_add-last
+overflow_add-last c = grind (arith, common_steps)

@@ -49,3 +49,6 @@ returns c =
     let g : Game = rules_of c.args.signals.now in
     chain_end g (rival_of g c.args.keys.now) c.args.first c.loop-signal.signal c.loop-signal.rivals.items
     (omega (arith, c.loop-signal-test.false, c.boards.ensures.nexts_long)) c.loop-signal.invariant
+
+pub overflow_cast-signal-in-loop-signal-4 : goal.overflow_cast-signal-in-loop-signal-4
+overflow_cast-signal-in-loop-signal-4 c = grind arith

@@ -1,4 +1,4 @@
-use Rattle.std.proofs.{Common.{◌∙◌, List, ap, subst, sym}, lemmas.List.Elements.{All-push}}
+use Rattle.std.proofs.{Common.{arith, ◌∙◌, List, ap, subst, sym}, lemmas.List.Elements.{All-push}}
 use Rattle.std.specs.{Global.{Vec}, List.{All}}
 use Rattle.gs_tree.specs.Trees.{rules_of}
 use Rattle.gs_lossless.specs.{Rivals.{IsRivalTable}, declared.rivals.Table.{Table}}
@@ -15,3 +15,6 @@ loop-signal-preserved c =
           (All-push P old w.in_ok-table.table c.loop-signal.invariant w.in_ok-table.ensures)
       | else-first-signal w ↦ subst (All P) (sym (ap (λ (v : Vec Table). v.items) w.tables-is)) c.loop-signal.invariant
     ]
+
+pub table_at-requires-clause-plain : goal.table_at-requires-clause-plain
+table_at-requires-clause-plain c = grind arith

@@ -103,3 +103,18 @@ loop-signal-preserved c =
       agree = agree_more (frame_of (rules_of at.signals.now)) at.classes.now.lists at.side at.round c.loop-signal.signal c.loop-signal.invariant.agree
           (c.in_ok-same.ensures.agrees.0 c.if-not-same.false);
     }
+
+pub first-requires-clause-top : goal.first-requires-clause-top
+first-requires-clause-top c = grind (arith, common_steps)
+
+pub first-requires-clause-some : goal.first-requires-clause-some
+first-requires-clause-some c = grind arith
+
+pub class_of-requires-clause-top : goal.class_of-requires-clause-top
+class_of-requires-clause-top c = grind arith
+
+pub returns : goal.returns
+returns c = grind arith
+
+pub class_of-requires-clause-some : goal.class_of-requires-clause-some
+class_of-requires-clause-some c = grind arith

@@ -38,3 +38,6 @@ returns c =
     let late = c.in_ok-at-2.ensures in
     as_asked (λ s k a m. IfOk c.apart_before-2.result (IsFirstApart (frame_of (rules_of s)) k.lists a m c.args.end)) (late.signals ∙ at.signals)
     (late.classes ∙ at.classes) (late.side.0 ∙ at.side.0, late.side.1 ∙ at.side.1) c.apart_before-2.ensures
+
+pub apart_before-requires-2 : goal.apart_before-requires-2
+apart_before-requires-2 c = grind arith

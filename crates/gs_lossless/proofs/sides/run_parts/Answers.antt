@@ -1,3 +1,4 @@
+use Rattle.std.proofs.lemmas.Grind.{common_steps}
 use Rattle.std.proofs.{Common.{◌≡◌, ◌+◌, ◌-◌, ◌<◌, ◌^◌, ℕ, List, ◌++◌, ap, length, map, sym, ◌∙◌, subst, arith}, lemmas.List.Elements.{All-filter}}
 use Rattle.std.specs.{Prelude.{◌==◌, All, filter, flat_map}, List.{range_with_len}}
 use Rattle.gs_model.specs.Deals.{Deal, deals}
@@ -35,3 +36,6 @@ loop-place-preserved c =
     ∙ ap (λ (xs : List Part). xs ++ at x) c.loop-place.invariant
     ∙ sym (flat_map_range_more at first (x - first) x here)
     ∙ ap (λ (n : ℕ). flat_map at (range_with_len first n)) more
+
+pub loop-place-init : goal.loop-place-init
+loop-place-init c = grind (arith, common_steps)

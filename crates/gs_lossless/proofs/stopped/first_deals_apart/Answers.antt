@@ -65,3 +65,15 @@ returns c =
     let all = c.count-end.ensures.value ∙ sym (side_signals g Deals c.args.round c.requires) in
     subst (λ (n : ℕ). IfOk c.first_apart-2.result (IsFirstApart (frame_of g) c.args.grouped.now.classes.now.lists Deals c.args.round n)) all
     c.first_apart-2.ensures
+
+pub invariant_of-stopped-in-Some-2 : goal.invariant_of-stopped-in-Some-2
+invariant_of-stopped-in-Some-2 c = grind arith
+
+pub invariant_of-stopped-in-Some : goal.invariant_of-stopped-in-Some
+invariant_of-stopped-in-Some c = grind arith
+
+pub invariant_of-stopped : goal.invariant_of-stopped
+invariant_of-stopped c = grind arith
+
+pub stopped_classes-requires-clause-top : goal.stopped_classes-requires-clause-top
+stopped_classes-requires-clause-top c = grind arith

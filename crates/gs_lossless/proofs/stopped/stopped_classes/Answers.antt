@@ -1,4 +1,4 @@
-use Rattle.std.proofs.Common.{List, ℕ, sym, subst}
+use Rattle.std.proofs.{Common.{List, ℕ, sym, subst, arith}, lemmas.Grind.{common_steps}}
 use Rattle.gs_filter.specs.{Faults.{IsFaultOf}, Filter.{AreParents}}
 use Rattle.gs_model.specs.{Rows.{rows}, Classes.{ClassLists}, Frame.{frame_of}}
 use Rattle.gs_filter.proofs.Kept.{classes_kept}
@@ -17,3 +17,6 @@ returns-in_default-clause-whenever c = λ classes.
     let fault = subst (λ (ls : ClassLists). IsFaultOf (rows c.parents.result.now) ls c.in-Err.fault) c.in_ok-lists.ensures c.in-Err.ensures.refused in
     classes_kept parents lists c.in-Err.fault classes c.in_default.not-Memory
     (subst (λ (ps : List (List ℕ)). IsFaultOf ps lists c.in-Err.fault) c.parents.ensures fault)
+
+pub returns-in-Ok-clause-same : goal.returns-in-Ok-clause-same
+returns-in-Ok-clause-same c = grind (arith, common_steps)

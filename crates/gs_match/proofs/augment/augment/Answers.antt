@@ -30,3 +30,6 @@ returns c =
     shift_end (rows c.args.adjacent.now) c.loop-place.holders c.args.root c.in-Free.visits.items c.loop-place.right
     (subst (λ (k : ℕ). IsShift (rows c.args.adjacent.now) c.loop-place.holders c.args.root c.in-Free.visits.items k c.loop-place.right) none
     c.loop-place.invariant) (found (goal.at.returns c).In-Free).0
+
+pub returns-in-Closed : goal.returns-in-Closed
+returns-in-Closed c = grind arith

@@ -1,4 +1,4 @@
-use Rattle.std.proofs.{Common.{◌+◌, ℕ, List, length, arith, ap, subst, sym, ◌∙◌, Vec, Global}, lemmas.List.{length-set}}
+use Rattle.std.proofs.{lemmas.Grind.{common_steps}, Common.{◌+◌, ℕ, List, length, arith, ap, subst, sym, ◌∙◌, Vec, Global}, lemmas.List.{length-set}}
 use Rattle.gs_match.proofs.{ByLeftLaws.{by_left-some, by_left-none, FoundBelow}, matching.by_left.Goals.{in-Some, in_default}}
 use Rattle.gs_match.proofs.matching.by_left.Goals as goal
 
@@ -21,3 +21,6 @@ loop-right-preserved c = elim c.match-left.branch [
             (by_left-none c.args.holders.now c.loop-right.to.items c.loop-right.right c.loop-right.invariant.each w.in_default.is);
       }
 ]
+
+pub returns-clause-each : goal.returns-clause-each
+returns-clause-each c = grind (arith, common_steps)

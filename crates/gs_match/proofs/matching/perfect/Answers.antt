@@ -1,4 +1,5 @@
 use Rattle.std.proofs.Common.{◌≡◌, ◌+◌, ◌<◌, ℕ, List, length, get_or, arith, ap, subst, sym, ◌∙◌, Some, Option, Vec, Global, IsPermutation, MatchOption, rules}
+use Rattle.std.proofs.lemmas.Grind.{common_steps}
 use Rattle.gs_model.specs.{Matching.{Edges, IsHall}, Rows.{rows}}
 use Rattle.gs_model.proofs.Graph.{hall_excludes}
 use Rattle.gs_match.specs.{declared.search.Visit.{Visit}, Search.{IsMatching, HasClosed, holder, lefts}}
@@ -62,3 +63,24 @@ returns-clause-matched c =
 
 pub returns-then-graph-clause-refused : goal.returns-then-graph-clause-refused
 returns-then-graph-clause-refused c = search rules
+
+pub augment-requires-clause-root : goal.augment-requires-clause-root
+augment-requires-clause-root c = grind (arith, common_steps)
+
+pub loop-root-init : goal.loop-root-init
+loop-root-init c = grind (arith, common_steps)
+
+pub loop-root-preserved : goal.loop-root-preserved
+loop-root-preserved c = grind (arith, common_steps)
+
+pub augment-requires-clause-matching : goal.augment-requires-clause-matching
+augment-requires-clause-matching c = grind arith
+
+pub augment-requires-clause-rows : goal.augment-requires-clause-rows
+augment-requires-clause-rows c = grind arith
+
+pub returns-clause-equal : goal.returns-clause-equal
+returns-clause-equal c = grind arith
+
+pub by_left-requires-clause-short : goal.by_left-requires-clause-short
+by_left-requires-clause-short c = grind arith

@@ -1,5 +1,5 @@
+use Rattle.std.proofs.{lemmas.Grind.{common_steps}, lemmas.List.{take_at}}
 use Rattle.std.proofs.{Common.{◌≡◌, ◌+◌, ◌++◌, ℕ, Bool, List, length, take, drop, arith, subst, sym, ap, ◌∙◌, ⊎_elim, None, Option}, lemmas.Bool.{cases_eq}}
-use Rattle.std.proofs.lemmas.List.{take_at}
 use Rattle.gs_match.specs.{declared.search.Visit.{Visit}, Adjacency.{Near}, Search.{IsTree, Extends, IsRowEnd, AreExplored, visit}}
 use Rattle.gs_model.specs.Rows.{rows}
 use Rattle.gs_match.proofs.SearchLaws.{explored_more}
@@ -47,3 +47,24 @@ returns c =
             (omega arith) near;
       },
     )
+
+pub returns-in-Some : goal.returns-in-Some
+returns-in-Some c = grind arith
+
+pub visit_row-requires-clause-matching : goal.visit_row-requires-clause-matching
+visit_row-requires-clause-matching c = grind arith
+
+pub visit_row-requires-clause-tree : goal.visit_row-requires-clause-tree
+visit_row-requires-clause-tree c = grind arith
+
+pub loop-place-smaller : goal.loop-place-smaller
+loop-place-smaller c = grind (arith, common_steps)
+
+pub loop-place-init : goal.loop-place-init
+loop-place-init c = grind (arith, common_steps)
+
+pub visit_row-requires-clause-rows : goal.visit_row-requires-clause-rows
+visit_row-requires-clause-rows c = grind arith
+
+pub visit_row-requires-clause-left : goal.visit_row-requires-clause-left
+visit_row-requires-clause-left c = grind arith

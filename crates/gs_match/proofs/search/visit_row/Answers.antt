@@ -1,4 +1,4 @@
-use Rattle.std.proofs.Common.{◌≡◌, true, List, get_or, set, arith, subst, sym, below_more}
+use Rattle.std.proofs.{Common.{◌≡◌, true, List, get_or, set, arith, subst, sym, below_more}, lemmas.Grind.{common_steps}}
 use Rattle.gs_match.specs.{declared.search.Visit.{Visit}, Search.{IsTree, Extends, is_reached}}
 use Rattle.gs_model.specs.Rows.{rows}
 use Rattle.gs_match.proofs.{SearchLaws.{extends_refl}, RowLaws.{right_in, near_now, reached_in, all_seen, turn_tree, turn_extends, turn_seen}}
@@ -68,3 +68,9 @@ returns-clause-end c = all_seen c.args.adjacent.now c.args.holders.now c.args.vi
     c.index-adjacent-left.result c.deref-right-items.result.now c.requires.place c.requires.rows c.requires.left c.requires.matching c.index.ensures
     c.index-adjacent-left.is c.deref-right-items.ensures.value c.loop-right.visits.items c.loop-right.reached c.loop-right.invariant.tree
     c.loop-right.invariant.extends (λ k l. c.loop-right.invariant.seen k (omega arith))
+
+pub bounds-reached-right-in-Some : goal.bounds-reached-right-in-Some
+bounds-reached-right-in-Some c = grind (arith, common_steps)
+
+pub bounds-holders : goal.bounds-holders
+bounds-holders c = grind (arith, common_steps)

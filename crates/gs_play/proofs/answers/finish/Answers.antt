@@ -53,3 +53,6 @@ returns c =
       plan = alike_on f lists s.player (plan_of f lists c.from.result a.weights.items) (plan_after f lists a last) (plan_after f lists c.args.answer last)
           (subst (λ t. ArePlansAlike f lists s.player (plan_of f lists t a.weights.items) (plan_after f lists a last)) (sym c.from.ensures) none) done.plan;
     }
+
+pub stop_at-requires-clause-answer : goal.stop_at-requires-clause-answer
+stop_at-requires-clause-answer c = grind arith

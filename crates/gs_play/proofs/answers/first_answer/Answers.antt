@@ -87,3 +87,6 @@ returns-clause-answer c =
 
 pub returns-clause-right : goal.returns-clause-right
 returns-clause-right c = let at = goal.at.returns-clause-right c in (fresh at.In_ok-vec-3 (cells at.In_ok-taken)).right
+
+pub take_first-requires-clause-none : goal.take_first-requires-clause-none
+take_first-requires-clause-none c = grind arith

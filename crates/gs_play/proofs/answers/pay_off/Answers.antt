@@ -90,3 +90,6 @@ returns-else-old-clause-weights c = λ p e m lp his le lm.
     let few = (form_moves c.args.side.now.form.now p lp).few in
     let none = counted_none c.args.point c.args.class taken (c.args.now - began) p e m (omega (arith, read, few, lm, c.if-old.false)) in
     omega (arith, none)
+
+pub index_mut-requires : goal.index_mut-requires
+index_mut-requires c = grind arith

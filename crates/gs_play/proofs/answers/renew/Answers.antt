@@ -77,3 +77,33 @@ loop-point-preserved c =
       picks = c.renew_at.ensures.picks ∙ i.picks;
       told = λ pays h. c.renew_at.ensures.told pays (i.told pays h);
     }
+
+pub loop-point-init : goal.loop-point-init
+loop-point-init c = grind arith
+
+pub renew_at-requires-clause-moves : goal.renew_at-requires-clause-moves
+renew_at-requires-clause-moves c = grind arith
+
+pub renew_at-requires-clause-answer : goal.renew_at-requires-clause-answer
+renew_at-requires-clause-answer c = grind arith
+
+pub returns-clause-answer : goal.returns-clause-answer
+returns-clause-answer c = grind arith
+
+pub index_mut-requires : goal.index_mut-requires
+index_mut-requires c = grind arith
+
+pub renew_at-requires-clause-room : goal.renew_at-requires-clause-room
+renew_at-requires-clause-room c = grind arith
+
+pub renew_at-requires-clause-own : goal.renew_at-requires-clause-own
+renew_at-requires-clause-own c = grind arith
+
+pub returns-clause-right : goal.returns-clause-right
+returns-clause-right c = grind arith
+
+pub returns-clause-own : goal.returns-clause-own
+returns-clause-own c = grind arith
+
+pub returns-clause-room : goal.returns-clause-room
+returns-clause-room c = grind arith

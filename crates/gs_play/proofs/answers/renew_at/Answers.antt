@@ -1,4 +1,4 @@
-use Rattle.std.proofs.Common.{ℕ, ◌<◌, Bool, List, false, set, refl, sym, ◌∙◌, subst, arith, get_or-set_other}
+use Rattle.std.proofs.{Common.{ℕ, ◌<◌, Bool, List, false, set, refl, sym, ◌∙◌, subst, arith, get_or-set_other}, lemmas.Grind.{common_steps}}
 use Rattle.gs_model.specs.{Frame.{Frame, player_at, point_count}, FrameFacts.{IsWalked}}
 use Rattle.gs_seq.specs.Abstracts.{game_in}
 use Rattle.gs_seq.proofs.Points.{walked_at}
@@ -31,3 +31,30 @@ returns-else-index-side-clause-right c = λ own e le.
           (let row = row_at f (side_lists s) s.plot.now s.plotted q c.requires.point c.index.result.now c.index.ensures in
           o.if-index-side.false (row_player f (side_lists s) q c.index.result.now row ∙ own))
     ]
+
+pub returns-then-is_loose-clause-right : goal.returns-then-is_loose-clause-right
+returns-then-is_loose-clause-right c = grind arith
+
+pub renew_point-requires-clause-moves : goal.renew_point-requires-clause-moves
+renew_point-requires-clause-moves c = grind arith
+
+pub renew_point-requires-clause-long : goal.renew_point-requires-clause-long
+renew_point-requires-clause-long c = grind arith
+
+pub returns-then-is_loose-clause-room : goal.returns-then-is_loose-clause-room
+returns-then-is_loose-clause-room c = grind arith
+
+pub renew_point-requires-clause-room : goal.renew_point-requires-clause-room
+renew_point-requires-clause-room c = grind arith
+
+pub returns-then-is_loose-clause-answer : goal.returns-then-is_loose-clause-answer
+returns-then-is_loose-clause-answer c = grind arith
+
+pub returns-then-is_loose-clause-plan : goal.returns-then-is_loose-clause-plan
+returns-then-is_loose-clause-plan c = grind arith
+
+pub is_loose-requires-clause-turned : goal.is_loose-requires-clause-turned
+is_loose-requires-clause-turned c = grind (arith, common_steps)
+
+pub returns-else-index-side-clause-room : goal.returns-else-index-side-clause-room
+returns-else-index-side-clause-room c = grind arith

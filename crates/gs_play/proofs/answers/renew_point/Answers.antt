@@ -175,3 +175,18 @@ returns-clause-right c =
     let here = (goal.at.returns-clause-right c).After-index-row in
     λ e le. c.loop-class.invariant.right e le
     (omega (arith, le.1, c.loop-class-test.false, c.class_total-class-end.ensures.value, ap (class_count (side_lists c.args.side.now)) (round here)))
+
+pub turn-requires-clause-answer : goal.turn-requires-clause-answer
+turn-requires-clause-answer c = grind arith
+
+pub tell-requires-clause-room : goal.tell-requires-clause-room
+tell-requires-clause-room c = grind arith
+
+pub returns-clause-answer : goal.returns-clause-answer
+returns-clause-answer c = grind arith
+
+pub returns-clause-turned : goal.returns-clause-turned
+returns-clause-turned c = grind arith
+
+pub returns-clause-room : goal.returns-clause-room
+returns-clause-room c = grind arith

@@ -48,3 +48,12 @@ returns-clause-none c = λ d ld. c.loop-class.invariant.none d ld
       ap (class_count (side_lists c.args.side.now))
           c.round_at.ensures.value,
     ))
+
+pub turn-requires-clause-answer : goal.turn-requires-clause-answer
+turn-requires-clause-answer c = grind arith
+
+pub loop-class-init : goal.loop-class-init
+loop-class-init c = grind arith
+
+pub returns-clause-answer : goal.returns-clause-answer
+returns-clause-answer c = grind arith

@@ -44,3 +44,27 @@ returns-else-new-ne-NONE-clause-told c = λ from to h pays tally.
     c.push-2.ensures.pushed pays (end_sum f lists o (taken_plan from)) (end_sum f lists o (taken_plan to))
     (told_only_off f (form_in_range s.form.now) lists (form_classes s.form.now) o (back s) c.args.point c.args.class c.args.old c.args.new from to h
     (few s c.args.point c.args.new c.requires.point (omega (arith, c.if-new-ne-NONE.false)))) tally
+
+pub invariant_of-other : goal.invariant_of-other
+invariant_of-other c = grind arith
+
+pub invariant_of-other-2 : goal.invariant_of-other-2
+invariant_of-other-2 c = grind arith
+
+pub push-requires-then-new-ne-NONE-clause-room : goal.push-requires-then-new-ne-NONE-clause-room
+push-requires-then-new-ne-NONE-clause-room c = grind arith
+
+pub returns-then-new-ne-NONE-clause-room : goal.returns-then-new-ne-NONE-clause-room
+returns-then-new-ne-NONE-clause-room c = grind arith
+
+pub returns-else-new-ne-NONE-clause-room : goal.returns-else-new-ne-NONE-clause-room
+returns-else-new-ne-NONE-clause-room c = grind arith
+
+pub returns-then-old-eq-NONE-clause-room : goal.returns-then-old-eq-NONE-clause-room
+returns-then-old-eq-NONE-clause-room c = grind arith
+
+pub push-requires-clause-room : goal.push-requires-clause-room
+push-requires-clause-room c = grind arith
+
+pub push-requires-2-clause-room : goal.push-requires-2-clause-room
+push-requires-2-clause-room c = grind arith

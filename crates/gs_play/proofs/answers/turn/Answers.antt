@@ -105,3 +105,6 @@ returns-clause-plan c =
     let here = (goal.at.returns-clause-plan c).After-pay_off in
     switched_plan (side_frame c.args.side.now) (side_lists c.args.side.now) c.args.side.now.player c.args.point c.args.class c.args.new c.args.now
     c.requires.point c.requires.own c.requires.class c.args.answer.now (after here) c.requires.answer (switched here at)
+
+pub pay_off-requires-clause-answer : goal.pay_off-requires-clause-answer
+pay_off-requires-clause-answer c = grind arith

@@ -1,4 +1,4 @@
-use Rattle.std.proofs.{Common.{◌≡◌, ℕ, ◌+◌, false, true, sym, ◌∙◌, subst, arith, rules, ℤ}, lemmas.Int.{ints, to_z-of_z}}
+use Rattle.std.proofs.{lemmas.Grind.{common_steps}, Common.{◌≡◌, ℕ, ◌+◌, false, true, sym, ◌∙◌, subst, arith, rules, ℤ}, lemmas.Int.{ints, to_z-of_z}}
 use Rattle.std.specs.{Prelude.{◌<ℤ◌, ◌≤ℤ◌}, Int.RustNames.{FitsSigned}, Int.Signed.{lt_z}}
 use mir.Syntax.{w128}
 use Rattle.gs_best.specs.Rows.{IsFirstGreatest}
@@ -28,3 +28,9 @@ loop-place-preserved c =
       | else-most-worth w ↦ kept (λ m. value_in (line_at c.args.lines.now m) c.args.now) c.loop-place.place c.loop-place.best _ _ c.value-worth.result _ _
           c.loop-place.invariant c.value-worth.ensures told w.if-most-worth.false w.best-is w.most-is
     ]
+
+pub loop-place-init : goal.loop-place-init
+loop-place-init c = grind (arith, common_steps)
+
+pub returns : goal.returns
+returns c = grind arith

@@ -51,3 +51,6 @@ pub returns-clause-greatest : goal.returns-clause-greatest
 returns-clause-greatest c = λ l h. c.loop-place.invariant.greatest l
     (none_past c.args.lines.now c.args.best c.args.now c.loop-place.place (c.loop-place.left + 1) (omega arith)
     (by_first c.args.lines.now c.args.best c.args.now (c.loop-place.left + 1) h))
+
+pub until-left-requires-clause-behind : goal.until-left-requires-clause-behind
+until-left-requires-clause-behind c = grind arith

@@ -42,3 +42,6 @@ returns-then-slope-rise-clause-greatest c =
 pub returns-else-slope-rise-clause-behind : goal.returns-else-slope-rise-clause-behind
 returns-else-slope-rise-clause-behind c = slower_stays c.args.before c.args.value c.args.worth c.args.slope c.args.rise c.args.times
     (omega (arith, ints, c.if-slope-rise.false)) c.requires.ahead
+
+pub returns-then-slope-rise-clause-some : goal.returns-then-slope-rise-clause-some
+returns-then-slope-rise-clause-some c = grind arith

@@ -1,4 +1,4 @@
-use Rattle.std.proofs.{Common.{◌≡◌, ◌+◌, ◌<◌, ◌^◌, sym, ◌∙◌, subst, arith, rules, to_z, of_z}, lemmas.Int.{ints, to_z-of_z}}
+use Rattle.std.proofs.{lemmas.Grind.{common_steps}, Common.{◌≡◌, ◌+◌, ◌<◌, ◌^◌, sym, ◌∙◌, subst, arith, rules, to_z, of_z}, lemmas.Int.{ints, to_z-of_z}}
 use Rattle.std.specs.{Prelude.{◌-ℤ◌, unsigned_abs}, Int.RustNames.{FitsSigned}}
 use mir.Syntax.{w128}
 use Rattle.gs_play.proofs.{Behind.{behind_same}, Turning.{behind_by, stays_by}, Sizes.{Fits, gap_small}, line.until.Goals.{After-value-2}}
@@ -61,3 +61,12 @@ returns-clause-greatest c =
     (sym (worth_is at)) (sym (slope_is at)) (sym (rise_is at))
     (behind_by c.args.before a.at a.slope o.at o.slope c.args.now (c.behind-gap.result + 1)
     (λ n lo hi. h n lo (omega (arith, hi)))))
+
+pub behind-gap-requires-clause-ahead : goal.behind-gap-requires-clause-ahead
+behind-gap-requires-clause-ahead c = grind arith
+
+pub returns-clause-some : goal.returns-clause-some
+returns-clause-some c = grind arith
+
+pub behind-gap-requires-clause-gain : goal.behind-gap-requires-clause-gain
+behind-gap-requires-clause-gain c = grind (arith, common_steps)

@@ -1,4 +1,4 @@
-use Rattle.std.proofs.Common.{sym, ap, ◌∙◌}
+use Rattle.std.proofs.{Common.{sym, ap, ◌∙◌, arith}, lemmas.Grind.{common_steps}}
 use Rattle.std.specs.Prelude.{option_map}
 use Rattle.gs_game.specs.{Seen.{step_of}, declared.positions.Point.{Point}}
 use Rattle.gs_seq.proofs.Forms.{form_reads}
@@ -9,3 +9,9 @@ returns c =
     let r = form_reads c.args.form.now c.game.result.now c.points.result.now c.args.point c.index-points-point.result c.game.ensures c.points.ensures c.requires
     c.index-points-point.is in
     ap (λ (p : Point). option_map step_of p.own) (sym c.index-points-point.is) ∙ r.own
+
+pub bounds-points-point-2 : goal.bounds-points-point-2
+bounds-points-point-2 c = grind (arith, common_steps)
+
+pub bounds-points-point : goal.bounds-points-point
+bounds-points-point c = grind (arith, common_steps)

@@ -80,3 +80,9 @@ returns-clause-begun c =
     λ pays rise h.
     below_all (side_frame side) (side_lists side) side.player (walked side) pays rise 0 c.args.end (λ k. get_or c.args.sums.now (k - 1) (pos 0))
     c.loop-class.tally c.loop-class.class all (c.loop-class.invariant.begun pays rise h)
+
+pub turn_end-requires-clause-room : goal.turn_end-requires-clause-room
+turn_end-requires-clause-room c = grind arith
+
+pub returns-clause-room : goal.returns-clause-room
+returns-clause-room c = grind arith

@@ -113,3 +113,6 @@ returns-clause-begun c =
     renewed_all (side_frame side) (side_lists side) side.player (walked side) none none all 0 c.loop-end.end c.loop-end.tally
     (λ z k ge lz lk. absurd (omega (arith, ge, lz, c.loop-end-test.false, c.end_total-end-end.ensures)))
     (c.loop-end.invariant.begun h)
+
+pub begin_end-requires-clause-room : goal.begin_end-requires-clause-room
+begin_end-requires-clause-room c = grind arith

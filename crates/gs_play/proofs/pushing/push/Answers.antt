@@ -138,3 +138,6 @@ returns-clause-pushed c =
     renewed_all (side_frame side) (side_lists side) side.player (walked side) pays rise rise' c.args.now c.loop-end.end c.loop-end.tally
     (λ z k ge lz lk. p.elsewhere z k lz (λ is. (let i = inside at z lz is in omega (arith, i.1, ge, c.loop-end-test.false))) lk)
     (c.loop-end.invariant.pushed pays rise rise' p h)
+
+pub push_end-requires-clause-room : goal.push_end-requires-clause-room
+push_end-requires-clause-room c = grind arith

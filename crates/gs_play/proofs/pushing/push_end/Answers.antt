@@ -88,3 +88,9 @@ classes_below-run-requires-clause-top c =
     let side = c.args.side.now in
     let to = c.in-Some.ensures in
     omega (arith, to.way.round, ap (round_of (side_frame side)) to.leads, (walked side).end_in c.args.end c.requires.end)
+
+pub push_row-requires-clause-room : goal.push_row-requires-clause-room
+push_row-requires-clause-room c = grind arith
+
+pub returns-clause-room : goal.returns-clause-room
+returns-clause-room c = grind arith

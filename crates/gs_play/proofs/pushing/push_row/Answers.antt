@@ -1,4 +1,4 @@
-use Rattle.std.proofs.Common.{List, refl, ap, sym, ◌∙◌, subst, of_z, to_z, to_z-of_z}
+use Rattle.std.proofs.Common.{List, refl, ap, sym, ◌∙◌, subst, of_z, to_z, to_z-of_z, arith}
 use Rattle.std.specs.Prelude.{neg_ℤ}
 use mir.Syntax.{w64}
 use Rattle.gs_model.specs.{Classes.{IsClass}, Frame.{other_player, round_of}}
@@ -55,3 +55,9 @@ pub returns-clause-pushed : goal.returns-clause-pushed
 returns-clause-pushed c =
     row_ended c.args.side.now c.args.end c.args.class c.requires.end c.args.is_on c.args.now c.loop-pair.pair-iterator c.args.tally.now c.loop-pair.tally
     c.loop-pair.invariant.walk c.in-None.ensures.steps.0
+
+pub turn_end-requires-clause-room : goal.turn_end-requires-clause-room
+turn_end-requires-clause-room c = grind arith
+
+pub returns-clause-room : goal.returns-clause-room
+returns-clause-room c = grind arith

@@ -1,4 +1,4 @@
-use Rattle.std.proofs.Common.{◌≡◌, ap, sym, ◌∙◌, subst, of_z, to_z, to_z-of_z}
+use Rattle.std.proofs.Common.{◌≡◌, ap, sym, ◌∙◌, subst, of_z, to_z, to_z-of_z, arith}
 use Rattle.std.specs.Prelude.{pos, ◌-ℤ◌, ◌*ℤ◌}
 use mir.Syntax.{w64}
 use Rattle.gs_model.specs.{Classes.{IsClass}, Frame.{round_of}, Positions.{at_end}}
@@ -26,3 +26,6 @@ returns-clause-turned c =
     turned_fed f (side_lists side) side.player (walked side) pays rise c.args.now z c.args.class c.args.more lz class c.args.tally.now h c.requires.room
     c.args.way (record { way = way; leads = leads }) c.rising.result (c.rising.ensures.at ∙ ap (λ x. wrapped (pos 0 -ℤ x *ℤ pos c.args.now)) kept)
     (c.rising.ensures.slope ∙ kept) c.feed.new.tally c.feed.ensures.class c.feed.ensures.fed
+
+pub returns-clause-room : goal.returns-clause-room
+returns-clause-room c = grind arith

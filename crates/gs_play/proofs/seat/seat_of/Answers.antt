@@ -1,3 +1,4 @@
+use Rattle.std.proofs.Common.{arith}
 use Rattle.gs_seq.specs.Plans.{class_plan}
 use Rattle.gs_play.specs.Sides.{side_frame, side_lists}
 use Rattle.gs_play.proofs.AtStart.{at_start}
@@ -12,3 +13,6 @@ returns c =
     at_start side.form.now side.player side.some side.two c.in_ok-answer.answer c.in_ok-answer.ensures.right c.in_ok-answer.ensures.answer
     c.in_ok-tally.tally c.begin.new.tally c.in_ok-tally.ensures.clear c.in_ok-begin.ensures.room c.in_ok-begin.ensures.picks c.in_ok-begin.ensures.moved
     (class_plan (side_frame side) (side_lists side) c.in_ok-other.other) c.in_ok-other.ensures.first c.in_ok-begin.ensures.begun
+
+pub begin-requires-clause-other : goal.begin-requires-clause-other
+begin-requires-clause-other c = grind arith

@@ -1,4 +1,4 @@
-use Rattle.std.proofs.{Common.{◌≡◌, ◌+◌, ◌-◌, ◌*◌, ◌<◌, length, set, refl, ap, ◌∙◌, arith}, lemmas.List.{get_or_default}}
+use Rattle.std.proofs.{lemmas.Grind.{common_steps}, Common.{◌≡◌, ◌+◌, ◌-◌, ◌*◌, ◌<◌, length, set, refl, ap, ◌∙◌, arith}, lemmas.List.{get_or_default}}
 use Rattle.std.specs.Prelude.{◌+ℤ◌}
 use Rattle.gs_seq.specs.Abstracts.{abstract_frame, lists_of}
 use Rattle.gs_seq.proofs.Forms.{form_walked}
@@ -85,3 +85,6 @@ returns-clause-fed c =
       totals = refl;
       picks = refl;
     }
+
+pub class_above-requires-clause-top : goal.class_above-requires-clause-top
+class_above-requires-clause-top c = grind (arith, common_steps)

@@ -79,3 +79,9 @@ returns-then-row-side-clause-tells c =
     (class_in f lists c.args.row row c.args.cell is)
     (subst (λ i. IsPicked c.args.row.point i (slice_index new.picks.items c.args.cell) c.args.tally.now new)
     (sym (place_here f lists c.args.row row c.args.cell is)) picked)
+
+pub returns-else-row-side-clause-found : goal.returns-else-row-side-clause-found
+returns-else-row-side-clause-found c = grind arith
+
+pub returns-then-row-side-clause-found : goal.returns-then-row-side-clause-found
+returns-then-row-side-clause-found c = grind arith

@@ -142,3 +142,15 @@ returns-in_default-clause-later c =
     let s = c.args.side.now in
     found_later (side_frame s) (side_lists s) s.player (walked s) c.args.now c.args.last c.requires.order c.requires.turns c.args.cell
     c.args.row c.requires.row (has (goal.at.returns-in_default-clause-later c).Start) c.args.tally.now c.find.new.tally c.requires.room c.find.ensures.found
+
+pub returns-in-Some-clause-room : goal.returns-in-Some-clause-room
+returns-in-Some-clause-room c = grind arith
+
+pub feed-requires-clause-room : goal.feed-requires-clause-room
+feed-requires-clause-room c = grind arith
+
+pub returns-in_default-clause-room : goal.returns-in_default-clause-room
+returns-in_default-clause-room c = grind arith
+
+pub returns-then-eq-clause-room : goal.returns-then-eq-clause-room
+returns-then-eq-clause-room c = grind arith

@@ -1,3 +1,4 @@
+use Rattle.std.proofs.Common.{arith}
 use Rattle.gs_play.specs.Sides.{side_frame, side_lists}
 use Rattle.gs_play.proofs.Tells.{tells_next}
 use Rattle.gs_play.proofs.sweeping.sweep.Goals as goal
@@ -14,3 +15,6 @@ loop-block-preserved-then-index-now c =
       tells = tells_next f lists c.args.tally.now c.loop-block.tally c.sweep_block.new.tally was.tells is.tells;
       kept = λ pays rise few h. is.kept pays rise few (was.kept pays rise few h);
     }
+
+pub loop-block-init : goal.loop-block-init
+loop-block-init c = grind arith

@@ -77,3 +77,18 @@ returns-clause-kept c = λ pays rise few h.
       settled = subst (λ (v : Vec ℕ Global). AreSettledUntil f lists c.args.side.now.player (zeros_of f lists pays rise c.args.now t.totals.items)
           (slopes_of f lists rise t.totals.items) (moves_of f lists t.picks.items) (moves_of f lists v.items) c.args.now) (sym c.renew.ensures.turns) k.settled;
     }
+
+pub loop-left-init : goal.loop-left-init
+loop-left-init c = grind arith
+
+pub past_due-left-requires-in-loop-left-clause-behind : goal.past_due-left-requires-in-loop-left-clause-behind
+past_due-left-requires-in-loop-left-clause-behind c = grind arith
+
+pub sweep_row-requires-clause-room : goal.sweep_row-requires-clause-room
+sweep_row-requires-clause-room c = grind arith
+
+pub sweep_row-requires-clause-behind : goal.sweep_row-requires-clause-behind
+sweep_row-requires-clause-behind c = grind arith
+
+pub returns-clause-settled : goal.returns-clause-settled
+returns-clause-settled c = grind arith

@@ -1,4 +1,4 @@
-use Rattle.std.proofs.Common.{Vec, ℕ, sym, subst}
+use Rattle.std.proofs.Common.{Vec, ℕ, sym, subst, arith}
 use Rattle.std.specs.declared.alloc.Global.{Global}
 use Rattle.gs_model.specs.Frame.{point_count}
 use Rattle.gs_seq.specs.Abstracts.{abstract_frame, lists_of}
@@ -51,3 +51,33 @@ returns-clause-playing c =
     c.renew.ensures.answer c.renew-2.ensures.answer
     (still_kept points c.renew.new.own c.renew-2.new.tally c.renew-2.ensures.moved c.renew.ensures.still) c.renew-2.ensures.still
     c.renew.ensures.plan c.renew-2.ensures.plan
+
+pub renew-requires-2-clause-own : goal.renew-requires-2-clause-own
+renew-requires-2-clause-own c = grind arith
+
+pub renew-requires-2-clause-room : goal.renew-requires-2-clause-room
+renew-requires-2-clause-room c = grind arith
+
+pub renew-requires-2-clause-answer : goal.renew-requires-2-clause-answer
+renew-requires-2-clause-answer c = grind arith
+
+pub sweep-requires-2-clause-room : goal.sweep-requires-2-clause-room
+sweep-requires-2-clause-room c = grind arith
+
+pub next_turn-requires-clause-one : goal.next_turn-requires-clause-one
+next_turn-requires-clause-one c = grind arith
+
+pub next_turn-requires-clause-two : goal.next_turn-requires-clause-two
+next_turn-requires-clause-two c = grind arith
+
+pub renew-requires-clause-answer : goal.renew-requires-clause-answer
+renew-requires-clause-answer c = grind arith
+
+pub invariant_of-second : goal.invariant_of-second
+invariant_of-second c = grind arith
+
+pub renew-requires-clause-own : goal.renew-requires-clause-own
+renew-requires-clause-own c = grind arith
+
+pub renew-requires-clause-room : goal.renew-requires-clause-room
+renew-requires-clause-room c = grind arith

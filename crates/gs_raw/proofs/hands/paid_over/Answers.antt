@@ -33,3 +33,6 @@ returns c =
       positive = b.some;
       value_is = ap (λ z. x.num *ℤ z) (sym den) ∙ c.new-2.ensures ∙ ap (λ z. z *ℤ x.den) num ∙ *ℤ_comm c.args.paid x.den ∙ ap (λ z. z *ℤ c.args.paid) b.is;
     }
+
+pub new-requires-2-clause-positive : goal.new-requires-2-clause-positive
+new-requires-2-clause-positive c = grind arith

@@ -1,4 +1,4 @@
-use Rattle.std.proofs.{Common.{◌≤◌, Global, List, Vec, sym, subst, true≢false, ◌∙◌}, lemmas.Result.{err_from_is_err_and}}
+use Rattle.std.proofs.{Common.{arith, ◌≤◌, Global, List, Vec, sym, subst, true≢false, ◌∙◌}, lemmas.Result.{err_from_is_err_and}}
 use Rattle.gs_frac.specs.declared.value.Fraction.{Fraction}
 use Rattle.gs_seq.specs.Games.{frame_in}
 use Rattle.gs_tree.specs.declared.signals.Signals.{Signals}
@@ -46,3 +46,6 @@ returns-clause-hands c asked =
 pub returns-clause-small : goal.returns-clause-small
 returns-clause-small c = subst (λ (s : Signals). raw_cell_count (frame_in s.game.now) ≤ 16777216) c.known-lossless.ensures.held_signals
     c.in_ok-form.ensures.small
+
+pub known-lossless-requires-clause-lossless : goal.known-lossless-requires-clause-lossless
+known-lossless-requires-clause-lossless c = grind arith

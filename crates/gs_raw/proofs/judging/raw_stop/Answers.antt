@@ -1,4 +1,4 @@
-use Rattle.std.proofs.Common.{ℕ, ◌<◌, ap, sym, ◌∙◌, subst}
+use Rattle.std.proofs.{Common.{ℕ, ◌<◌, ap, sym, ◌∙◌, subst, arith}, lemmas.Grind.{common_steps}}
 use Rattle.gs_filter.specs.Filter.{Filter}
 use Rattle.gs_model.specs.Lossless.{IsLossless}
 use Rattle.gs_seq.specs.{Cells.{cell_count}, Games.{frame_in}, Stops.{IsStopAt}}
@@ -21,3 +21,6 @@ returns-in-Ok c =
     let stop = subst (IsStopAt raw_limits f c.args.lossless.now.classes.now.lists) c.in-TooManySequences.is c.requires.stop in
     let many = too_many_cells g c.args.lossless.now.classes.now.lists _ _ c.requires.singles stop in
     (count, subst (λ (n : ℕ). 16777216 < n) (sym count) many)
+
+pub cell_total-requires-clause-parents : goal.cell_total-requires-clause-parents
+cell_total-requires-clause-parents c = grind (arith, common_steps)

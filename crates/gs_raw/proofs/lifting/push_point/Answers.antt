@@ -1,4 +1,4 @@
-use Rattle.std.proofs.Common.{◌≡◌, ℕ, ◌+◌, ◌-◌, ◌*◌, ◌<◌, ◌≤◌, ◌^◌, ◌++◌, List, length, take, drop, ap, ◌∙◌, subst, arith}
+use Rattle.std.proofs.{Common.{◌≡◌, ℕ, ◌+◌, ◌-◌, ◌*◌, ◌<◌, ◌≤◌, ◌^◌, ◌++◌, List, length, take, drop, ap, ◌∙◌, subst, arith}, lemmas.Grind.{common_steps}}
 use Rattle.gs_model.specs.{Classes.{IsClass, class_of}, Frame.{point_count, round_of, signal_count}, Positions.{at_point}}
 use Rattle.gs_seq.specs.{Games.{frame_in}, Slots.{slot_of}}
 use Rattle.gs_seq.proofs.SlotLaws.{slots_few}
@@ -71,3 +71,9 @@ returns c =
     omega (arith, (here (goal.at.returns c).After-len-moves).wide, c.signals-signal-end.ensures) in
     subst (λ n. IsSpreadBehind f c.args.classes.now.lists c.args.point n c.args.plan.now.weights.items c.args.weights.now.items c.loop-signal.weights.items) e
     c.loop-signal.invariant
+
+pub class_of-class-requires-clause-top : goal.class_of-class-requires-clause-top
+class_of-class-requires-clause-top c = grind (arith, common_steps)
+
+pub bounds-points-point : goal.bounds-points-point
+bounds-points-point c = grind (arith, common_steps)

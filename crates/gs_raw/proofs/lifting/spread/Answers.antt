@@ -1,4 +1,4 @@
-use Rattle.std.proofs.Common.{◌≡◌, ℕ, ◌+◌, ◌*◌, ◌<◌, ◌^◌, length, refl, ap, sym, ◌∙◌, subst, arith, Vec, Global}
+use Rattle.std.proofs.{Common.{◌≡◌, ℕ, ◌+◌, ◌*◌, ◌<◌, ◌^◌, length, refl, ap, sym, ◌∙◌, subst, arith, Vec, Global}, lemmas.Grind.{common_steps}}
 use Rattle.gs_game.specs.Games.{game_of}
 use Rattle.gs_model.specs.{Classes.{class_count}, Frame.{point_count}}
 use Rattle.gs_model.proofs.Ranges.{in_range}
@@ -123,3 +123,9 @@ returns-clause-same c =
     (in_range (game_of g.game) (playable g))
     (walked g c.args.plan.now.player c.requires.some c.requires.two) (over (frame_in g) c.args.classes.now c.requires.parents) c.requires.plan.plan
     all.long all.rows
+
+pub push_point-requires-clause-in_range : goal.push_point-requires-clause-in_range
+push_point-requires-clause-in_range c = grind (arith, common_steps)
+
+pub bounds-points-point : goal.bounds-points-point
+bounds-points-point c = grind (arith, common_steps)

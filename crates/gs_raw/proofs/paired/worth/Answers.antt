@@ -1,4 +1,4 @@
-use Rattle.std.proofs.{Common.{pos, ◌*◌, ◌<◌, sym, ap, ◌∙◌, subst}, lemmas.Int.{to_z-of_z}}
+use Rattle.std.proofs.{Common.{arith, pos, ◌*◌, ◌<◌, sym, ap, ◌∙◌, subst}, lemmas.Grind.{common_steps}, lemmas.Int.{to_z-of_z}}
 use Rattle.std.specs.Prelude.{◌*ℤ◌}
 use mir.Syntax.{w128}
 use Rattle.gs_best.specs.Judged.{parts}
@@ -40,3 +40,12 @@ returns c =
       positive = v.positive;
       value_is = ap (λ w. c.paid_over.result.num *ℤ pos (w * t1 * t2)) (sym weight) ∙ v.value_is ∙ ap (λ p. pos (parts c.paid_over.result).1 *ℤ p) num;
     }
+
+pub descendants-run-requires-clause-in_range : goal.descendants-run-requires-clause-in_range
+descendants-run-requires-clause-in_range c = grind (arith, common_steps)
+
+pub paid_over-requires-clause-one : goal.paid_over-requires-clause-one
+paid_over-requires-clause-one c = grind arith
+
+pub paid_over-requires-clause-two : goal.paid_over-requires-clause-two
+paid_over-requires-clause-two c = grind arith

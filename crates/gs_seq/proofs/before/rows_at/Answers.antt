@@ -28,3 +28,9 @@ invariant_of-stopped-in-Some c = let s = c.in_ok-stopped.stopped in record
 pub invariant_of-stopped-in-Some-2 : goal.invariant_of-stopped-in-Some-2
 invariant_of-stopped-in-Some-2 c = let s = c.in_ok-stopped.stopped in record
     { listed = s.listed; ranked = s.ranked; beside = s.beside; dealt = s.dealt; strong = s.strong; masked = s.masked; even = s.even; counted = s.counted }
+
+pub invariant_of-at : goal.invariant_of-at
+invariant_of-at c = grind arith
+
+pub rows_in-requires-clause-lossless : goal.rows_in-requires-clause-lossless
+rows_in-requires-clause-lossless c = grind arith

@@ -1,3 +1,4 @@
+use Rattle.std.proofs.lemmas.Grind.{common_steps}
 use Rattle.std.proofs.{Common.{◌≡◌, ◌+◌, ◌<◌, ℕ, get_or, length, ap, sym, ◌∙◌, subst, arith, Vec, vec_len}, lemmas.List.{with_items_is}}
 use Rattle.std.specs.declared.alloc.Global.{Global}
 use Rattle.gs_game.specs.Games.{game_of}
@@ -63,3 +64,18 @@ returns-clause-firsts c =
     let f = frame_in c.args.game.now in
     let all : c.loop-point.point ≡ point_count f = omega (arith, c.loop-point-test.false, c.point_total-point-end.ensures, c.loop-point.auto.point-end) in
     subst (AreFirstBefore f c.args.classes.now.lists c.args.player c.loop-point.weights.items) all c.loop-point.invariant.firsts
+
+pub put_first-requires-clause-firsts : goal.put_first-requires-clause-firsts
+put_first-requires-clause-firsts c = grind arith
+
+pub loop-point-init : goal.loop-point-init
+loop-point-init c = grind (arith, common_steps)
+
+pub bounds-points-point-in-loop-point : goal.bounds-points-point-in-loop-point
+bounds-points-point-in-loop-point c = grind (arith, common_steps)
+
+pub bounds-points-point : goal.bounds-points-point
+bounds-points-point c = grind (arith, common_steps)
+
+pub put_first-requires-clause-clear : goal.put_first-requires-clause-clear
+put_first-requires-clause-clear c = grind arith

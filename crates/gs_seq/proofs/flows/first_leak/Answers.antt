@@ -1,4 +1,4 @@
-use Rattle.std.proofs.Common.{◌≡◌, ◌+◌, get_or, sym, ◌∙◌, arith}
+use Rattle.std.proofs.{Common.{◌≡◌, ◌+◌, get_or, sym, ◌∙◌, arith}, lemmas.Grind.{common_steps}}
 use Rattle.gs_model.specs.Frame.{player_at, point_count}
 use Rattle.gs_seq.specs.{Games.{frame_in}, Slots.{plan_of}}
 use Rattle.gs_seq.proofs.{Leaks.{flows_more, slots_none}, Points.{chooser}, SlotLaws.{slots_le, slots_more}, flows.first_leak.Goals.{After-index-points-point}}
@@ -56,3 +56,9 @@ loop-point-preserved c =
       flows = flows_more f lists c.args.player (plan_of f lists c.args.total c.args.weights.now) c.loop-point.point c.loop-point.invariant.flows
           (λ own. c.in_default.ensures);
     }
+
+pub bounds-points-point-in-loop-point : goal.bounds-points-point-in-loop-point
+bounds-points-point-in-loop-point c = grind (arith, common_steps)
+
+pub bounds-points-point : goal.bounds-points-point
+bounds-points-point c = grind (arith, common_steps)

@@ -1,4 +1,4 @@
-use Rattle.std.proofs.{Common.{◌≡◌, ◌+◌, sum_by, ap, sym, ◌∙◌, subst, arith, ⊎_elim}, lemmas.Bool.{cases_eq}}
+use Rattle.std.proofs.{lemmas.Grind.{common_steps}, Common.{◌≡◌, ◌+◌, sum_by, ap, sym, ◌∙◌, subst, arith, ⊎_elim}, lemmas.Bool.{cases_eq}}
 use Rattle.gs_model.specs.{Classes.{class_count, first_member}, Frame.{choices_at, last_step, round_of}, Plans.{lift, number_before}, Positions.{at_point}}
 use Rattle.gs_seq.specs.{Faults.{FlowsAt}, Games.{frame_in}, Slots.{plan_of}, Sources.{MatchSource}}
 use Rattle.gs_seq.proofs.{Leaks.{RowAt, class_sum, row_at}, Points.{Reads, point_reads, round_in}, SlotLaws.{over, slots_own_before}}
@@ -113,3 +113,6 @@ returns c =
       ap (class_count
           c.args.classes.now.lists) r.round,
     ))
+
+pub bounds-points-point : goal.bounds-points-point
+bounds-points-point c = grind (arith, common_steps)

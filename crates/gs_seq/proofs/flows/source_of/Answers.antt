@@ -1,4 +1,4 @@
-use Rattle.std.proofs.Common.{◌<◌, length, ap, sym, refl, ◌∙◌, subst, arith}
+use Rattle.std.proofs.{Common.{◌<◌, length, ap, sym, refl, ◌∙◌, subst, arith}, lemmas.Grind.{common_steps}}
 use Rattle.gs_game.specs.{Seen.{step_of}, declared.positions.Point.{Point}}
 use Rattle.gs_model.specs.Positions.{at_point}
 use Rattle.gs_seq.specs.{Games.{frame_in}, Sources.{MatchSource}}
@@ -63,3 +63,9 @@ returns c =
         choice = refl;
       },
     )
+
+pub bounds-points-point-2 : goal.bounds-points-point-2
+bounds-points-point-2 c = grind (arith, common_steps)
+
+pub bounds-points-point : goal.bounds-points-point
+bounds-points-point c = grind (arith, common_steps)

@@ -1,4 +1,4 @@
-use Rattle.std.proofs.{Common.{◌≡◌, ap, ◌∙◌, refl, subst}, lemmas.Result.{IfOk-weaker}}
+use Rattle.std.proofs.{Common.{arith, ◌≡◌, ap, ◌∙◌, refl, subst}, lemmas.Grind.{common_steps}, lemmas.Result.{IfOk-weaker}}
 use Rattle.std.specs.Prelude.{MatchOption, Option, Some}
 use Rattle.gs_boards.specs.declared.board_order.BoardOrder.{BoardOrder}
 use Rattle.gs_model.specs.Frame.{last_round}
@@ -32,3 +32,9 @@ returns-then-are_made-clause-single c =
     (λ (y : BoardOrder). y.signals.now ≡ mine))
     (λ (o : Option BoardOrder). (b : BoardOrder) → o ≡ Some b → IsSingleIn s.classes.now.lists (last_round (frame_in s.signals.now.game.now)))
     (λ o h b is. single) c.of.ensures
+
+pub are_made-requires : goal.are_made-requires
+are_made-requires c = grind (arith, common_steps)
+
+pub returns-else-are_made-clause-single : goal.returns-else-are_made-clause-single
+returns-else-are_made-clause-single c = grind arith

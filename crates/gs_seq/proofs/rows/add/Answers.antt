@@ -1,4 +1,4 @@
-use Rattle.std.proofs.Common.{◌≡◌, ◌-◌, ◌∷◌, ◌++◌, [], length, get_or, reverse, set, ap, sym, ◌∙◌, subst, refl, List, arith}
+use Rattle.std.proofs.{Common.{◌≡◌, ◌-◌, ◌∷◌, ◌++◌, [], length, get_or, reverse, set, ap, sym, ◌∙◌, subst, refl, List, arith}, lemmas.Grind.{common_steps}}
 use Rattle.gs_seq.specs.Rows.{join}
 use Rattle.gs_seq.proofs.{Gathered.{join_last, join_next, join_none}, rows.add.Goals.{then-count-gt0+else-last-pair, else-count-gt0}}
 use Rattle.gs_seq.proofs.rows.add.Goals as goal
@@ -29,3 +29,9 @@ returns-clause-row c =
     empty : {X : Type 0} (ys : List X) → length ys ≡ 0 → ys ≡ []
     empty [] e = refl
     empty (y ∷ ys) e = absurd (omega arith)
+
+pub returns-then-last-pair-clause-moderate : goal.returns-then-last-pair-clause-moderate
+returns-then-last-pair-clause-moderate c = grind (arith, common_steps)
+
+pub returns-clause-moderate : goal.returns-clause-moderate
+returns-clause-moderate c = grind arith

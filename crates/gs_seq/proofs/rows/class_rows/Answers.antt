@@ -17,3 +17,6 @@ loop-before-preserved c =
           _ c.in_ok-row.row c.loop-before.before c.in_ok-push.ensures.items
           (sym rows.ok.0 ∙ c.loop-before.invariant.long) c.loop-before.invariant.row c.in_ok-row.ensures;
     }
+
+pub class_row-requires-clause-lossless : goal.class_row-requires-clause-lossless
+class_row-requires-clause-lossless c = grind arith

@@ -1,4 +1,4 @@
-use Rattle.std.proofs.Common.{◌≡◌, ◌+◌, ◌-◌, ◌++◌, ◌∷◌, [], ℕ, List, Vec, Global, ap, get_or, length, sym, ◌∙◌, subst, arith}
+use Rattle.std.proofs.{Common.{◌≡◌, ◌+◌, ◌-◌, ◌++◌, ◌∷◌, [], ℕ, List, Vec, Global, ap, get_or, length, sym, ◌∙◌, subst, arith}, lemmas.Grind.{common_steps}}
 use Rattle.gs_model.specs.{Frame.{last_round}, Lossless.{IsLossless}}
 use Rattle.gs_model.proofs.Walked.{last_round_of}
 use Rattle.gs_tree.specs.{Trees.{rules_of}, declared.signals.Signals.{Signals}}
@@ -83,3 +83,6 @@ returns-clause-rows c =
           (let at : c.loop-round.round + (round - 1) ≡ round = omega (arith, some, i.some, c.loop-round-test.false) in
           subst (λ j. AreRowsOf s j (get_or rows (round - 1) d).items) at (i.each (round - 1) d (omega (arith, some, within))));
     }
+
+pub rows_in-requires-clause-parents : goal.rows_in-requires-clause-parents
+rows_in-requires-clause-parents c = grind (arith, common_steps)

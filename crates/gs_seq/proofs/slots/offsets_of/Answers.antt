@@ -85,3 +85,9 @@ loop-point-preserved c =
       two_is = omega (arith, c.slots_at-in-loop-point.ensures, c.loop-point.invariant.two_is, slots_more f lists 2 q);
       first = below_more _ _ (λ k l. grind (arith, common_steps, c.loop-point.invariant.first k l)) (grind (arith, common_steps, chosen));
     }
+
+pub bounds-points-point-in-loop-point : goal.bounds-points-point-in-loop-point
+bounds-points-point-in-loop-point c = grind (arith, common_steps)
+
+pub bounds-points-point : goal.bounds-points-point
+bounds-points-point c = grind (arith, common_steps)

@@ -1,4 +1,4 @@
-use Rattle.std.proofs.Common.{◌≡◌, ◌^◌, ◌∙◌, ap, arith, of_z, refl, to_z, FitsSigned}
+use Rattle.std.proofs.{Common.{◌≡◌, ◌^◌, ◌∙◌, ap, arith, of_z, refl, to_z, FitsSigned}, lemmas.Grind.{common_steps}}
 use Rattle.std.proofs.{lemmas.Int.{fits_signed_from_abs, unsigned_abs-mul}, lemmas.Nat.{mul-le}}
 use Rattle.std.specs.{Int.{w128}, Prelude.{◌*ℤ◌, unsigned_abs}}
 use Rattle.gs_seq.proofs.Signed.{read_back}
@@ -18,3 +18,6 @@ returns c =
       mul-le (unsigned_abs chips) (unsigned_abs sum) 65535 (2 ^ 90) c.requires.chips (omega (arith, c.requires.sum)),
     )) in
     ap (λ z. to_z w128 (of_z w128 z)) both ∙ read_back (chips *ℤ sum) _ fits refl
+
+pub overflow_mul-result : goal.overflow_mul-result
+overflow_mul-result c = grind (arith, common_steps)

@@ -1,8 +1,11 @@
-use Rattle.std.proofs.{Common.{◌≡◌, ◌+◌, pos, neg_ℤ, ◌-ℤ◌, ◌*ℤ◌, to_z, of_z, sym, ap, ◌∙◌, arith}, lemmas.Grind.{common_steps}}
+use Rattle.std.proofs.{Common.{◌≡◌, ◌+◌, ◌<◌, ◌^◌, ℤ, pos, unsigned_abs, neg_ℤ, ◌-ℤ◌, ◌*ℤ◌, ◌<ℤ◌, to_z, of_z, sym, ap, subst, ◌∙◌, arith}, lemmas.Int.{ints}}
 use mir.Syntax.{w128}
 use Rattle.gs_simplex.specs.Table.{grid_of, table_aim}
 use Rattle.gs_simplex.proofs.{Fits.{widened, negated}, Tables.{flipped_other}}
 use Rattle.gs_simplex.proofs.best.price_at.Goals as goal
+
+negated_small : (x : ℤ) → unsigned_abs x < 2 ^ 62 → unsigned_abs (neg_ℤ x) < 2 ^ 127
+negated_small x h = omega (arith, ints)
 
 pub returns : goal.returns
 returns c =
@@ -16,7 +19,14 @@ returns c =
     ap (λ t. f.num *ℤ t) (sym m) ∙ c.new.ensures ∙ ap (λ t. t *ℤ f.den) g
 
 pub new-requires-clause-positive : goal.new-requires-clause-positive
-new-requires-clause-positive c = grind (arith, common_steps)
+new-requires-clause-positive c =
+    let p = c.args.p.now in let grid = grid_of p c.args.table.now in let x = c.number_at-multiple.result in
+    let m : to_z w128 (of_z w128 c.from-2.result) ≡ table_aim p grid (p.cols + 1) =
+    widened x c.from-2.result c.number_at-multiple.ensures.narrow c.from-2.ensures
+    ∙ c.number_at-multiple.ensures.value ∙ sym (flipped_other p.cols (grid p.rows) (p.cols + 1) (λ e. omega arith)) in
+    let P : ℤ → Type 0 = λ z. pos 0 <ℤ z in subst P (sym m) c.requires.multiple
 
 pub new-requires-clause-fits : goal.new-requires-clause-fits
-new-requires-clause-fits c = grind (arith, common_steps)
+new-requires-clause-fits c =
+    let x = c.number_at-falls.result in let n = c.number_at-falls.ensures.narrow in
+    let P : ℤ → Type 0 = λ z. unsigned_abs z < 2 ^ 127 in subst P (sym (negated x c.from.result n c.from.ensures)) (negated_small x n)

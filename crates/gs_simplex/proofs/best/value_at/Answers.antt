@@ -1,4 +1,4 @@
-use Rattle.std.proofs.{Common.{◌≡◌, ℕ, ◌+◌, ◌-◌, ◌*ℤ◌, to_z, of_z, sym, ap, subst, ◌∙◌, arith}, lemmas.Grind.{common_steps}}
+use Rattle.std.proofs.Common.{◌≡◌, ℕ, ◌+◌, ◌-◌, ℤ, pos, ◌*ℤ◌, ◌<ℤ◌, to_z, of_z, sym, ap, subst, ◌∙◌, arith}
 use mir.Syntax.{w128}
 use Rattle.gs_simplex.specs.Table.{grid_of}
 use Rattle.gs_simplex.proofs.Fits.{widened}
@@ -23,4 +23,9 @@ returns c =
     }
 
 pub new-requires-2-clause-positive : goal.new-requires-2-clause-positive
-new-requires-2-clause-positive c = grind (arith, common_steps)
+new-requires-2-clause-positive c =
+    let grid = grid_of c.args.p.now c.args.table.now in let i = c.args.row - 1 in let x = c.number_at-own.result in
+    let e : c.args.row ≡ i + 1 = omega (arith, c.if-row-eq0.false) in
+    let own : to_z w128 (of_z w128 c.from-2.result) ≡ grid i c.args.j = widened x c.from-2.result c.number_at-own.ensures.narrow c.from-2.ensures
+    ∙ c.number_at-own.ensures.value in
+    let P : ℤ → Type 0 = λ z. pos 0 <ℤ z in subst P (sym own) (c.requires.row.inside i e).1

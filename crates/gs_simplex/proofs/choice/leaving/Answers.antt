@@ -25,3 +25,6 @@ returns c =
     let P : Option Ratio → Type 0 = λ x. IsLeastSoFar p l rows c.args.e c.loop-place.place x in
     let Q : ℕ → Type 0 = λ k. IsLeastSoFar p l rows c.args.e k (Some c.in_ok-best.field-0) in
     leaves_from p l rows c.args.e c.in_ok-best.field-0 (subst Q all (subst P (c.in_ok-best.was) c.loop-place.invariant))
+
+pub ratio_at-requires-clause-shaped : goal.ratio_at-requires-clause-shaped
+ratio_at-requires-clause-shaped c = c.requires.shaped

@@ -48,3 +48,6 @@ returns c =
       narrow = subst N (sym eo) o.ensures.narrow;
       narrow_side = subst N (sym es) s.ensures.narrow;
     }
+
+pub is_free-requires-clause-shaped : goal.is_free-requires-clause-shaped
+is_free-requires-clause-shaped c = c.requires.shaped

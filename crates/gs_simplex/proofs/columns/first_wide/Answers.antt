@@ -3,7 +3,7 @@ use Rattle.std.proofs.{Common.{◌∙◌, arith, below_more}, lemmas.Int.{ints}}
 use mir.Syntax.{w128}
 use Prim.Native.Nat.{◌∣◌}
 use Rattle.gs_simplex.specs.{Rows.{IsNarrow}, Numbers.{at}, Columns.{place_in, in_columns, IsTimes}}
-use Rattle.gs_simplex.proofs.{Ring.{cancel}, Guesses.{quotient_divides}, Fits.{kept_128}, Standing.{placed, number_inside}}
+use Rattle.gs_simplex.proofs.{Ring.{cancel}, Guesses.{quotient_divides}, Fits.{kept_128}, Standing.{placed, number_inside, number_none}}
 use Rattle.gs_simplex.proofs.columns.first_wide.Goals as goal
 use Rattle.gs_simplex.proofs.columns.first_wide.Goals.{After-quotient-number}
 
@@ -73,3 +73,15 @@ loop-j-preserved c =
     let same : to_z w128 (of_z w128 z) ≡ z = kept_128 z (omega (arith, c.quotient-number.ensures.small_result)) in
     let n : unsigned_abs z < 2 ^ 62 = omega (arith, c.unsigned_abs.ensures.value, ap unsigned_abs same) in
     let P : ℤ → Type 0 = λ t. IsNarrow t in subst P (sym (number_at w row u)) n)
+
+pub quotient-number-requires-clause-within : goal.quotient-number-requires-clause-within
+quotient-number-requires-clause-within c = grind arith
+
+pub loop-j-preserved-then-place-mixed : goal.loop-j-preserved-then-place-mixed
+loop-j-preserved-then-place-mixed c =
+    let w = length c.args.mixed.now in let k = place_in c.args.rows w (slice_index c.args.stands.now c.loop-j.j) c.args.i in
+    let N : ℕ → Type 0 = λ h. (row : ℕ → ℤ) → IsTimes c.args.by c.args.mixed.now row
+    → IsNarrow (in_columns c.args.rows w (slice_index c.args.stands.now) c.args.i row h) in
+    let P : ℤ → Type 0 = λ t. IsNarrow t in
+    let none : w ≤ k = omega (arith, c.place_of-place.ensures, c.if-place-mixed.true) in
+    below_more N c.loop-j.j c.loop-j.invariant (λ row u. subst P (sym (number_none w row k none)) (omega arith))

@@ -1,4 +1,4 @@
-use Rattle.std.proofs.{Common.{◌<◌, length, slice_index, arith}, lemmas.List.{length-set}}
+use Rattle.std.proofs.{lemmas.Grind.{common_steps}, Common.{◌<◌, length, slice_index, arith}, lemmas.List.{length-set}}
 use Rattle.gs_simplex.proofs.Living.{skipped, added}
 use Rattle.gs_simplex.proofs.columns.live_places.Goals as goal
 
@@ -20,3 +20,6 @@ loop-j-preserved c =
     ) in
     added c.args.rows c.args.width (length s) (slice_index s) c.loop-j.live c.loop-j.found c.loop-j.j c.requires.stands c.loop-j-test.true
     c.loop-j.invariant c.if-stands-j.false room
+
+pub loop-j-init : goal.loop-j-init
+loop-j-init c = grind (arith, common_steps)

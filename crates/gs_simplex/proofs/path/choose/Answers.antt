@@ -14,3 +14,6 @@ pub returns-in-None : goal.returns-in-None
 returns-in-None c =
     let p = c.args.p.now in let w = c.in-Some.ensures in
     (enters_from p (grid_of p c.args.table.now) c.args.basis.now c.in-Some.column c.requires.rows w.0 w.1 w.2, c.in-None.ensures)
+
+pub leaving-requires-clause-shaped : goal.leaving-requires-clause-shaped
+leaving-requires-clause-shaped c = c.requires.shaped

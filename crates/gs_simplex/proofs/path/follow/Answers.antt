@@ -6,3 +6,6 @@ returns-in-None c = grind arith
 
 pub loop-made-preserved : goal.loop-made-preserved
 loop-made-preserved c = grind arith
+
+pub step-requires-clause-shaped : goal.step-requires-clause-shaped
+step-requires-clause-shaped c = c.requires.ready.shaped

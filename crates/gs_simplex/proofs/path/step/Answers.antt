@@ -1,7 +1,7 @@
 use Rattle.std.proofs.Common.{◌≡◌, ℕ, ◌+◌, length, sym, subst, arith}
 use Rattle.gs_simplex.specs.{Path.{PathStops, wide}, declared.answer.Stop.{Stop}, Table.{grid_of, IsHeld, stated}}
 use Rattle.gs_simplex.specs.{State.{IsSoFar, IsPivoted, IsWidePivot}, Answer.{IsStop}}
-use Rattle.gs_simplex.proofs.Paths.{rows_of_so_far, turn_at, none_of, if_none, pivots_stops, unbounded_stops, pivot_next, pivot_wide}
+use Rattle.gs_simplex.proofs.Paths.{rows_of_so_far, turn_at, none_of, if_none, pivots_stops, unbounded_stops, leaving_nonzero, pivot_next, pivot_wide}
 use Rattle.gs_simplex.proofs.path.step.Goals as goal
 
 pub choose-requires-clause-rows : goal.choose-requires-clause-rows
@@ -54,3 +54,12 @@ returns-in_default c =
 
 pub returns-in-Ends : goal.returns-in-Ends
 returns-in-Ends c = grind arith
+
+pub pivot-requires-clause-rises : goal.pivot-requires-clause-rises
+pivot-requires-clause-rises c = leaving_nonzero c.in-Leaves.place c.in-Leaves.ensures.1
+
+pub choose-requires-clause-shaped : goal.choose-requires-clause-shaped
+choose-requires-clause-shaped c = c.requires.shaped
+
+pub pivot-requires-clause-table : goal.pivot-requires-clause-table
+pivot-requires-clause-table c = c.requires.state.table

@@ -1,7 +1,7 @@
-use Rattle.std.proofs.{Common.{◌≡◌, ℕ, ◌+◌, ◌-◌, ◌<◌, ◌≤◌, ℤ, length, List, take, drop, refl, sym, subst, arith}, lemmas.Grind.{common_steps}}
+use Rattle.std.proofs.{Common.{◌≡◌, ℕ, ◌+◌, ◌-◌, ◌<◌, ◌≤◌, ℤ, length, List, take, drop, refl, sym, subst, ◌∙◌, arith}, lemmas.Grind.{common_steps}}
 use borrow.Rule.Slice.PartMut.{put_mid}
 use Rattle.gs_simplex.specs.Numbers.{at, IsDivided}
-use Rattle.gs_simplex.proofs.Places.{at_part, part_long, length_put, at_put_inside, narrow_put, divided_same}
+use Rattle.gs_simplex.proofs.Places.{at_part, part_long, length_put, at_put_inside, narrow_put, divided_same, others_put}
 use Rattle.gs_simplex.proofs.start.divide_at.Goals as goal
 
 divided : (xs ys : List ℤ) (start w n : ℕ) → n ≡ start + w - start → start + w ≤ length xs → length ys ≡ n → 0 < w
@@ -27,7 +27,10 @@ returns-clause-narrow c =
     (let e = length_put c.args.numbers.now c.divide_row.new.row s n long (omega (arith, c.requires.inside)) in omega arith)
 
 pub returns-clause-others : goal.returns-clause-others
-returns-clause-others c = grind (arith, common_steps)
+returns-clause-others c =
+    let w = c.args.width in let s = c.args.start in let n = s + w - s in
+    others_put c.args.numbers.now c.divide_row.new.row s w n refl c.requires.inside
+    (c.divide_row.auto.row ∙ part_long c.args.numbers.now s w n refl c.requires.inside ∙ omega arith)
 
 pub divide_row-requires-clause-narrow : goal.divide_row-requires-clause-narrow
 divide_row-requires-clause-narrow c = grind (arith, common_steps)

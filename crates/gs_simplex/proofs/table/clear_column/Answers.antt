@@ -1,7 +1,8 @@
 use Rattle.std.proofs.Common.{◌≡◌, ◌≢◌, ◌⊎◌, ℕ, ◌+◌, ◌*◌, ◌<◌, ◌≤◌, ℤ, List, length, slice_index, refl, sym, subst, ◌∙◌, arith, below_more}
 use Rattle.std.proofs.lemmas.Grind.{common_steps}
 use Rattle.gs_simplex.specs.{Numbers.{at, cell, IsAtMost}, Columns.{IsRowCleared}}
-use Rattle.gs_simplex.proofs.{Places.{at_most_same, row_stays, row_inside, rows_left, tops_more, tops_left_more}, Standing.{slot_freed_same, row_cleared_same}}
+use Rattle.gs_simplex.proofs.Places.{at_most_same, row_stays, row_inside, row_ends, rows_left, tops_more, tops_left_more}
+use Rattle.gs_simplex.proofs.Standing.{slot_freed_same, row_cleared_same}
 use Rattle.gs_simplex.proofs.table.clear_column.Goals as goal
 
 pub loop-i-preserved-then-i-lead : goal.loop-i-preserved-then-i-lead
@@ -107,7 +108,9 @@ pub overflow_mul-i : goal.overflow_mul-i
 overflow_mul-i c = grind (arith, common_steps)
 
 pub reduce_at-requires-clause-inside : goal.reduce_at-requires-clause-inside
-reduce_at-requires-clause-inside c = grind (arith, common_steps)
+reduce_at-requires-clause-inside c =
+    let w = length c.args.lead.now.numbers.now in
+    omega (arith, c.loop-i.auto.numbers, c.requires.long, row_ends (length c.args.tops.now) w c.loop-i.i c.loop-i-test.true)
 
 pub loop-i-init : goal.loop-i-init
 loop-i-init c = grind (arith, common_steps)

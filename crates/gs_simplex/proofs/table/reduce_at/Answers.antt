@@ -1,4 +1,5 @@
 use Rattle.std.proofs.Common.{◌≡◌, MatchResult, Result, Ok, Err, ℕ, ◌+◌, ◌-◌, ◌<◌, ◌≤◌, ℤ, length, List, take, drop, refl, sym, subst, ◌∙◌, arith}
+use Rattle.std.proofs.lemmas.Grind.{common_steps}
 use borrow.Rule.Slice.PartMut.{put_mid}
 use Rattle.gs_simplex.specs.{Numbers.{at, AreNarrowNumbers, AllAtMost, IsAtMost, IsMixed, IsWideReduced}, Columns.{IsSlotFreed, IsRowCleared}}
 use Rattle.gs_simplex.proofs.Places.{at_part, part_long, length_put, at_put_inside, narrow_put, multiple_same, at_most_same, others_put}
@@ -89,3 +90,6 @@ returns-clause-answer c =
     answer c.args.lead.now.numbers.now c.args.numbers.now c.free_slot.new.row c.reduce_row.new.row c.reduce_row.new.mixed s c.args.q c.args.lead.now.column n
     c.reduce_row.result refl c.requires.inside long c.requires.narrow (freed_here k.After-free_slot) c.reduce_row.ensures
     (length_put c.args.numbers.now c.reduce_row.new.row s n long (omega (arith, c.requires.inside)))
+
+pub free_slot-requires-clause-narrow : goal.free_slot-requires-clause-narrow
+free_slot-requires-clause-narrow c = grind (arith, common_steps)

@@ -64,3 +64,6 @@ returns-clause-narrow c = λ k h.
     let long : length ys ≡ n = omega (arith, c.take_row.auto.row, c.free_own.auto.row, part_long xs s w n refl c.requires.inside) in
     let inside : s + n ≤ length xs = omega (arith, c.requires.inside) in
     narrow_put xs ys s n long inside c.requires.narrow c.take_row.ensures.narrow k (omega (arith, h, length_put xs ys s n long inside))
+
+pub free_own-requires-clause-narrow : goal.free_own-requires-clause-narrow
+free_own-requires-clause-narrow c = grind (arith, common_steps)

@@ -1,4 +1,4 @@
-use Rattle.std.proofs.Common.{◌≡◌, ◌+◌, neg_ℤ, ◌-ℤ◌, ◌*ℤ◌, pos, to_z, of_z, sym, ap, ◌∙◌, arith}
+use Rattle.std.proofs.Common.{◌≡◌, ◌+◌, ℤ, neg_ℤ, ◌-ℤ◌, ◌*ℤ◌, ◌<ℤ◌, pos, to_z, of_z, sym, ap, subst, ◌∙◌, arith}
 use mir.Syntax.{w128}
 use Rattle.gs_simplex.specs.Table.{grid_of, table_aim}
 use Rattle.gs_simplex.proofs.{Fits.{widened, negated}, Tables.{flipped_at, flipped_other}}
@@ -16,4 +16,9 @@ returns c =
     ap (λ t. f.num *ℤ t) (sym m) ∙ c.new.ensures ∙ ap (λ t. t *ℤ f.den) g
 
 pub new-requires-clause-positive : goal.new-requires-clause-positive
-new-requires-clause-positive c = grind arith
+new-requires-clause-positive c =
+    let p = c.args.p.now in let grid = grid_of p c.args.table.now in let x = c.number_at-multiple.result in
+    let m : to_z w128 (of_z w128 c.from-2.result) ≡ table_aim p grid (p.cols + 1) =
+    widened x c.from-2.result c.number_at-multiple.ensures.narrow c.from-2.ensures
+    ∙ c.number_at-multiple.ensures.value ∙ sym (flipped_other p.cols (grid p.rows) (p.cols + 1) (λ e. omega arith)) in
+    let P : ℤ → Type 0 = λ z. pos 0 <ℤ z in subst P (sym m) c.requires.multiple

@@ -65,3 +65,21 @@ returns-clause-members c =
     let h = c.loop-next.invariant in
     numbered_all (frame_of (rules_of at.signals.now)) at.classes.now.lists at.side at.round c.args.class c.loop-next.seen.keys c.loop-next.numbers
     c.loop-next.next h.numbered (omega (arith, h.long, c.requires.numbers, c.loop-next-test.false))
+
+pub loop-next-smaller : goal.loop-next-smaller
+loop-next-smaller c = grind arith
+
+pub bounds-numbers-signal-in-loop-next : goal.bounds-numbers-signal-in-loop-next
+bounds-numbers-signal-in-loop-next c = grind arith
+
+pub number_of_list-requires-clause-few : goal.number_of_list-requires-clause-few
+number_of_list-requires-clause-few c = grind arith
+
+pub returns-clause-others : goal.returns-clause-others
+returns-clause-others c = grind arith
+
+pub bounds-firsts-signal : goal.bounds-firsts-signal
+bounds-firsts-signal c = grind arith
+
+pub loop-next-smaller-then-first-signal : goal.loop-next-smaller-then-first-signal
+loop-next-smaller-then-first-signal c = grind arith

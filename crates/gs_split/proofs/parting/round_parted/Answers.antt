@@ -1,4 +1,4 @@
-use Rattle.std.proofs.Common.{◌≡◌, ◌<◌, ◌≤◌, ℕ, List, ap, arith, length, subst, sym, ◌∙◌, Vec, Global}
+use Rattle.std.proofs.{Common.{◌≡◌, ◌<◌, ◌≤◌, ℕ, List, ap, arith, length, subst, sym, ◌∙◌, Vec, Global}, lemmas.Grind.{common_steps}}
 use Rattle.std.specs.List.{All}
 use Rattle.gs_model.specs.{Classes.{list_of}, Frame.{frame_of}, Game.{round_count}}
 use Rattle.gs_model.proofs.{Ranges.{length-parents, parents_at, signal_count_is}, Walked.{last_round_of}}
@@ -60,3 +60,6 @@ returns c =
     c.requires.numbers
     (λ i one l. first_parents c.args.grouped.now.signals.now round i one l) c.requires.some long h)
     c.round_classes.ensures.long c.round_classes.ensures.classes
+
+pub bounds-lists-from : goal.bounds-lists-from
+bounds-lists-from c = grind (arith, common_steps)

@@ -58,3 +58,6 @@ loop-round-preserved c =
       fair = subst (λ (vs : List (Vec ℕ Global)). AreFairFrom f lists round (rows vs)) (sym items)
           (fair_more f lists (rows numbers) here.items round (subst (λ r. AreFairFrom f lists r (rows numbers)) e i.fair) c.in_ok-here.ensures);
     }
+
+pub returns : goal.returns
+returns c = grind arith

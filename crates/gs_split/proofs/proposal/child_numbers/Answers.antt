@@ -1,4 +1,4 @@
-use Rattle.std.proofs.{Common.{◌≡◌, ◌<◌, ℕ, List, arith, get_or, length, refl, slice_set, subst, ◌∙◌}, lemmas.List.{length-set}}
+use Rattle.std.proofs.{lemmas.Grind.{common_steps}, Common.{◌≡◌, ◌<◌, ℕ, List, arith, get_or, length, refl, slice_set, subst, ◌∙◌}, lemmas.List.{length-set}}
 use Rattle.std.specs.Prelude.{◌+◌, ◌%◌, ◌^◌}
 use Rattle.gs_split.proofs.Proposed.{child_more, terms_to}
 use Rattle.gs_split.proofs.proposal.child_numbers.Goals as goal
@@ -23,3 +23,12 @@ loop-child-preserved c =
       each = λ s l. subst (λ v. get_or (new v) s 0 ≡ terms_to ps classes numbers (n + 1) s % 2 ^ 32) here
           (child_more ps classes numbers sums n place term refl inside c.child_term_of-term.ensures i.each s (omega (arith, l, long c.index.result.now)));
     }
+
+pub loop-child-init : goal.loop-child-init
+loop-child-init c = grind (arith, common_steps)
+
+pub index_mut-requires : goal.index_mut-requires
+index_mut-requires c = grind arith
+
+pub index-requires : goal.index-requires
+index-requires c = grind arith

@@ -1,4 +1,4 @@
-use Rattle.std.proofs.Common.{◌≡◌, ◌+◌, ◌-◌, ◌<◌, ℕ, List, ap, arith, get_or, length, subst, sym, ◌∙◌, Vec, Global}
+use Rattle.std.proofs.{Common.{◌≡◌, ◌+◌, ◌-◌, ◌<◌, ℕ, List, ap, arith, get_or, length, subst, sym, ◌∙◌, Vec, Global}, lemmas.Grind.{common_steps}}
 use Rattle.std.specs.List.{All}
 use Rattle.gs_model.specs.{Classes.{list_of}, Frame.{frame_of, signal_count}, Signals.{parents, signals}}
 use Rattle.gs_model.proofs.{Ranges.{length-parents, signal_count_is}, Walked.{last_round_of}}
@@ -70,3 +70,6 @@ returns c =
 
 pub count-requires-clause-in_range : goal.count-requires-clause-in_range
 count-requires-clause-in_range c = omega (arith, c.requires.before_last, last_round_of (rules_of c.args.grouped.now.signals.now))
+
+pub bounds-lists-from : goal.bounds-lists-from
+bounds-lists-from c = grind (arith, common_steps)

@@ -1,4 +1,4 @@
-use Rattle.std.proofs.{Common.{◌≡◌, ◌∙◌, ◌≤◌, ℕ, List, ap, arith, length, subst, sym}, lemmas.Result.{IfOk-weaker}}
+use Rattle.std.proofs.{lemmas.Grind.{common_steps}, Common.{◌≡◌, ◌∙◌, ◌≤◌, ℕ, List, ap, arith, length, subst, sym}, lemmas.Result.{IfOk-weaker}}
 use Rattle.gs_model.specs.{Frame.{frame_of}, Game.{round_count}}
 use Rattle.gs_model.proofs.Walked.{last_round_of}
 use Rattle.gs_tree.specs.{Trees.{rules_of}, Walk.{last_count}, declared.signals.Signals.{Signals}}
@@ -37,3 +37,6 @@ returns c =
     let all : c.loop-signal.signal ≡ c.count-count.result = omega (arith, c.loop-signal-test.false) in
     firsts_of_themselves g at.side at.round c.loop-signal.signal at.classes.now.lists c.loop-signal.firsts.items h.0 top
     (all ∙ c.count-count.ensures.value) c.loop-signal.invariant.long c.loop-signal.invariant.each
+
+pub loop-signal-preserved : goal.loop-signal-preserved
+loop-signal-preserved c = grind (arith, common_steps)

@@ -1,4 +1,5 @@
 use Rattle.std.proofs.Common.{◌≡◌, ◌≤◌, ◌<◌, ◌∙◌, ◌+◌, ◌++◌, ℕ, Bool, true, false, List, ap, arith, drop, get_or, length, refl, subst, sym, take}
+use Rattle.std.proofs.lemmas.Grind.{common_steps}
 use Rattle.gs_filter.proofs.ClassLaws.{class_at, count_fits}
 use Rattle.gs_model.specs.{Classes.{class_count, class_of}, Frame.{frame_of, signal_count}}
 use Rattle.gs_lossless.proofs.{Marked.{whole}, Scanned.{side_classes, side_signals}, SideOf.{as_asked}}
@@ -128,3 +129,21 @@ returns c =
       long = long;
       same = done_all f lists c.in_ok-at.at.side c.args.round c.loop-before.before (length numbers) numbers i.done refl within;
     }))
+
+pub loop-before-init : goal.loop-before-init
+loop-before-init c = grind (arith, common_steps)
+
+pub number_members-requires-clause-firsts : goal.number_members-requires-clause-firsts
+number_members-requires-clause-firsts c = grind arith
+
+pub number_members-requires-clause-class : goal.number_members-requires-clause-class
+number_members-requires-clause-class c = grind arith
+
+pub number_members-requires-clause-nexts : goal.number_members-requires-clause-nexts
+number_members-requires-clause-nexts c = grind arith
+
+pub next_members-requires-clause-top : goal.next_members-requires-clause-top
+next_members-requires-clause-top c = grind arith
+
+pub settled_classes-requires-clause-top : goal.settled_classes-requires-clause-top
+settled_classes-requires-clause-top c = grind arith

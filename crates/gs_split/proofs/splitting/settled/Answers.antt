@@ -52,3 +52,12 @@ returns-clause-coarsest c =
     let k = over f now c.loop-total.invariant.parents c.class_total.ensures.classes in
     ended f (in_range g p) c.args.from.now.lists now.lists c.loop-total.total k c.loop-total.invariant.underway (omega (arith, last_round_of g, p.some))
     (omega (arith, c.loop-total-test.false, c.class_total.ensures.value))
+
+pub known_rounds-requires-clause-turned : goal.known_rounds-requires-clause-turned
+known_rounds-requires-clause-turned c = grind arith
+
+pub turn-requires-in-loop-total-clause-boards : goal.turn-requires-in-loop-total-clause-boards
+turn-requires-in-loop-total-clause-boards c = grind arith
+
+pub turn-requires-clause-boards : goal.turn-requires-clause-boards
+turn-requires-clause-boards c = grind arith

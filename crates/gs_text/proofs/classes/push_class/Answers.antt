@@ -47,3 +47,9 @@ returns c =
     told_all (signal_texts (deck_of s) (rules_of s) c.args.round) c.args.classes.now.lists c.args.round c.args.class (same (goal.at.returns c).Start)
     c.loop-next.next (string_bytes c.args.text.now) (string_bytes c.loop-next.text) (string_bytes c.push_str-2.new.self) c.loop-next.invariant
     (omega (arith, c.loop-next-test.false, c.requires.nexts.long)) c.in_ok-push_str-2.ensures.bytes
+
+pub overflow_cast-next-in-loop-next : goal.overflow_cast-next-in-loop-next
+overflow_cast-next-in-loop-next c = grind arith
+
+pub loop-next-smaller : goal.loop-next-smaller
+loop-next-smaller c = grind arith

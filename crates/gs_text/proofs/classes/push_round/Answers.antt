@@ -38,3 +38,9 @@ returns c =
     omega (arith, c.loop-index-test.false, c.loop-index.auto.index-end, c.classes-count.ensures) in
     c.loop-index.invariant ∙ append_assoc old (first start) (flat_map (line start) (range_with_len 1 c.loop-index.index))
     ∙ ap (λ n. old ++ (first start ++ flat_map (line start) (range_with_len 1 n))) many
+
+pub push_class-requires-clause-lists : goal.push_class-requires-clause-lists
+push_class-requires-clause-lists c = grind arith
+
+pub push_class-requires-clause-nexts : goal.push_class-requires-clause-nexts
+push_class-requires-clause-nexts c = grind arith

@@ -49,3 +49,6 @@ few_ways-requires-clause-in_range c = grind (arith, common_steps)
 
 pub few_ways-requires-clause-few_copies : goal.few_ways-requires-clause-few_copies
 few_ways-requires-clause-few_copies c = grind (arith, common_steps)
+
+pub few_ways-requires-clause-few_cards : goal.few_ways-requires-clause-few_cards
+few_ways-requires-clause-few_cards c = grind arith

@@ -65,3 +65,12 @@ of-requires c = grind (arith, common_steps)
 
 pub few_ways-own_ways-requires-clause-few_copies : goal.few_ways-own_ways-requires-clause-few_copies
 few_ways-own_ways-requires-clause-few_copies c = grind arith
+
+pub returns-clause-shown : goal.returns-clause-shown
+returns-clause-shown c = grind (arith, common_steps)
+
+pub take_cards-requires : goal.take_cards-requires
+take_cards-requires c = grind arith
+
+pub few_ways-own_ways-requires-clause-few_cards : goal.few_ways-own_ways-requires-clause-few_cards
+few_ways-own_ways-requires-clause-few_cards c = grind arith

@@ -1,4 +1,4 @@
-use Rattle.std.proofs.Common.{◌≡◌, ◌-◌, ◌<◌, ◌≤◌, ℕ, List, length, get_or, sym, ◌∙◌, arith}
+use Rattle.std.proofs.{Common.{◌≡◌, ◌-◌, ◌<◌, ◌≤◌, ℕ, List, length, get_or, sym, ◌∙◌, arith}, lemmas.Grind.{common_steps}}
 use Rattle.gs_model.specs.Cards.{left_after}
 use Rattle.gs_model.proofs.Listed.{length-after}
 use Rattle.gs_card.proofs.TakenCards.{ways_more, few_ways, ways-none}
@@ -76,3 +76,6 @@ loop-i-preserved c =
 
 pub returns-clause-small : goal.returns-clause-small
 returns-clause-small c = at_three c.loop-i.ways c.loop-i.i (omega (arith, c.requires.own_few)) c.loop-i.invariant.small
+
+pub shared-ways-requires : goal.shared-ways-requires
+shared-ways-requires c = grind (arith, common_steps)

@@ -1,4 +1,4 @@
-use Rattle.std.proofs.Common.{ℕ, List, subst, sym}
+use Rattle.std.proofs.Common.{ℕ, List, subst, sym, arith}
 use Rattle.gs_model.specs.Game.{Game}
 use Rattle.gs_tree.specs.Trees.{rules_of}
 use Rattle.gs_boards.specs.{Places.{AreApart}, declared.place.Place.{Place}}
@@ -21,3 +21,9 @@ returns c =
     both_ways g c.args.self.now.plain places c.args.self.now.placed c.args.pays numbers c.climb.new.sums c.descend.new.sums
     (subst (λ (qs : List Place). ArePaidBefore qs c.args.pays numbers c.climb.new.sums) c.deref.ensures.value c.climb.ensures.paid)
     (subst (λ (qs : List Place). ArePaidBehind qs c.args.pays numbers c.climb.new.sums c.descend.new.sums) c.deref-2.ensures.value c.descend.ensures)
+
+pub descend-requires-clause-small : goal.descend-requires-clause-small
+descend-requires-clause-small c = grind arith
+
+pub descend-requires-clause-numbers : goal.descend-requires-clause-numbers
+descend-requires-clause-numbers c = grind arith

@@ -1,4 +1,4 @@
-use Rattle.std.proofs.Common.{ℕ, List, subst, sym, Vec, Global}
+use Rattle.std.proofs.Common.{ℕ, List, subst, sym, Vec, Global, arith}
 use Rattle.gs_model.specs.{Classes.{IsClasses}, Rows.{rows}}
 use Rattle.gs_filter.specs.{Filter.{AreParents}, Faults.{Agree, AllNumbered, AllTogether}}
 use Rattle.gs_filter.proofs.ApartLaws.{classes_from}
@@ -16,3 +16,9 @@ invariant_of-result c = (
   subst AreParents (sym c.in_ok-copy_of.ensures) c.requires,
   (subst (λ (ps : List (List ℕ)). IsClasses ps (rows c.args.lists.items)) (sym c.in_ok-copy_of.ensures) (are_classes c), tt),
 )
+
+pub returns-clause-classes : goal.returns-clause-classes
+returns-clause-classes c = grind arith
+
+pub returns-in-Some-first_apart-clause-refused : goal.returns-in-Some-first_apart-clause-refused
+returns-in-Some-first_apart-clause-refused c = grind arith

@@ -85,3 +85,12 @@ loop-place-preserved c =
       known = known
           (goal.at.loop-place-preserved c).In_ok-kind;
     }
+
+pub mark_board-requires-clause-within : goal.mark_board-requires-clause-within
+mark_board-requires-clause-within c = grind arith
+
+pub mark_board-requires-clause-hands : goal.mark_board-requires-clause-hands
+mark_board-requires-clause-hands c = grind arith
+
+pub list_hands-requires : goal.list_hands-requires
+list_hands-requires c = grind arith

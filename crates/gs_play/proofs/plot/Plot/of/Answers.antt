@@ -1,3 +1,4 @@
+use Rattle.std.proofs.lemmas.Grind.{common_steps}
 use Rattle.std.proofs.{Common.{◌≡◌, List, Option, None, length, get_or, replicate, sym, ap, ◌∙◌, subst, arith, rules}, lemmas.List.{with_items_is}}
 use Rattle.gs_game.specs.declared.positions.Step.{Step as StoredStep}
 use Rattle.gs_model.specs.{Frame.{end_count, point_count}, Positions.{at_end, at_point}}
@@ -56,3 +57,12 @@ returns c =
       spans = subst (λ (xs : List Span). AreSpans f (end_count f) xs) (sym spans) c.widen_all.ensures;
       gates = c.in_ok-gates.ensures;
     }
+
+pub widen_all-requires : goal.widen_all-requires
+widen_all-requires c = grind (arith, common_steps)
+
+pub gates_of-requires-clause-rows : goal.gates_of-requires-clause-rows
+gates_of-requires-clause-rows c = grind arith
+
+pub gates_of-requires-clause-long_rows : goal.gates_of-requires-clause-long_rows
+gates_of-requires-clause-long_rows c = grind arith

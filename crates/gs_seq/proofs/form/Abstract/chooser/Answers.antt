@@ -1,4 +1,4 @@
-use Rattle.std.proofs.Common.{ap, sym, ◌∙◌}
+use Rattle.std.proofs.{Common.{ap, sym, ◌∙◌, arith}, lemmas.Grind.{common_steps}}
 use Rattle.gs_game.specs.declared.positions.Point.{Point}
 use Rattle.gs_seq.proofs.Forms.{form_reads}
 use Rattle.gs_seq.proofs.form.Abstract.chooser.Goals as goal
@@ -8,3 +8,9 @@ returns c =
     let r = form_reads c.args.self.now c.game.result.now c.points.result.now c.args.point c.index-points-point.result c.game.ensures c.points.ensures c.requires
     c.index-points-point.is in
     sym (ap (λ (p : Point). p.player) c.index-points-point.is) ∙ r.player
+
+pub bounds-points-point-2 : goal.bounds-points-point-2
+bounds-points-point-2 c = grind (arith, common_steps)
+
+pub bounds-points-point : goal.bounds-points-point
+bounds-points-point c = grind (arith, common_steps)

@@ -1,4 +1,4 @@
-use Rattle.std.proofs.Common.{None, arith, ap}
+use Rattle.std.proofs.{Common.{None, arith, ap}, lemmas.Grind.{common_steps}}
 use Rattle.gs_game.specs.declared.positions.End.{End}
 use Rattle.gs_game.specs.declared.positions.EndKind.TheVariants as kinds
 use Rattle.gs_seq.specs.{Abstracts.{abstract_frame}, Games.{frame_in}}
@@ -25,3 +25,6 @@ pub returns-clause-top : goal.returns-clause-top
 returns-clause-top c =
     let w = (given_in c.args.self.now).walked 1 (omega arith) (omega arith) in
     omega (arith, returns-clause-round c, w.end_in c.args.end c.requires)
+
+pub bounds-ends-end : goal.bounds-ends-end
+bounds-ends-end c = grind (arith, common_steps)

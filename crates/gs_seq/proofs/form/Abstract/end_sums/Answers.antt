@@ -1,4 +1,4 @@
-use Rattle.std.proofs.Common.{◌∙◌, subst}
+use Rattle.std.proofs.Common.{◌∙◌, subst, arith}
 use Rattle.gs_seq.specs.{Abstracts.{abstract_frame, lists_of}, Payoffs.{AreNumbersAt}, Plans.{class_plan}}
 use Rattle.gs_seq.proofs.EndSums.{by_numbers}
 use Rattle.gs_seq.proofs.form.Abstract.end_sums.Goals as goal
@@ -26,3 +26,9 @@ returns-in-None-clause-here c =
     let a = c.args.self.now in
     λ k h. c.pay_all.ensures.here k h ∙ by_numbers (abstract_frame a) (lists_of a) c.args.player (class_plan (abstract_frame a) (lists_of a) c.args.other.now)
     c.args.end c.read_numbers.new.numbers (returns-in-None-clause-numbers c) k
+
+pub pay_along-requires-clause-single : goal.pay_along-requires-clause-single
+pay_along-requires-clause-single c = grind arith
+
+pub pay_all-requires-clause-few : goal.pay_all-requires-clause-few
+pay_all-requires-clause-few c = grind arith

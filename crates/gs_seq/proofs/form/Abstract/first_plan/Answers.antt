@@ -1,4 +1,4 @@
-use Rattle.std.proofs.Common.{◌≡◌, refl, arith, ap, sym}
+use Rattle.std.proofs.{Common.{◌≡◌, refl, arith, ap, sym}, lemmas.Grind.{common_steps}}
 use Rattle.gs_model.specs.{Frame.{point_count}, Plans.{IsClassPlan}}
 use Rattle.gs_seq.specs.{Abstracts.{abstract_frame, lists_of}, Firsts.{AreFirstBefore}, Games.{frame_in}, Slots.{AreOffsets, plan_of, slot_count}}
 use Rattle.gs_seq.proofs.{Firsts.{first_plan_is}, Forms.{carried}, Choices.{some_move}}
@@ -40,3 +40,6 @@ first_weights-requires-clause-count c =
     let same : slot_count (frame_in c.game.result.now) c.classes.result.now.lists p ≡ slot_count (abstract_frame a) (lists_of a) p =
     carried (λ f ls. slot_count f ls p ≡ slot_count (abstract_frame a) (lists_of a) p) (sym (ap frame_in c.game.ensures)) (sym c.classes.ensures.lists) refl in
     omega (arith, same, c.sequences-count.ensures)
+
+pub first_weights-requires-clause-parents : goal.first_weights-requires-clause-parents
+first_weights-requires-clause-parents c = grind (arith, common_steps)

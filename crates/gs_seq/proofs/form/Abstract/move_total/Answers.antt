@@ -1,4 +1,4 @@
-use Rattle.std.proofs.Common.{◌≡◌, ap, arith, vec_len}
+use Rattle.std.proofs.{Common.{◌≡◌, ap, arith, vec_len}, lemmas.Grind.{common_steps}}
 use Rattle.gs_game.specs.declared.positions.Point.{Point}
 use Rattle.gs_model.specs.Frame.{move_count}
 use Rattle.gs_seq.specs.Abstracts.{abstract_frame}
@@ -28,3 +28,6 @@ returns-clause-some c = omega (arith, counted (goal.at.returns-clause-some c).Af
 
 pub returns-clause-few : goal.returns-clause-few
 returns-clause-few c = omega (arith, counted (goal.at.returns-clause-few c).After-len, (form_moves c.args.self.now c.args.point c.requires).few)
+
+pub bounds-points-point : goal.bounds-points-point
+bounds-points-point c = grind (arith, common_steps)

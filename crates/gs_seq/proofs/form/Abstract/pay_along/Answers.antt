@@ -1,4 +1,4 @@
-use Rattle.std.proofs.Common.{◌≡◌, ◌+◌, ◌-◌, ◌<◌, ◌++◌, List, ℤ, length, take, get_or, pos, ap, ◌∙◌, arith}
+use Rattle.std.proofs.{Common.{◌≡◌, ◌+◌, ◌-◌, ◌<◌, ◌++◌, List, ℤ, length, take, get_or, pos, ap, ◌∙◌, arith}, lemmas.Grind.{common_steps}}
 use Rattle.std.proofs.lemmas.List.{get_or_append_left, get_or-append_right, length-take-le}
 use Rattle.std.specs.Prelude.{◌*ℤ◌}
 use borrow.Rule.Slice.PartMut.{mid_len, post_of}
@@ -53,3 +53,6 @@ returns-clause-here c = λ k class. (
     ∙ c.requires.order.sums c.args.numbers.now (paid c.pays_at-pays.result) s
     ∙ by_deals g cls h c.requires.single c.args.player z c.pays_at-pays.result c.args.numbers.now (one_or_two c.args.player c.requires.some c.requires.two)
     (w.walked c.args.player c.requires.some c.requires.two) c.requires.end c.requires.last w.in_range w.classes same k class.0)
+
+pub returns-clause-behind : goal.returns-clause-behind
+returns-clause-behind c = grind (arith, common_steps)

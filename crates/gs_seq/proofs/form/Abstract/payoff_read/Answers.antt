@@ -55,3 +55,9 @@ loop-before-preserved c =
     ∙ next_put _ _ (given_in c.args.self.now) _ _ c.requires.x.plan.plan c.requires.y.plan.plan c.args.end _ _ _ c.requires.end
     (next (goal.at.loop-before-preserved c).After-number_at-number (search rules)) _ _ c.loop-before.invariant
     (read_back c.scaled.result _ (search rules) c.scaled.ensures))
+
+pub returns : goal.returns
+returns c = grind arith
+
+pub plan_at-own-requires-clause-plan : goal.plan_at-own-requires-clause-plan
+plan_at-own-requires-clause-plan c = grind arith

@@ -1,4 +1,4 @@
-use Rattle.std.proofs.Common.{ap, sym, ◌∙◌, arith}
+use Rattle.std.proofs.{Common.{ap, sym, ◌∙◌, arith}, lemmas.Grind.{common_steps}}
 use Rattle.gs_game.specs.declared.positions.Point.{Point}
 use Rattle.gs_seq.proofs.Forms.{form_reads, form_walked}
 use Rattle.gs_seq.proofs.form.Abstract.round_at.Goals as goal
@@ -32,3 +32,9 @@ returns-clause-top c =
       (form_walked c.args.self.now 1 (omega arith) (omega arith)).point_in
           c.args.point c.requires,
     )
+
+pub bounds-points-point-2 : goal.bounds-points-point-2
+bounds-points-point-2 c = grind (arith, common_steps)
+
+pub bounds-points-point : goal.bounds-points-point
+bounds-points-point c = grind (arith, common_steps)

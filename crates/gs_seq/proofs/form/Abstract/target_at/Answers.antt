@@ -1,4 +1,4 @@
-use Rattle.std.proofs.Common.{ap, sym, ◌∙◌, arith, get_or, vec_len}
+use Rattle.std.proofs.{Common.{ap, sym, ◌∙◌, arith, get_or, vec_len}, lemmas.Grind.{common_steps}}
 use Rattle.gs_game.specs.declared.positions.Point.{Point}
 use Rattle.gs_seq.proofs.Forms.{form_leads, form_reads}
 use Rattle.gs_seq.proofs.form.Abstract.target_at.Goals as goal
@@ -17,3 +17,6 @@ returns c =
     form_leads c.args.self.now c.game.result.now c.points.result.now c.args.point c.index-points-point.result c.args.choice c.index.result.now c.game.ensures
     c.points.ensures c.requires.point c.index-points-point.is c.requires.choice
     (c.index.ensures ∙ i ∙ e)
+
+pub bounds-points-point : goal.bounds-points-point
+bounds-points-point c = grind (arith, common_steps)

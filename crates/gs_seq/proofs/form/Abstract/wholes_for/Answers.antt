@@ -1,4 +1,4 @@
-use Rattle.std.proofs.Common.{◌≡◌, ◌-◌, ◌∙◌, Vec, ap, arith, get_or, subst, sym}
+use Rattle.std.proofs.{Common.{◌≡◌, ◌-◌, ◌∙◌, Vec, ap, arith, get_or, subst, sym}, lemmas.Grind.{common_steps}}
 use Rattle.std.specs.declared.alloc.Global.{Global}
 use Rattle.gs_model.specs.{Frame.{round_of}, Positions.{at_end}}
 use Rattle.gs_seq.specs.{Abstracts.{abstract_frame, lists_of}, Rows.{AreWholesIn}, declared.pair.Pair.{Pair}}
@@ -19,3 +19,6 @@ returns c =
           (subst (λ (v : Vec Pair Global). AreWholesIn f (lists_of a) round v.items) (sym is)
           (wholes_in_round f (lists_of a) a.rows.items a.wholes.items a.paired a.wholed round read (omega arith) (omega arith)));
     }
+
+pub index-requires : goal.index-requires
+index-requires c = grind (arith, common_steps)

@@ -1,3 +1,4 @@
+use Rattle.std.proofs.lemmas.Grind.{common_steps}
 use Rattle.std.proofs.{Common.{◌≡◌, List, Vec, ap, refl, sym, true, ◌∙◌, subst, arith, ⊎_elim}, lemmas.Result.{err_from_is_err_and}}
 use Rattle.std.specs.{declared.alloc.Global.{Global}, Prelude.{All, IfErr, None, Option, Some, is_some}}
 use Rattle.gs_model.specs.{Classes.{ClassLists}, Frame.{Frame}}
@@ -82,3 +83,12 @@ invariant_of-result c =
 pub returns-clause-small : goal.returns-clause-small
 returns-clause-small c = let at = (goal.at.returns-clause-small c).In_ok-count in record
     { sequences = few at; cells = omega (arith, count at, c.if-count-most.false) }
+
+pub offsets_of-requires-clause-parents : goal.offsets_of-requires-clause-parents
+offsets_of-requires-clause-parents c = grind (arith, common_steps)
+
+pub few_slots-requires : goal.few_slots-requires
+few_slots-requires c = grind (arith, common_steps)
+
+pub cells-requires-clause-parents : goal.cells-requires-clause-parents
+cells-requires-clause-parents c = grind (arith, common_steps)

@@ -1,4 +1,4 @@
-use Rattle.std.proofs.Common.{◌≡◌, length, get_or, ap, sym, subst, arith, Some}
+use Rattle.std.proofs.{Common.{◌≡◌, length, get_or, ap, sym, subst, arith, Some}, lemmas.Grind.{common_steps}}
 use Rattle.gs_game.specs.Games.{game_of}
 use Rattle.gs_model.specs.{Classes.{IsClass}, Frame.{point_count, round_of}, Positions.{at_end}}
 use Rattle.gs_model.proofs.Ranges.{in_range}
@@ -83,3 +83,6 @@ returns-in-Some-clause-within c =
     (walked c.args.self.now.game.now p.player c.args.self.now.some c.args.self.now.two)
     (over f c.args.self.now.classes.now c.args.self.now.parents) c.args.self.now.plan_is.plan.plan c.args.self.now.within c.requires.class in
     omega (arith, returns-in-Some-clause-value c, n)
+
+pub bounds-ends-self : goal.bounds-ends-self
+bounds-ends-self c = grind (arith, common_steps)

@@ -1,4 +1,4 @@
-use Rattle.std.proofs.{Common.{◌≡◌, ◌∷◌, List, ap, ◌∙◌, subst}, lemmas.List.Elements.{All-tail}}
+use Rattle.std.proofs.{Common.{arith, ◌≡◌, ◌∷◌, List, ap, ◌∙◌, subst}, lemmas.Grind.{common_steps}, lemmas.List.Elements.{All-tail}}
 use Rattle.std.specs.Prelude.{All}
 use Rattle.gs_model.specs.Deals.{Deal}
 use Rattle.gs_seq.specs.Singles.{IsSlight, deals_left}
@@ -9,3 +9,15 @@ invariant_of-self-2 c =
     let rest : List Deal = c.next.new.self in
     let first : deals_left c.self.inside.deals ≡ c.in_ok-deal.deal ∷ rest = ap deals_left c.in-Some.is ∙ c.in_ok-deal.ensures.steps in
     All-tail IsSlight c.in_ok-deal.deal rest (subst (All IsSlight) first c.self.invariant)
+
+pub returns-clause-steps : goal.returns-clause-steps
+returns-clause-steps c = grind (arith, common_steps)
+
+pub returns-then-not-is_empty-clause-steps : goal.returns-then-not-is_empty-clause-steps
+returns-then-not-is_empty-clause-steps c = grind (arith, common_steps)
+
+pub returns-in_err-deal-clause-goes : goal.returns-in_err-deal-clause-goes
+returns-in_err-deal-clause-goes c = grind arith
+
+pub returns-in_err-deal-clause-steps : goal.returns-in_err-deal-clause-steps
+returns-in_err-deal-clause-steps c = grind (arith, common_steps)

@@ -1,9 +1,9 @@
-use Rattle.std.proofs.Common.{◌≡◌, ℕ, ◌+◌, List, ◌++◌, length, take, drop, slice_index, vec_len, ℤ, sym, ap, subst, ◌∙◌, arith}
-use Rattle.std.proofs.lemmas.List.{take_at, get_or_default}
+use Rattle.std.proofs.Common.{◌≡◌, ◌≢◌, ℕ, ◌+◌, ◌<◌, List, ◌++◌, length, take, drop, slice_index, vec_len, ℤ, pos, sym, ap, subst, ◌∙◌, arith}
+use Rattle.std.proofs.lemmas.List.{take_at, get_or_default, length-take-le}
 use Rattle.std.specs.Vec.{with_items}
-use Rattle.gs_simplex.specs.{Numbers.{AreTops}, Columns.{IsPivotDone, IsPivotWide}, Table.{IsWideAfter}}
+use Rattle.gs_simplex.specs.{Numbers.{cell, AreTops}, Columns.{IsPivotDone, IsPivotWide}, Table.{IsWideAfter}}
 use Rattle.gs_simplex.specs.Columns.{place_in, in_columns, AreStands, AreStandsAfter, AreLivePlaces, IsLive, IsTimes, IsFirstWideOf, HasWideColumn}
-use Rattle.gs_simplex.proofs.Relisting.{stands_next, live_next, laid_next, table_next, has_wide, wide_next}
+use Rattle.gs_simplex.proofs.Relisting.{place_inside, nonzero_at, stands_next, live_next, laid_next, table_next, has_wide, wide_next}
 use Rattle.gs_simplex.proofs.table.Table.list.Goals.{After-make_own, After-place_of-q, After-deref, After-live_places-found, After-clear, After-deref_mut-4}
 use Rattle.gs_simplex.proofs.table.Table.list.Goals.{After-deref-in-Some, After-deref-in-Some-2}
 use Rattle.gs_simplex.proofs.table.Table.list.Goals as goal
@@ -214,3 +214,53 @@ returns-in-None-clause-listed c =
       live = with_items t.live c.live_places-found.new.live;
     }) (after_here a).stands c.in-None.ensures.room (numbers_long a (after_here a).numbers) (live_long a) (tops_long a) (done_here a c.in-None.ensures.pivoted)
     (tops_here a c.in-None.ensures.tops) c.requires.table
+
+pub first_wide-requires-clause-inside : goal.first_wide-requires-clause-inside
+first_wide-requires-clause-inside c = grind arith
+
+pub first_wide-requires-clause-within : goal.first_wide-requires-clause-within
+first_wide-requires-clause-within c = grind arith
+
+pub clear-requires-clause-tops : goal.clear-requires-clause-tops
+clear-requires-clause-tops c = grind arith
+
+pub clear-requires-clause-place : goal.clear-requires-clause-place
+clear-requires-clause-place c =
+    let g = goal.at.clear-requires-clause-place c in
+    omega (arith, place_is g.After-place_of-q, place_inside c.requires.laid c.args.r c.args.c c.requires.row c.requires.column c.requires.nonzero)
+
+pub clear-requires-clause-narrow : goal.clear-requires-clause-narrow
+clear-requires-clause-narrow c = grind arith
+
+pub clear-requires-clause-long : goal.clear-requires-clause-long
+clear-requires-clause-long c = grind arith
+
+pub clear-requires-clause-row : goal.clear-requires-clause-row
+clear-requires-clause-row c = grind arith
+
+pub clear-requires-clause-nonzero : goal.clear-requires-clause-nonzero
+clear-requires-clause-nonzero c =
+    let g = goal.at.clear-requires-clause-nonzero c in let w = vec_len c.args.self.now.room.lead in
+    let X : List ℤ → Type 0 = λ x. cell x w c.args.r c.place_of-q.result ≢ pos 0 in
+    let Q : ℕ → Type 0 = λ k. cell c.args.self.now.numbers.items w c.args.r k ≢ pos 0 in
+    subst X (sym c.deref_mut-3.ensures.value) (subst Q (sym (place_is g.After-place_of-q))
+    (nonzero_at c.requires.laid c.args.r c.args.c c.requires.row c.requires.column c.requires.nonzero))
+
+pub make_own-requires-clause-differ : goal.make_own-requires-clause-differ
+make_own-requires-clause-differ c =
+    let u = c.requires.laid in
+    let P : List ℕ → Type 0 = λ x. (j h : ℕ) → j < length x → h < length x → slice_index x j ≡ slice_index x h → j ≡ h in
+    subst P (sym c.deref_mut.ensures.value)
+    (λ j h jn hn e. u.stands.differ j h (omega (arith, jn, u.stands_long)) (omega (arith, hn, u.stands_long)) e)
+
+pub live_places-found-requires-clause-room : goal.live_places-found-requires-clause-room
+live_places-found-requires-clause-room c =
+    let g = goal.at.live_places-found-requires-clause-room c in
+    let long : length c.deref.result.now ≡ c.args.p.now.cols + 2 = ap (λ (x : List ℕ). length x) (same_stands g.After-deref) ∙ stands_long g.After-make_own in
+    let room = ap (λ (x : List ℕ). length x) c.deref_mut-2.ensures.value in omega (arith, long, room, c.requires.laid.live_long)
+
+pub slice_bounds-live-end : goal.slice_bounds-live-end
+slice_bounds-live-end c =
+    let g = goal.at.slice_bounds-live-end c in
+    sym (length-take-le c.live_places-found.result c.deref-2.result.now
+    (omega (arith, c.deref-2.ensures.len, live_len g.After-live_places-found, c.live_places-found.ensures.few)))

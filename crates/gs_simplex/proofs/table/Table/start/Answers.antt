@@ -1,7 +1,8 @@
-use Rattle.std.proofs.Common.{◌≡◌, ℕ, ◌+◌, ◌*◌, ◌≤◌, List, ◌^◌, ℤ, length, slice_index, drop, sym, ap, subst, ◌∙◌, arith}
-use Rattle.std.proofs.{lemmas.List.{take_at, get_or-replicate, length-replicate}, Math.Nat.{le-mul_of_pos_right}}
-use Rattle.gs_simplex.specs.{State.{AreRaw}, Columns.{AreStands, AreSlots}}
-use Rattle.gs_simplex.proofs.{Starts.{start_of}, Slots.{stands_given}, table.Table.start.Goals.{After-give_slots-width, After-deref-3}}
+use Rattle.std.proofs.Common.{◌≡◌, ℕ, ◌+◌, ◌*◌, ◌<◌, ◌≤◌, List, ◌^◌, ℤ, pos, length, slice_index, drop, sym, ap, subst, ◌∙◌, arith}
+use Rattle.std.proofs.{lemmas.List.{take_at, get_or-replicate, length-replicate}, Math.Nat.{le-mul_of_pos_right, mul-le-mul_left}}
+use Rattle.std.specs.Vec.{with_items}
+use Rattle.gs_simplex.specs.{Numbers.{AreNarrowNumbers}, State.{raw, AreRaw}, Columns.{place_in, AreStands, AreSlots}}
+use Rattle.gs_simplex.proofs.{Starts.{start_of}, Slots.{stands_given, zero_apart}, table.Table.start.Goals.{After-give_slots-width, After-deref-3}}
 use Rattle.gs_simplex.proofs.table.Table.start.Goals as goal
 
 -- where the columns stand
@@ -31,6 +32,10 @@ same_stands c =
     let g = (goal.at.After-deref-3 c).After-give_slots-width in let s = c.give_slots-width.new.stands in let v = c.in_ok-stands.stands in
     c.deref-3.ensures.value ∙ take_at s (drop (length s) v.items) v.len (slots_len g)
 
+raw_small : (m n w : ℕ) → w ≤ n + 2 + 1 → (m + 1) * (n + 1) ≤ 1048576 → (m + 1) * (w + 1) ≤ 2 ^ 32
+raw_small m n w few small =
+    let wide : (m + 1) * (w + 1) ≤ (m + 1) * (n + 4) = mul-le-mul_left (m + 1) (omega (arith, few)) in omega arith
+
 pub returns : goal.returns
 returns c =
     let g = goal.at.returns c in let p = c.args.p.now in let s = c.give_slots-width.new.stands in let v = c.in_ok-stands.stands in
@@ -38,7 +43,13 @@ returns c =
     let own = c.in_ok-numbers.numbers in let slots = slots_here g.After-give_slots-width in
     let small : p.rows + 1 ≤ (p.rows + 1) * (p.cols + 1) = le-mul_of_pos_right (p.rows + 1) (omega arith) in
     let S : List ℕ → Type 0 = λ x. AreRaw p w (slice_index x) own.items in let O : List ℤ → Type 0 = λ x. AreRaw p w (slice_index s) x in
-    start_of p _ w s old new (omega (arith, slots.some)) (omega (arith, slots.few, small, c.requires.small, c.requires.small_cols))
+    start_of p (record {
+      numbers = with_items own new;
+      stands = with_items v s;
+      tops = c.in_ok-tops.tops;
+      room = record { lead = c.in_ok-vec.field-0; mixed = c.in_ok-vec-2.field-0; filled = with_items c.in_ok-vec-3.field-0 c.divide_rows.new.filled };
+      live = c.in_ok-live.live;
+    }) w s old new (omega (arith, slots.some)) (omega (arith, slots.few, small, c.requires.small, c.requires.small_cols))
     (record { lead = c.in_ok-vec.ensures.len; mixed = c.in_ok-vec-2.ensures.len; filled = c.in_ok-vec-3.ensures.len })
     (take_at new (drop (length new) own.items) own.len (c.divide_rows.auto.numbers ∙ c.deref_mut-2.ensures.len))
     (take_at s (drop (length s) v.items) v.len (slots_len g.After-give_slots-width)) (slots_long g.After-give_slots-width)
@@ -49,3 +60,50 @@ returns c =
     ∙ get_or-replicate (p.rows + 1) i (2 ^ 62) 0 h)
     (subst O (sym c.deref_mut-2.ensures.value) (subst S (same_stands g.After-deref-3) c.in_ok-numbers.ensures))
     c.divide_rows.auto.numbers c.divide_rows.ensures.divided c.divide_rows.ensures.last c.divide_rows.ensures.narrow
+
+pub raw_numbers-requires-clause-apart : goal.raw_numbers-requires-clause-apart
+raw_numbers-requires-clause-apart c =
+    let p = c.args.p.now in let g = goal.at.raw_numbers-requires-clause-apart c in let w = c.give_slots-width.result in
+    let s = c.give_slots-width.new.stands in
+    let S : List ℕ → Type 0 = λ x. (i j : ℕ) → i ≤ p.rows → j < p.cols + 2 → place_in p.rows (w + 1) (slice_index x j) i ≡ w + 1 → raw p i j ≡ pos 0 in
+    subst S (sym (same_stands g.After-deref-3)) (zero_apart p c.deref-2.result.now (slice_index c.in_ok-stands.stands.items) (slice_index s) w
+    c.requires.small_rows c.in_ok-stands.ensures.only (slots_here g.After-give_slots-width))
+
+pub raw_numbers-requires-clause-stands : goal.raw_numbers-requires-clause-stands
+raw_numbers-requires-clause-stands c =
+    let p = c.args.p.now in let g = goal.at.raw_numbers-requires-clause-stands c in
+    let S : List ℕ → Type 0 = λ x. AreStands p.rows (c.give_slots-width.result + 1) (p.cols + 2) (slice_index x) in
+    subst S (sym (same_stands g.After-deref-3)) (stands_here g.After-give_slots-width)
+
+pub divide_rows-requires-clause-narrow : goal.divide_rows-requires-clause-narrow
+divide_rows-requires-clause-narrow c =
+    let N : List ℤ → Type 0 = λ x. AreNarrowNumbers x in subst N (sym c.deref_mut-2.ensures.value) c.in_ok-numbers.ensures.narrow
+
+pub divide_rows-requires-clause-small : goal.divide_rows-requires-clause-small
+divide_rows-requires-clause-small c =
+    let g = goal.at.divide_rows-requires-clause-small c in omega (arith, (slots_here g.After-give_slots-width).few, c.requires.small_cols)
+
+pub raw_numbers-requires-clause-long : goal.raw_numbers-requires-clause-long
+raw_numbers-requires-clause-long c =
+    let g = goal.at.raw_numbers-requires-clause-long c in
+    ap (λ (x : List ℕ). length x) (same_stands g.After-deref-3) ∙ slots_long g.After-give_slots-width
+
+pub raw_numbers-requires-clause-shaped : goal.raw_numbers-requires-clause-shaped
+raw_numbers-requires-clause-shaped c = c.requires.shaped
+
+pub overflow_add-rows : goal.overflow_add-rows
+overflow_add-rows c = record { fits = omega (arith, c.requires.small_rows) }
+
+pub raw_numbers-requires-clause-small : goal.raw_numbers-requires-clause-small
+raw_numbers-requires-clause-small c =
+    let p = c.args.p.now in let g = goal.at.raw_numbers-requires-clause-small c in
+    raw_small p.rows p.cols c.give_slots-width.result (slots_here g.After-give_slots-width).few c.requires.small
+
+pub divide_rows-requires-clause-long : goal.divide_rows-requires-clause-long
+divide_rows-requires-clause-long c = sym (ap (λ (x : List ℤ). length x) c.deref_mut-2.ensures.value ∙ c.in_ok-numbers.ensures.long)
+
+pub divide_rows-requires-clause-room : goal.divide_rows-requires-clause-room
+divide_rows-requires-clause-room c = c.deref_mut-3.ensures.len ∙ c.in_ok-vec-3.ensures.len
+
+pub only_rows-requires-clause-shaped : goal.only_rows-requires-clause-shaped
+only_rows-requires-clause-shaped c = c.requires.shaped

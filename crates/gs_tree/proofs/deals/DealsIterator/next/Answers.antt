@@ -41,3 +41,6 @@ returns-clause-steps c =
     let end : deals_between (rules_of s.signals.now) (pair_number (rules_of s.signals.now) s.one s.two) (s.end * last_count (rules_of s.signals.now)) ≡ [] =
     walked (rules_of s.signals.now) s.one s.two s.end c.loop-self-test.false in
     (sym c.loop-self.invariant.left ∙ end, end)
+
+pub loop-self-smaller : goal.loop-self-smaller
+loop-self-smaller c = grind arith

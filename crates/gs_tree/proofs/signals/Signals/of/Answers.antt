@@ -18,3 +18,18 @@ invariant_of-result-clause-strong c =
 
 pub masks_of-requires-clause-limits : goal.masks_of-requires-clause-limits
 masks_of-requires-clause-limits c = grind (arith, common_steps)
+
+pub invariant_of-result-clause-masked : goal.invariant_of-result-clause-masked
+invariant_of-result-clause-masked c = grind arith
+
+pub invariant_of-result-clause-counted : goal.invariant_of-result-clause-counted
+invariant_of-result-clause-counted c = grind arith
+
+pub invariant_of-result-clause-even : goal.invariant_of-result-clause-even
+invariant_of-result-clause-even c = grind arith
+
+pub invariant_of-result-clause-ranked : goal.invariant_of-result-clause-ranked
+invariant_of-result-clause-ranked c = grind arith
+
+pub invariant_of-result-clause-beside : goal.invariant_of-result-clause-beside
+invariant_of-result-clause-beside c = grind arith

@@ -1,0 +1,5 @@
+use Rattle.std.proofs.Common.{arith}
+use Rattle.gs_best.proofs.walk.filled.Goals as goal
+
+pub backward-requires-clause-rows : goal.backward-requires-clause-rows
+backward-requires-clause-rows c = grind arith

@@ -1,0 +1,5 @@
+use Rattle.std.proofs.Common.{arith}
+use Rattle.gs_certificate.proofs.checking.player_fault.Goals as goal
+
+pub bound_fault-requires : goal.bound_fault-requires
+bound_fault-requires c = grind arith

@@ -1,0 +1,11 @@
+use Rattle.std.proofs.{Common.{arith}, lemmas.Grind.{common_steps}}
+use Rattle.gs_certificate.proofs.shapes.each_text.Goals as goal
+
+pub loop-item-preserved : goal.loop-item-preserved
+loop-item-preserved c = grind (arith, common_steps)
+
+pub returns-in-None : goal.returns-in-None
+returns-in-None c = grind (arith, common_steps)
+
+pub returns : goal.returns
+returns c = grind (arith, common_steps)

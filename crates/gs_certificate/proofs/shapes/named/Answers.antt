@@ -1,0 +1,5 @@
+use Rattle.std.proofs.Common.{arith}
+use Rattle.gs_certificate.proofs.shapes.named.Goals as goal
+
+pub returns-in-Some : goal.returns-in-Some
+returns-in-Some c = grind arith

@@ -1,0 +1,5 @@
+use Rattle.std.proofs.{Common.{arith}, lemmas.Grind.{common_steps}}
+use Rattle.gs_play.proofs.dues.dues_of.Goals as goal
+
+pub returns-clause-dues : goal.returns-clause-dues
+returns-clause-dues c = grind (arith, common_steps)

@@ -1,0 +1,5 @@
+use Rattle.std.proofs.{Common.{arith}, lemmas.Grind.{common_steps}}
+use Rattle.gs_play.proofs.plot.add_cells.Goals as goal
+
+pub loop-n-preserved : goal.loop-n-preserved
+loop-n-preserved c = grind (arith, common_steps)

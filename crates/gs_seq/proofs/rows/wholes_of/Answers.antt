@@ -1,0 +1,8 @@
+use Rattle.std.proofs.{Common.{arith}, lemmas.Grind.{common_steps}}
+use Rattle.gs_seq.proofs.rows.wholes_of.Goals as goal
+
+pub loop-in_round-preserved : goal.loop-in_round-preserved
+loop-in_round-preserved c = grind (arith, common_steps)
+
+pub returns : goal.returns
+returns c = grind (arith, common_steps)

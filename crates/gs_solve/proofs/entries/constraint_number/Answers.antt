@@ -1,0 +1,8 @@
+use Rattle.std.proofs.{Common.{arith}, lemmas.Grind.{common_steps}}
+use Rattle.gs_solve.proofs.entries.constraint_number.Goals as goal
+
+pub returns-after-col-cols-clause-number : goal.returns-after-col-cols-clause-number
+returns-after-col-cols-clause-number c = grind arith
+
+pub returns-then-col-layout-clause-number : goal.returns-then-col-layout-clause-number
+returns-then-col-layout-clause-number c = grind (arith, common_steps)
