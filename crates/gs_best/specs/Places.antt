@@ -1,22 +1,9 @@
--- Class totals kept in lists: a row for each end and a row for each point, one after the other. A row has a number for each class.
-use Rattle.std.specs.{Prelude.{ℕ, ◌+◌, ◌-◌, ◌<◌, ◌≤◌, ◌≡◌, ◌≢◌, List, get_or, slice_index, ℤ, pos, ◌≤ℤ◌, ◌<ℤ◌, sum_by}, List.{range_with_len}}
+-- Class totals kept in a list: a row for each point, one after the other. A row has a number for each class.
+use Rattle.std.specs.Prelude.{ℕ, ◌+◌, ◌-◌, ◌<◌, ◌≤◌, ◌≡◌, ◌≢◌, List, get_or, ℤ, pos, ◌≤ℤ◌, ◌<ℤ◌}
 use Rattle.gs_model.specs.{BestAnswers.{Values}, Classes.{ClassLists, IsClass}, Plans.{Plan}, Positions.{at_end, at_point}, Sums.{sum_z}}
-use Rattle.gs_model.specs.Frame.{Frame, choices_at, end_count, move_count, player_at, point_count, round_of}
-use Rattle.gs_seq.specs.Payoffs.{end_classes, end_sum}
+use Rattle.gs_model.specs.Frame.{Frame, choices_at, move_count, player_at, point_count, round_of}
+use Rattle.gs_seq.specs.Payoffs.{end_sum}
 use Rattle.gs_best.specs.{ClassTotals.{total_worth}, Tables.{start_of}}
-
--- the place of an end's first class
-abbrev pub end_start : Frame → ClassLists → ℕ → ℕ
-end_start f lists z = sum_by (end_classes f lists) (range_with_len 0 z)
-
--- `starts` has for each end the place of its first class
-abbrev pub AreEndStarts : Frame → ClassLists → List ℕ → Type 0
-AreEndStarts f lists starts = (z : ℕ) → z < end_count f → slice_index starts z ≡ end_start f lists z
-
--- a list has what each end pays the members of each class against the other's plan y
-abbrev pub AreEndSums : Frame → ClassLists → ℕ → Plan → List ℤ → Type 0
-AreEndSums f lists player y sums = (z c : ℕ) → z < end_count f → IsClass lists (round_of f (at_end z)) c
-    → get_or sums (end_start f lists z + (c - 1)) (pos 0) ≡ end_sum f lists player y z c
 
 -- class totals: at points those of a list, at ends what the end pays
 abbrev pub totals_of : Frame → ClassLists → ℕ → Plan → List ℤ → Values

@@ -5,8 +5,13 @@ use Rattle.std.specs.Prelude.{◌==◌, ◌*ℤ◌, All}
 use borrow.Author.Differences.{neg_is}
 use Rattle.gs_model.specs.Sums.{sum_z}
 use Rattle.gs_model.proofs.{Total.{sum_z-mul, sum_z-same_all}, Regroup.{sum_z-pos}, Basics.{not_eq}}
-use Rattle.gs_boards.specs.{Runs.{HasPassed, board_sum, other_sum, lost_by, number_at, outcome_at, paid_by, won_by, place_worth}, declared.pays.Pays.{Pays}}
+use Rattle.gs_boards.specs.{Runs.{lost_by, number_at, outcome_at, paid_by, won_by, worth_of}, declared.pays.Pays.{Pays}}
 use Rattle.gs_boards.specs.{declared.pays.Pays.TheVariants.{Fixed, Showdown}, declared.place.Place.{Place}, declared.running.Running.{Running}}
+use Rattle.gs_boards.proofs.Runs.{HasPassed, board_sum, other_sum}
+
+-- what a place counts for the places before it, from the numbers of the signals
+abbrev pub place_worth : Pays → List ℕ → Place → ℕ
+place_worth pays numbers q = worth_of pays q (number_at numbers q)
 
 -- a sum of multiples of one number
 multiples : {X : Type 0} (z : ℤ) (f : X → ℤ) (h : X → ℕ) (xs : List X) → All (λ x. f x ≡ z *ℤ pos (h x)) xs → sum_z f xs ≡ z *ℤ pos (sum_by h xs)

@@ -2,9 +2,22 @@
 use Rattle.std.proofs.Common.{◌≡◌, ◌+◌, ◌*◌, ◌≤◌, ◌∙◌, ℕ, Bool, true, false, cond, List, [], ◌∷◌, length, get_or, refl, sym, ap, arith, ⊎_elim, sum_by}
 use Rattle.std.proofs.{lemmas.Bool.{cases_eq}, lemmas.Bool.Decides.{Decides-eqb, nat_tests}, lemmas.List.Elements.{All-head, All-tail}}
 use Rattle.std.proofs.lemmas.List.Sums.{sum_by-cons, sum_by-le}
-use Rattle.std.specs.Prelude.{◌==◌, All}
-use Rattle.gs_boards.specs.{Runs.{HasPassed, arrived, board_sum, other_sum, passed_by}, declared.place.Place.{Place}, declared.running.Running.{Running}}
+use Rattle.std.specs.Prelude.{◌==◌, All, if◌then◌else◌}
+use Rattle.gs_boards.specs.{Runs.{arrived, passed_by}, declared.place.Place.{Place}, declared.running.Running.{Running}}
 use Rattle.gs_model.proofs.Basics.{not_eq}
+
+-- among some places, the sum of the worths of those on a board
+abbrev pub board_sum : (Place → ℕ) → ℕ → List Place → ℕ
+board_sum worth board qs = sum_by (λ q. if q.board == board then worth q else 0) qs
+
+-- among some places, the sum of the worths of those on a board with another strength
+abbrev pub other_sum : (Place → ℕ) → ℕ → ℕ → List Place → ℕ
+other_sum worth board strength qs = sum_by (λ q. if q.board == board then (if q.strength == strength then 0 else worth q) else 0) qs
+
+-- the sums of a walk that has passed some places
+pub record HasPassed (worth : Place → ℕ) (qs : List Place) (r : Running) : Type 0 where
+  pub on_board : r.on_board ≡ board_sum worth r.board qs
+  pub off_level : r.off_level ≡ other_sum worth r.board r.strength qs
 
 -- ---- sums over lists
 

@@ -3,9 +3,9 @@ use Rattle.std.proofs.Common.{◌≡◌, ◌≢◌, ◌+◌, ◌-◌, ◌<◌, �
 use Rattle.std.proofs.{Common.{sum_by, take, drop, set, get_or-set_other, get_or-set_same}, lemmas.List.Sums.{sum_by-drop_more, sum_by_more}}
 use Rattle.std.proofs.{lemmas.Bool.{cases_eq, cases_lt}, lemmas.List.{drop_all, get_or-drop, get_or-take, get_or_default, length-drop, length-take}}
 use Rattle.std.specs.Prelude.{◌==◌, All}
-use Rattle.gs_boards.specs.{Places.{AreApart, AreInOrder}, Runs.{HasPassed, arrived, passed_by}, declared.place.Place.{Place}}
+use Rattle.gs_boards.specs.{Places.{AreApart, AreInOrder}, Runs.{arrived, passed_by}, declared.place.Place.{Place}}
 use Rattle.gs_boards.specs.declared.running.Running.{Running}
-use Rattle.gs_boards.proofs.Runs.{IsBefore, arrives, level_within, passes}
+use Rattle.gs_boards.proofs.Runs.{HasPassed, IsBefore, arrives, level_within, passes}
 
 -- a walk is at a place
 pub record IsAt (r : Running) (p : Place) : Type 0 where

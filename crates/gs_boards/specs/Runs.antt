@@ -1,5 +1,5 @@
 -- Sums along the places of the boards.
-use Rattle.std.specs.Prelude.{ℕ, ◌≡◌, ◌==◌, ◌+◌, ◌*◌, List, ℤ, pos, neg_ℤ, ◌*ℤ◌, nat_lt, if◌then◌else◌, slice_index, sum_by}
+use Rattle.std.specs.Prelude.{ℕ, ◌==◌, ◌+◌, ◌*◌, List, ℤ, pos, neg_ℤ, ◌*ℤ◌, nat_lt, if◌then◌else◌, slice_index}
 use Rattle.gs_model.specs.Sums.{sum_z}
 use Rattle.gs_boards.specs.{Boards.{paid}, declared.pays.Pays.{Pays}, declared.pays.Pays.TheVariants.{Fixed, Showdown}, declared.place.Place.{Place}}
 use Rattle.gs_boards.specs.declared.running.Running.{Running}
@@ -11,19 +11,6 @@ outcome_at p q = if nat_lt q.strength p.strength then pos p.win else if nat_lt p
 -- what a place is paid by those of some places that are on its board: the sum of their numbers times what it wins against them
 abbrev pub paid_by : Pays → List ℕ → Place → List Place → ℤ
 paid_by pays numbers p qs = sum_z (λ q. if q.board == p.board then pos (slice_index numbers q.signal) *ℤ paid pays (outcome_at p q) else pos 0) qs
-
--- among some places, the sum of the worths of those on a board
-abbrev pub board_sum : (Place → ℕ) → ℕ → List Place → ℕ
-board_sum worth board qs = sum_by (λ q. if q.board == board then worth q else 0) qs
-
--- among some places, the sum of the worths of those on a board with another strength
-abbrev pub other_sum : (Place → ℕ) → ℕ → ℕ → List Place → ℕ
-other_sum worth board strength qs = sum_by (λ q. if q.board == board then (if q.strength == strength then 0 else worth q) else 0) qs
-
--- the sums of a walk that has passed some places
-pub record HasPassed (worth : Place → ℕ) (qs : List Place) (r : Running) : Type 0 where
-  pub on_board : r.on_board ≡ board_sum worth r.board qs
-  pub off_level : r.off_level ≡ other_sum worth r.board r.strength qs
 
 -- the sums when a walk comes to a place: a new board begins with 0, and at a new strength all that was passed on the board has another one
 abbrev pub arrived : Running → Place → Running
@@ -46,10 +33,6 @@ number_at numbers q = slice_index numbers q.signal
 abbrev pub worth_of : Pays → Place → ℕ → ℕ
 worth_of (Fixed stake) q number = number
 worth_of (Showdown chips) q number = number * q.win
-
--- what a place counts for the places before it, from the numbers of the signals
-abbrev pub place_worth : Pays → List ℕ → Place → ℕ
-place_worth pays numbers q = worth_of pays q (number_at numbers q)
 
 -- what a place is paid by what was passed before it: at a showdown by the weaker places of its board, at a fold by all of them
 abbrev pub won_by : Pays → Place → Running → ℤ

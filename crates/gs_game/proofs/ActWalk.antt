@@ -6,12 +6,12 @@ use Rattle.gs_model.specs.{Betting.{Bet, Moves, act, none, move}, Positions.{at_
 use Rattle.gs_model.specs.Walk.{Place, Walked, WalkedMoves, after_move, walk_tree, walk_moves, walk_rounds}
 use Rattle.gs_bet.specs.{TreeView.{plain_moves}, MoveLists.{count}, declared.shape.Move.{Move}}
 use Rattle.gs_bet.proofs.{Letters.{at_most_26}, ReadingLaws.{count_plain}}
-use Rattle.gs_game.specs.{Seen.{step_of, arrow_of, target_of, own_point, OwnPoint, point_of, end_of}, Walks.{Grows, IsWalkable, AreWalkable, place_of}}
+use Rattle.gs_game.specs.{Seen.{step_of, arrow_of, target_of, own_point, OwnPoint, point_of, end_of}, Walks.{Grows, IsWalkable, place_of}}
 use Rattle.gs_game.specs.{declared.place.Place.{Place as StoredPlace}, declared.positions.Arrow.{Arrow as StoredArrow}}
 use Rattle.gs_game.specs.{declared.positions.Point.{Point as StoredPoint}, declared.positions.End.{End as StoredEnd}}
 use Rattle.gs_game.specs.declared.positions.Target.{Target as StoredTarget}
 use Rattle.gs_game.specs.declared.positions.Target.TheVariants as targets
-use Rattle.gs_game.proofs.{MoneyLaws.{sound_act}, WalkLaws.{at, Going, going_step, going_done, patched, grows_end}, WalkRoom.{walkable_rest}}
+use Rattle.gs_game.proofs.{MoneyLaws.{sound_act}, WalkLaws.{at, Going, going_step, going_done, patched, grows_end}, WalkRoom.{AreWalkable, walkable_rest}}
 
 -- what all moves of the choice make
 abbrev pub whole : List Bet → ℕ → Moves → StoredPlace → ℕ → ℕ → WalkedMoves

@@ -1,10 +1,17 @@
 -- Sums along the paths of a tree stay small.
-use Rattle.std.proofs.Common.{◌≡◌, ℕ, zero, suc, ◌+◌, ◌≤◌, ◌&&◌, not, nat_le, true, arith, inl, inr, refl, max, ap, ◌∙◌}
+use Rattle.std.proofs.Common.{◌≡◌, ℕ, zero, suc, ◌+◌, ◌*◌, ◌^◌, ◌≤◌, ◌&&◌, not, nat_le, true, arith, inl, inr, refl, max, ap, ◌∙◌}
 use Rattle.std.proofs.lemmas.Bool.{and_parts, leb-true, cases_Bool}
 use Rattle.std.specs.Prelude.{◌==◌}
 use Rattle.gs_model.specs.Betting.{Bet, Moves, act, move}
 use Rattle.gs_bet.specs.{MoveLists.{has_move, has_letter}, Grammar.{is_letter, is_player, is_sound, are_sound, is_fold, is_tree}}
-use Rattle.gs_game.specs.Money.{Fits, MovesFit, one_after, two_after, most_put, most_moved}
+use Rattle.gs_game.specs.Money.{Fits, one_after, two_after, most_put, most_moved}
+
+-- the trees that the moves lead to leave this room, with one more level of acts for the move itself
+pub record MovesFit (one two : ℕ) (ms : Moves) : Type 0 where
+  pub left : ℕ
+  pub sound : are_sound left ms ≡ true
+  pub room_one : one + (left + 1) * 4096 ≤ 2 ^ 24
+  pub room_two : two + (left + 1) * 4096 ≤ 2 ^ 24
 
 pub sound_act : (left p : ℕ) (ms : Moves) → is_sound left (act p ms) ≡ true → (k : ℕ) × (left ≡ suc k) × (are_sound k ms ≡ true) × (has_move ms ≡ true)
 sound_act zero p ms h = absurd cc

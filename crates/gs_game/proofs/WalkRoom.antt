@@ -2,10 +2,19 @@
 use Rattle.std.proofs.{Common.{◌≡◌, ℕ, ◌+◌, ◌<◌, ◌≤◌, ◌^◌, max, true, List, [], ◌∷◌, length, refl, inl, inr, arith}, lemmas.Bool.{cases_Bool}}
 use Rattle.std.specs.Prelude.{◌==◌}
 use Rattle.gs_model.specs.{Betting.{Bet, Moves, act, fold, even, none, move}, Walk.{Place, after_move, walk_tree, walk_rounds}}
-use Rattle.gs_bet.specs.{TreeView.{plain}, MoveLists.{has_move}, Grammar.{is_sound}}
-use Rattle.gs_game.specs.{Counts.{points_in, ends_in}, Games.{plain_trees}, Money.{one_after, two_after, most_put, most_in}, Walks.{IsWalkable, AreWalkable}}
-use Rattle.gs_game.specs.declared.game.Round.{Round}
+use Rattle.gs_bet.specs.{TreeView.{plain}, MoveLists.{has_move}, Grammar.{is_sound, are_sound}}
+use Rattle.gs_game.specs.{Counts.{points_in, ends_in, move_points, move_ends}, Games.{plain_trees}, declared.game.Round.{Round}}
+use Rattle.gs_game.specs.{Money.{one_after, two_after, most_put, most_moved, most_in}, Walks.{IsWalkable}}
 use Rattle.gs_game.proofs.{MoneyLaws.{sound_act, sound_move, tree_sound}, EndLaws.{rounds_count, tree_counts}, WalkLaws.{at}}
+
+-- the numbers stay small in a walk of the moves of a point, from one of them on, and then of some rounds
+pub record AreWalkable (rest : List Bet) (player : ℕ) (ms : Moves) (p : Place) : Type 0 where
+  pub left : ℕ
+  pub sound : are_sound left ms ≡ true
+  pub rounds : p.round + length rest ≤ 4
+  pub put : most_moved (most_in rest) p.put_one p.put_two player ms ≤ 4096
+  pub points : p.point + move_points (points_in rest) ms < 2 ^ 32
+  pub ends : p.end + move_ends (ends_in rest) ms < 2 ^ 32
 
 -- after a move nobody has put less
 more_one : (player chips one : ℕ) → one ≤ one_after player chips one

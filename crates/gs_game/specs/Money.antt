@@ -1,7 +1,7 @@
 -- What the players put along the paths of betting trees. Source: extensive games (von Stengel 1996).
 use Rattle.std.specs.Prelude.{ℕ, ◌+◌, ◌*◌, ◌^◌, ◌≤◌, ◌≡◌, ◌==◌, ◌||◌, Bool, true, false, max, List, [], ◌∷◌, ◌++◌, Option, Some, None, if◌then◌else◌}
 use Rattle.gs_model.specs.Betting.{Bet, Moves, act, fold, even, none, move}
-use Rattle.gs_bet.specs.Grammar.{is_sound, are_sound}
+use Rattle.gs_bet.specs.Grammar.{is_sound}
 
 -- the first value if there is one, else the second
 abbrev pub first_of : {X : Type 0} → Option X → Option X → Option X
@@ -70,13 +70,6 @@ pub record Fits (one two : ℕ) (t : Bet) : Type 0 where
   pub sound : is_sound left t ≡ true
   pub room_one : one + left * 4096 ≤ 2 ^ 24
   pub room_two : two + left * 4096 ≤ 2 ^ 24
-
--- the trees that the moves lead to leave this room, with one more level of acts for the move itself
-pub record MovesFit (one two : ℕ) (ms : Moves) : Type 0 where
-  pub left : ℕ
-  pub sound : are_sound left ms ≡ true
-  pub room_one : one + (left + 1) * 4096 ≤ 2 ^ 24
-  pub room_two : two + (left + 1) * 4096 ≤ 2 ^ 24
 
 -- the result of a search along a path: if the path is found, the list holds it; else the list is as before
 abbrev pub Searched : List ℕ → List ℕ → Bool → Option (List ℕ) → Type 0

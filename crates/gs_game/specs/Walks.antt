@@ -1,8 +1,8 @@
 -- A walk under way: what the program has so far against the walk of the definitions.
 use Rattle.std.specs.Prelude.{ℕ, ◌+◌, ◌^◌, ◌≡◌, ◌≤◌, ◌<◌, true, List, ◌++◌, map, length, option_map}
-use Rattle.gs_model.specs.{Betting.{Bet, Moves}, Walk.{Place, Walked, root}}
-use Rattle.gs_bet.specs.Grammar.{is_sound, are_sound}
-use Rattle.gs_game.specs.{Counts.{points_of, ends_of, move_points, move_ends, points_in, ends_in}, Money.{most_put, most_moved, most_in}}
+use Rattle.gs_model.specs.{Betting.{Bet}, Walk.{Place, Walked, root}}
+use Rattle.gs_bet.specs.Grammar.{is_sound}
+use Rattle.gs_game.specs.{Counts.{points_of, ends_of, points_in, ends_in}, Money.{most_put, most_in}}
 use Rattle.gs_game.specs.{Seen.{step_of, target_of, own_point, point_of, end_of}, declared.place.Place.{Place as StoredPlace}}
 use Rattle.gs_game.specs.{declared.positions.Point.{Point as StoredPoint}, declared.positions.End.{End as StoredEnd}}
 use Rattle.gs_game.specs.declared.positions.Target.{Target as StoredTarget}
@@ -35,15 +35,6 @@ pub record IsWalkable (rest : List Bet) (t : Bet) (p : Place) : Type 0 where
   pub put : most_put (most_in rest) p.put_one p.put_two t ≤ 4096
   pub points : p.point + points_of (points_in rest) t < 2 ^ 32
   pub ends : p.end + ends_of (ends_in rest) t < 2 ^ 32
-
--- the numbers stay small in a walk of the moves of a point, from one of them on, and then of some rounds
-pub record AreWalkable (rest : List Bet) (player : ℕ) (ms : Moves) (p : Place) : Type 0 where
-  pub left : ℕ
-  pub sound : are_sound left ms ≡ true
-  pub rounds : p.round + length rest ≤ 4
-  pub put : most_moved (most_in rest) p.put_one p.put_two player ms ≤ 4096
-  pub points : p.point + move_points (points_in rest) ms < 2 ^ 32
-  pub ends : p.end + move_ends (ends_in rest) ms < 2 ^ 32
 
 -- the numbers stay small in a walk of the rounds that are left
 pub record RoundsWalkable (rounds : List Bet) (p : Place) : Type 0 where

@@ -9,7 +9,7 @@ use Rattle.gs_model.specs.{Classes.{ClassLists, class_of, first_member, list_of}
 use Rattle.gs_model.specs.{Game.{Game, round_count}, Lossless.{Alike, IsFirstUnlike, IsLossless}, Signals.{signals}}
 use Rattle.gs_model.proofs.{Ranges.{signal_count_is}, Walked.{last_round_of}}
 use Rattle.gs_lossless.specs.Amounts.{HaveEqualAmounts, AgreesWithFirst, AreAmounts, AreSideFirsts, HasSide}
-use Rattle.gs_lossless.specs.{Scans.{AgreeBelow, AreFirstsKept, IsFirstApart, IsFirstKept}, Stops.{AreAlikeBelow, IsChildrenApart, MatchUnlike}}
+use Rattle.gs_lossless.specs.{Scans.{AgreeBelow, AreFirstsKept, IsFirstApart, IsFirstKept}, Stops.{AreAlikeBelow, MatchUnlike}}
 use Rattle.gs_lossless.specs.{declared.parts.Part.{Part}, declared.sides.Side.{Side}, declared.sides.Side.TheVariants.{Deals, Children}}
 use Rattle.gs_lossless.proofs.{Descent.{list_long}, Settled.{agree_children, agree_deals, alike_from, not_lossless, over, singles}}
 
@@ -75,6 +75,11 @@ pub none_apart : (f : Frame) (lists : ClassLists) (side : Side) (round end : ℕ
     → AgreeBelow f lists side round end
 none_apart f lists side round end None e h = h
 none_apart f lists side round end (Some s) e h = absurd (true≢false e)
+
+-- the first signal before `end` whose children differ from those of the first member of its class; `None` if there is none or in the last round
+abbrev pub IsChildrenApart : Frame → ClassLists → ℕ → ℕ → Option ℕ → Type 0
+IsChildrenApart f lists round end None = round < last_round f → AgreeBelow f lists Children round end
+IsChildrenApart f lists round end (Some s) = (round < last_round f) × IsFirstApart f lists Children round end (Some s)
 
 pub children_from : (f : Frame) (lists : ClassLists) (round end : ℕ) (r : Option ℕ) → round < last_round f → IsFirstApart f lists Children round end r
     → IsChildrenApart f lists round end r

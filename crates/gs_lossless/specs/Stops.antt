@@ -1,7 +1,7 @@
 -- What a failed check says about the classes.
 use Rattle.std.specs.Prelude.{ℕ, ◌<◌, Option, Some, None}
-use Rattle.gs_model.specs.{Classes.{ClassLists, class_of, first_member}, Frame.{Frame, last_round, signal_count}, Lossless.{Alike, IsFirstUnlike}}
-use Rattle.gs_lossless.specs.{Scans.{AgreeBelow, IsFirstApart}, declared.sides.Side.TheVariants.{Children}, declared.stop.CheckStop.{CheckStop}}
+use Rattle.gs_model.specs.{Classes.{ClassLists, class_of, first_member}, Frame.{Frame, signal_count}, Lossless.{Alike, IsFirstUnlike}}
+use Rattle.gs_lossless.specs.declared.stop.CheckStop.{CheckStop}
 use Rattle.gs_lossless.specs.declared.stop.CheckStop.TheVariants.{Unlike, Memory}
 
 -- the stop names the first unlike pair; `Memory` says nothing about the classes
@@ -23,8 +23,3 @@ abbrev pub MatchUnlike : Frame → ClassLists → ℕ → Option ℕ → Type 0
 MatchUnlike f lists round None = AreAlikeBelow f lists round (signal_count f round)
 MatchUnlike f lists round (Some s) = (s < signal_count f round) × AreAlikeBelow f lists round s
     × (Alike f lists round (first_member lists round (class_of lists round s)) s → ⊥)
-
--- the first signal before `end` whose children differ from those of the first member of its class; `None` if there is none or in the last round
-abbrev pub IsChildrenApart : Frame → ClassLists → ℕ → ℕ → Option ℕ → Type 0
-IsChildrenApart f lists round end None = round < last_round f → AgreeBelow f lists Children round end
-IsChildrenApart f lists round end (Some s) = (round < last_round f) × IsFirstApart f lists Children round end (Some s)

@@ -1,10 +1,10 @@
 -- A table before and after a pivot: from rows by places to its numbers by row and column.
 use Rattle.std.proofs.Common.{◌≡◌, ◌≢◌, ℕ, ◌+◌, ◌*◌, ◌<◌, ◌≤◌, ◌^◌, List, length, take, slice_index, vec_len, ℤ, pos, refl, sym, ap, subst, ◌∙◌, arith}
 use Rattle.gs_simplex.specs.{declared.program.Program.{Program}, declared.table.Table.{Table}, Rows.{IsNarrow}}
-use Rattle.gs_simplex.specs.Numbers.{cell, AreNarrowNumbers, AllAtMost, AreTops, IsCleared}
+use Rattle.gs_simplex.specs.Numbers.{cell, AreNarrowNumbers, AllAtMost, AreTops}
 use Rattle.gs_simplex.specs.Columns.{place_in, in_columns, AreStands, IsCovered, AreStandsAfter, AreLivePlaces, IsLive, IsPivotDone, IsPivotWide}
 use Rattle.gs_simplex.specs.{Columns.{IsTimes, IsFirstWideOf, HasWideColumn}, Table.{grid_of, HasRoom, IsTable, IsHeld, IsTableAfter, IsWideAfter}}
-use Rattle.gs_simplex.proofs.{Places.{row_inside}, Tables.{table_after, wide_after_list}}
+use Rattle.gs_simplex.proofs.{Places.{row_inside}, Standing.{IsCleared}, Tables.{table_after, wide_after_list}}
 use Rattle.gs_simplex.proofs.Standing.{number_inside, number_none, not_spare, place_within, stands_after, support_row, pivot_columns, wide_column, wide_cleared}
 
 -- how a table with rows of this width stands in memory

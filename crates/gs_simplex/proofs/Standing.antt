@@ -1,12 +1,36 @@
 -- Rows by places and by columns: where the columns stand before and after a pivot, and what a row that is taken or cleared by places is by columns.
 use Rattle.std.proofs.Common.{◌≡◌, ◌≢◌, ℕ, ◌+◌, ◌-◌, ◌<◌, ◌≤◌, ◌⊎◌, inl, inr, cond, nat_eq, List, length, take, slice_index, ℤ, pos, ◌-ℤ◌, ◌*ℤ◌, neg_ℤ, ◌≤ℤ◌}
-use Rattle.std.proofs.Common.{unsigned_abs, refl, sym, ap, subst, ◌∙◌, arith}
+use Rattle.std.proofs.Common.{◌^◌, unsigned_abs, refl, sym, ap, subst, ◌∙◌, arith}
 use Rattle.std.proofs.{lemmas.Bool.{cases_eq, cases_lt, cases_order}, lemmas.Nat.Gcd.{dvd-zero}, lemmas.List.{length-take-le, get_or-take}}
 use Prim.Native.Nat.{◌∣◌}
 use Rattle.gs_simplex.specs.{Rows.{IsNarrow, IsPrimitive}, Support.{IsSupport}, Columns.{IsRowCleared, IsRowLed, IsFirstWideOf}}
-use Rattle.gs_simplex.specs.Numbers.{cleared_by, IsMultiple, IsDivided, IsMixed, IsReduced, IsLeadOf, IsCleared, IsClearedTo}
+use Rattle.gs_simplex.specs.Numbers.{cleared_by, IsMultiple, IsDivided, IsMixed, IsReduced, IsLeadOf}
 use Rattle.gs_simplex.specs.Columns.{place_in, at_place, in_columns, AreStands, IsCovered, AreStandsAfter, AreLivePlaces, IsSwapped, IsSlotFreed, IsOwnFreed}
 use Rattle.gs_simplex.proofs.{Ring.{linear, ring, times_zero, cancel_zero}, Places.{multiple_same, divided_same, lead_by}}
+
+-- ---- what a pivot makes of all rows
+-- z, in column j, is the first number of the reduced row that is not narrow
+pub record IsReducedTo (lead : ℕ → ℤ) (c width : ℕ) (old : ℕ → ℤ) (j : ℕ) (z : ℤ) : Type 0 where
+  pub inside : j < width
+  pub size : unsigned_abs z ≤ 2 ^ 125
+  pub wide : ¬ IsNarrow z
+  pub row : (new : ℕ → ℤ) × (IsReduced lead c width old new) × (new j ≡ z) × ((k : ℕ) → k < j → IsNarrow (new k))
+
+-- row r is taken as the lead, each other of `count` rows is mixed with it in column c, and all are narrow
+pub record IsCleared (old new : ℕ → ℕ → ℤ) (count width r c : ℕ) : Type 0 where
+  pub lead : IsLeadOf (old r) (new r) c width
+  pub others : (i : ℕ) → i < count → i ≢ r → IsMixed (new r) c width (old i) (new i)
+  pub narrow : (i j : ℕ) → i < count → j < width → IsNarrow (new i j)
+
+-- Row r is taken as the lead, and z, in row i and column j, is the first number of the reduced rows that is not narrow. The rows before row i need only be
+-- mixed.
+pub record IsClearedTo (old : ℕ → ℕ → ℤ) (taken : ℕ → ℤ) (count width r c i j : ℕ) (z : ℤ) : Type 0 where
+  pub lead : IsLeadOf (old r) taken c width
+  pub narrow : (k : ℕ) → k < width → IsNarrow (taken k)
+  pub inside : i < count
+  pub apart : i ≢ r
+  pub here : IsReducedTo taken c width (old i) j z
+  pub before : (h : ℕ) → h < i → h ≢ r → (new : ℕ → ℤ) × (IsMixed taken c width (old h) new) × ((k : ℕ) → k < width → IsNarrow (new k))
 
 -- ---- the place of a column, and the number there
 pub place_slot : (m w s i : ℕ) → m < s → place_in m w s i ≡ s - m

@@ -4,11 +4,11 @@ use Rattle.std.proofs.Common.{◌<ℤ◌, unsigned_abs, refl, sym, ap, subst, �
 use Rattle.std.proofs.{lemmas.Bool.{cases_eq, cases_lt}, lemmas.Int.{ints}, lemmas.Nat.Gcd.{dvd-zero}}
 use Prim.Native.Nat.{◌∣◌}
 use Rattle.gs_simplex.specs.{declared.program.Program.{Program}, Rows.{IsNarrow, IsPrimitive}, Elimination.{IsEliminated}, Path.{IsFirstWide}}
-use Rattle.gs_simplex.specs.Numbers.{IsMultiple, IsReduced, IsMixed, IsLeadOf, IsCleared, IsClearedTo}
+use Rattle.gs_simplex.specs.Numbers.{IsMultiple, IsReduced, IsMixed, IsLeadOf}
 use Rattle.gs_simplex.specs.Table.{IsTable, IsKept, IsTableAfter, stated, IsWideAfter}
 use Rattle.gs_simplex.proofs.{Ring.{linear, times_zero, times_neg, times_pos, cancel_zero}, Pivot.{primitive_same}, Exists.{elimination_exists}}
 use Rattle.gs_simplex.proofs.{Primitive.{zero_abs}, Multiples.{multiple_of_same, multiple_of_equal, mixed_along, down_narrow, up_zero, same_turn}}
-use Rattle.gs_simplex.proofs.Places.{lead_by}
+use Rattle.gs_simplex.proofs.{Places.{lead_by}, Standing.{IsCleared, IsClearedTo}}
 
 -- ---- a row with 0 at its end
 pub primitive_shorter : (last : ℕ) (f : ℕ → ℤ) → f (last + 1) ≡ pos 0 → IsPrimitive (last + 1) f → IsPrimitive last f

@@ -1,5 +1,5 @@
 -- Rows as lists of numbers, and what a pivot makes of a row.
-use Rattle.std.specs.Prelude.{◌≡◌, ◌≢◌, ℕ, ◌+◌, ◌-◌, ◌*◌, ◌<◌, ◌≤◌, ◌^◌, ◌⊎◌, ℤ, pos, neg_ℤ, ◌≤ℤ◌, ◌-ℤ◌, ◌*ℤ◌, ◌<ℤ◌, unsigned_abs}
+use Rattle.std.specs.Prelude.{◌≡◌, ℕ, ◌+◌, ◌-◌, ◌*◌, ◌<◌, ◌≤◌, ◌^◌, ◌⊎◌, ℤ, pos, neg_ℤ, ◌≤ℤ◌, ◌-ℤ◌, ◌*ℤ◌, ◌<ℤ◌, unsigned_abs}
 use Rattle.std.specs.Prelude.{List, slice_index, slice_index_or, length}
 use Prim.Native.Nat.{◌∣◌}
 use Rattle.gs_simplex.specs.Rows.{IsNarrow, IsPrimitive}
@@ -60,13 +60,6 @@ IsMixed lead c width old new = IsMultiple width (cleared_by lead c old) new
 abbrev pub IsReduced : (ℕ → ℤ) → ℕ → ℕ → (ℕ → ℤ) → (ℕ → ℤ) → Type 0
 IsReduced lead c width old new = IsDivided width (cleared_by lead c old) new
 
--- z, in column j, is the first number of the reduced row that is not narrow
-pub record IsReducedTo (lead : ℕ → ℤ) (c width : ℕ) (old : ℕ → ℤ) (j : ℕ) (z : ℤ) : Type 0 where
-  pub inside : j < width
-  pub size : unsigned_abs z ≤ 2 ^ 125
-  pub wide : ¬ IsNarrow z
-  pub row : (new : ℕ → ℤ) × (IsReduced lead c width old new) × (new j ≡ z) × ((k : ℕ) → k < j → IsNarrow (new k))
-
 -- the numbers of `mixed` are `by` times those of the reduced row, of which one is not narrow
 pub record IsWideReduced (lead : ℕ → ℤ) (c width : ℕ) (old : ℕ → ℤ) (mixed : List ℤ) (by : ℕ) : Type 0 where
   pub some : 0 < by
@@ -92,19 +85,3 @@ pub record IsTurned (old new : ℕ → ℤ) (c width : ℕ) : Type 0 where
 pub record IsLeadOf (old new : ℕ → ℤ) (c width : ℕ) : Type 0 where
   pub own : pos 0 ≤ℤ new c
   pub divided : (IsDivided width old new) ⊎ IsDivided width (λ j. neg_ℤ (old j)) new
-
--- row r is taken as the lead, each other of `count` rows is mixed with it in column c, and all are narrow
-pub record IsCleared (old new : ℕ → ℕ → ℤ) (count width r c : ℕ) : Type 0 where
-  pub lead : IsLeadOf (old r) (new r) c width
-  pub others : (i : ℕ) → i < count → i ≢ r → IsMixed (new r) c width (old i) (new i)
-  pub narrow : (i j : ℕ) → i < count → j < width → IsNarrow (new i j)
-
--- Row r is taken as the lead, and z, in row i and column j, is the first number of the reduced rows that is not narrow. The rows before row i need only be
--- mixed.
-pub record IsClearedTo (old : ℕ → ℕ → ℤ) (taken : ℕ → ℤ) (count width r c i j : ℕ) (z : ℤ) : Type 0 where
-  pub lead : IsLeadOf (old r) taken c width
-  pub narrow : (k : ℕ) → k < width → IsNarrow (taken k)
-  pub inside : i < count
-  pub apart : i ≢ r
-  pub here : IsReducedTo taken c width (old i) j z
-  pub before : (h : ℕ) → h < i → h ≢ r → (new : ℕ → ℤ) × (IsMixed taken c width (old h) new) × ((k : ℕ) → k < width → IsNarrow (new k))

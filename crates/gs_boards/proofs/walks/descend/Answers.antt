@@ -1,8 +1,8 @@
 use Rattle.std.proofs.Common.{◌≡◌, ◌+◌, ◌-◌, ◌<◌, ◌^◌, ◌∙◌, ◌+ℤ◌, ℕ, ℤ, List, ap, arith, drop, get_or, length, pos, subst, sym, to_z, of_z}
 use Rattle.std.proofs.lemmas.Grind.{common_steps}
 use Rattle.std.specs.{Int.{w128}, Prelude.{All, unsigned_abs}}
-use Rattle.gs_boards.specs.{Runs.{paid_by, place_worth}, declared.place.Place.{Place}}
-use Rattle.gs_boards.proofs.{Added.{added}, Payments.{lost_is}, Steps.{come_down, come_within, go_down, one_back, stronger_behind, written}}
+use Rattle.gs_boards.specs.{Runs.{paid_by}, declared.place.Place.{Place}}
+use Rattle.gs_boards.proofs.{Added.{added}, Payments.{lost_is, place_worth}, Steps.{come_down, come_within, go_down, one_back, stronger_behind, written}}
 use Rattle.gs_boards.proofs.walks.descend.Goals as goal
 
 -- a number that is as small as what it is equal to

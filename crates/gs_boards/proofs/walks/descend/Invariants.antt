@@ -1,6 +1,6 @@
 use Rattle.std.proofs.Common.{◌≡◌, ◌+◌, ◌-◌, ◌*◌, ◌<◌, ◌≤◌, ◌^◌, ◌+ℤ◌, ℕ, drop, get_or, length, pos}
-use Rattle.gs_boards.specs.{Runs.{paid_by, place_worth}, declared.place.Place.{Place}}
-use Rattle.gs_boards.proofs.Steps.{HasDescended}
+use Rattle.gs_boards.specs.{Runs.{paid_by}, declared.place.Place.{Place}}
+use Rattle.gs_boards.proofs.{Payments.{place_worth}, Steps.{HasDescended}}
 use Rattle.gs_boards.proofs.walks.descend.Given as goal
 
 abbrev pub invariant-loop-at : goal.invariant-loop-at

@@ -1,7 +1,7 @@
 use Rattle.std.proofs.Common.{◌≡◌, ◌<◌, drop}
 use Rattle.gs_bet.specs.{TreeView.{plain, plain_moves}, declared.shape.Act.{out-Act}}
-use Rattle.gs_game.specs.Money.{MovesFit, uneven_path, uneven_move}
-use Rattle.gs_game.proofs.Sizes.{bet_size, moves_size}
+use Rattle.gs_game.specs.Money.{uneven_path, uneven_move}
+use Rattle.gs_game.proofs.{MoneyLaws.{MovesFit}, Sizes.{bet_size, moves_size}}
 use Rattle.gs_game.proofs.money.+find_uneven.Given as goal
 
 abbrev pub decreases-find_uneven : goal.decreases-find_uneven

@@ -1,7 +1,7 @@
 use Rattle.std.proofs.Common.{◌≡◌, ◌≤◌, ◌+◌, ◌^◌, max, ◌<◌, drop}
 use Rattle.gs_bet.specs.{TreeView.{plain, plain_moves}, declared.shape.Act.{out-Act}}
-use Rattle.gs_game.specs.Money.{MovesFit, most_put, most_moved, put_above}
-use Rattle.gs_game.proofs.Sizes.{bet_size, moves_size}
+use Rattle.gs_game.specs.Money.{most_put, most_moved, put_above}
+use Rattle.gs_game.proofs.{MoneyLaws.{MovesFit}, Sizes.{bet_size, moves_size}}
 use Rattle.gs_game.proofs.money.+most_above.Given as goal
 
 abbrev pub decreases-most_above : goal.decreases-most_above
