@@ -1,8 +1,10 @@
 -- The groups of one player beside the signal of another.
-use Rattle.std.proofs.{Common.{◌≡◌, ℕ, suc, ◌+◌, ◌-◌, ◌*◌, ◌++◌, List, [], ◌∷◌, get_or, refl, sym, ap, ◌∙◌, arith, cond, eqb}, lemmas.List.Sums.{sum_by-append}}
+use Rattle.std.proofs.Common.{◌≡◌, ℕ, suc, ◌+◌, ◌-◌, ◌*◌, ◌++◌, List, [], ◌∷◌, append-nil, get_or, length, length-append, refl, sym, ap, ◌∙◌, arith, cond, eqb}
+use Rattle.std.proofs.lemmas.{List.{nil_from_length}, List.Sums.{sum_by-append}}
 use Rattle.std.specs.Prelude.{count_by, ◌==◌}
 use Rattle.gs_model.specs.{Cards.{ways, left_after, left_from}, Deals.{own_ways}, Signals.{Seen, Signal, left_by, own_cards, public_cards}}
 use Rattle.gs_model.proofs.Listed.{left_at}
+use Rattle.gs_card.proofs.TakenCards.{ways-none}
 use Rattle.gs_tree.proofs.Taken.{taken_none}
 
 -- how often a card stands among cards
@@ -46,6 +48,35 @@ own_ways-push left [] p = omega (arith, ap (λ l. ways l p.own) (taken_none left
 own_ways-push left (q ∷ s) p =
     ap (λ n. ways left q.own * n) (own_ways-push (left_after left q.own) s p)
     ∙ ap (λ l. ways left q.own * (own_ways (left_after left q.own) s * ways l p.own)) (left_twice left q.own (own_cards s)) ∙ omega arith
+
+-- a signal without own cards is taken in one way
+own_ways-none : (left : List ℕ) (s : Signal) → length (own_cards s) ≡ 0 → own_ways left s ≡ 1
+own_ways-none left [] e = refl
+own_ways-none left (p ∷ s) e =
+    let both = length-append p.own (own_cards s) in
+    let none : p.own ≡ [] = nil_from_length p.own (omega (arith, e, both)) in
+    let rest : own_ways (left_after left p.own) s ≡ 1 = own_ways-none (left_after left p.own) s (omega (arith, e, both)) in
+    ap (λ n. ways left p.own * n) rest ∙ ap (λ g. ways left g * 1) none ∙ omega (arith, ways-none left)
+
+-- where all rounds show one own card together, it is taken from the copies that are left at first
+pub own_ways-one : (left : List ℕ) (s : Signal) → length (own_cards s) ≡ 1 → own_ways left s ≡ ways left (own_cards s)
+own_ways-one left [] e = absurd (omega (arith, e))
+own_ways-one left (p ∷ s) e = go (λ later. own_ways-one left s later) p.own refl
+  where
+    both : length (p.own ++ own_cards s) ≡ length p.own + length (own_cards s)
+    both = length-append p.own (own_cards s)
+
+    go : (length (own_cards s) ≡ 1 → own_ways left s ≡ ways left (own_cards s)) → (own : List ℕ) → own ≡ p.own
+        → own_ways left (p ∷ s) ≡ ways left (p.own ++ own_cards s)
+    go behind [] is =
+        let later : length (own_cards s) ≡ 1 = omega (arith, e, both, ap (λ (g : List ℕ). length g) is) in
+        ap (λ g. ways left g * own_ways (left_after left g) s) (sym is) ∙ ap (λ l. ways left [] * own_ways l s) (taken_none left)
+        ∙ ap (λ n. n * own_ways left s) (ways-none left) ∙ omega (arith, behind later) ∙ ap (λ g. ways left (g ++ own_cards s)) is
+    go behind (c ∷ cs) is =
+        let none : length (own_cards s) ≡ 0 = omega (arith, e, both, ap (λ (g : List ℕ). length g) is) in
+        let nil : own_cards s ≡ [] = nil_from_length (own_cards s) none in
+        ap (λ n. ways left p.own * n) (own_ways-none (left_after left p.own) s none) ∙ omega arith
+        ∙ ap (ways left) (sym (ap (λ r. p.own ++ r) nil ∙ append-nil p.own))
 
 -- the copies of a kind left beside another player's own cards, the public cards and earlier own cards
 pub beside_read : (left held board before : List ℕ) (card : ℕ) → get_or (left_after (left_after (left_after left held) board) before) card 0

@@ -352,6 +352,10 @@ impl<'g> Signals<'g> {
         let held = self.own(one);
         let board = self.public(one);
         let own = self.own(two);
+        // one card needs no look at the rounds
+        if own.len() == 1 {
+            return ways_beside(deck, held, board, &[], own);
+        }
         let mut ways = 1u64;
         let mut start = 0;
         for round in &self.game.game().rounds {

@@ -6,8 +6,9 @@ use Rattle.gs_game.specs.{Games.{round_rules}, declared.game.Game.{Game as Descr
 use Rattle.gs_model.specs.{Cards.{ways, left_after}, Deals.{own_ways}, Game.{Game, Round, round_count}}
 use Rattle.gs_model.specs.Signals.{Seen, Signal, signal_at, signals, left_by, own_cards}
 use Rattle.gs_tree.specs.Trees.{rules_of}
-use Rattle.gs_tree.proofs.{Beside.{left_by_cards}, Paths.{power_fits}, Rows.{IsTurn, has_rounds, part_in, parts_length, power_more, turn}}
-use Rattle.gs_tree.proofs.{signals.Signals.own_ways.Goals.{After-deref-round-items, After-from}, Grown.{nothing_seen}}
+use Rattle.gs_tree.proofs.{Beside.{left_by_cards, own_ways-one}, Grown.{nothing_seen}, Hands.{dealt}, Paths.{power_fits}, Taken.{taken_none}}
+use Rattle.gs_tree.proofs.Rows.{IsTurn, has_rounds, part_in, parts_length, power_more, turn}
+use Rattle.gs_tree.proofs.signals.Signals.own_ways.Goals.{After-deref-round-items, After-from, After-own-own}
 use Rattle.gs_tree.proofs.signals.Signals.own_ways.Goals as goal
 
 -- the rounds of the loop are the game's
@@ -29,6 +30,35 @@ read_turn c all =
     c.loop-round.invariant.start
     (ap (λ w. c.loop-round.start + w) c.from.ensures)
 
+-- the copies that `one` leaves
+copies_left : (c : After-own-own) → left_after (left_after c.deck-deck.result.now.counts c.own-held.result.now) c.public-board.result.now
+    ≡ left_by (rules_of c.args.self.now).copies (signal_at (rules_of c.args.self.now) (round_count (rules_of c.args.self.now)) c.args.one)
+copies_left c =
+    let g : Game = rules_of c.args.self.now in
+    let s : Signal = signal_at g (round_count g) c.args.one in
+    ap (λ (d : DeckValue). left_after (left_after d.counts c.own-held.result.now) c.public-board.result.now) c.deck-deck.ensures.deck
+    ∙ ap (λ x. left_after (left_after g.copies x) c.public-board.result.now) c.own-held.ensures
+    ∙ ap (left_after (left_after g.copies (own_cards s))) c.public-board.ensures ∙ sym (left_by_cards g.copies s)
+
+pub ways_beside-requires-clause-own_in : goal.ways_beside-requires-clause-own_in
+ways_beside-requires-clause-own_in c =
+    let g : Game = rules_of c.args.self.now in
+    let kinds_are : length g.copies ≡ kinds c.deck-deck.result.now = c.deck-deck.ensures.valid.counted ∙ sym (ap kinds c.deck-deck.ensures.deck) in
+    let P : ℕ → Type 0 = λ n. All (λ card. card < n) c.own-own.result.now in
+    let Q : List ℕ → Type 0 = λ xs. All (λ card. card < length g.copies) xs in
+    subst P kinds_are (subst Q (sym c.own-own.ensures) (dealt g (round_count g) c.args.two (omega arith) c.requires.two_in).own_in)
+
+pub returns-then-own-eq1 : goal.returns-then-own-eq1
+returns-then-own-eq1 c =
+    let g : Game = rules_of c.args.self.now in
+    let left : List ℕ = left_by g.copies (signal_at g (round_count g) c.args.one) in
+    let t : Signal = signal_at g (round_count g) c.args.two in
+    let own : List ℕ = c.own-own.result.now in
+    let before : List ℕ = left_after (left_after c.deck-deck.result.now.counts c.own-held.result.now) c.public-board.result.now in
+    let one : length (own_cards t) ≡ 1 = omega (arith, c.if-own-eq1.true, ap (λ (x : List ℕ). length x) c.own-own.ensures) in
+    c.ways_beside.ensures.value ∙ ap (λ l. ways l own) (taken_none before ∙ copies_left (goal.at.returns-then-own-eq1 c).After-own-own)
+    ∙ ap (ways left) c.own-own.ensures ∙ sym (own_ways-one left t one)
+
 pub overflow_add-end : goal.overflow_add-end
 overflow_add-end c =
     let w = goal.at.overflow_add-end c in
@@ -42,14 +72,14 @@ overflow_add-end c =
     let each : length c.own-own.result.now ≡ s.hands.own = ap (λ (x : List ℕ). length x) c.own-own.ensures ∙ s.dealt.own_each c.args.two c.requires.two_in in
     omega (arith, h.step.within, each, room, long, s.hands.owns.ok.0, s.hands.owns.small)
 
-pub slice_bounds-ways_beside-end : goal.slice_bounds-ways_beside-end
-slice_bounds-ways_beside-end c =
-    let w = goal.at.slice_bounds-ways_beside-end c in
-    sym (length-take-le c.loop-round.start c.own-own.result.now (omega (arith, (read_turn w.After-from (all_rounds w.After-deref-round-items)).step.within)))
-
 pub slice_bounds-ways_beside-end-in-loop-round : goal.slice_bounds-ways_beside-end-in-loop-round
 slice_bounds-ways_beside-end-in-loop-round c =
     let w = goal.at.slice_bounds-ways_beside-end-in-loop-round c in
+    sym (length-take-le c.loop-round.start c.own-own.result.now (omega (arith, (read_turn w.After-from (all_rounds w.After-deref-round-items)).step.within)))
+
+pub slice_bounds-ways_beside-end-in-loop-round-2 : goal.slice_bounds-ways_beside-end-in-loop-round-2
+slice_bounds-ways_beside-end-in-loop-round-2 c =
+    let w = goal.at.slice_bounds-ways_beside-end-in-loop-round-2 c in
     omega (arith, (read_turn w.After-from (all_rounds w.After-deref-round-items)).step.within)
 
 pub ways_beside-ways-requires-clause-own_in : goal.ways_beside-ways-requires-clause-own_in
@@ -90,10 +120,7 @@ loop-round-preserved c =
     let t : Signal = signal_at g (round_count g) c.args.two in
     let p : Seen = get_or t k nothing_seen in
     let copies : left_after (left_after c.deck-deck.result.now.counts c.own-held.result.now) c.public-board.result.now ≡ left =
-    ap (λ (d : DeckValue). left_after (left_after d.counts c.own-held.result.now) c.public-board.result.now) c.deck-deck.ensures.deck
-    ∙ ap (λ x. left_after (left_after g.copies x) c.public-board.result.now) c.own-held.ensures
-    ∙ ap (left_after (left_after g.copies (own_cards (signal_at g (round_count g) c.args.one)))) c.public-board.ensures
-    ∙ sym (left_by_cards g.copies (signal_at g (round_count g) c.args.one)) in
+    copies_left w.After-own-own in
     let before : take c.loop-round.start c.own-own.result.now ≡ own_cards (take k t) = sym (between_from_start c.own-own.result.now c.loop-round.start)
     ∙ h.step.before in
     let group : List ℕ = between c.loop-round.start (c.loop-round.start + c.from.result) c.own-own.result.now in
