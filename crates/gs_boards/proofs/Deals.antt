@@ -1,6 +1,6 @@
 -- What a last-round signal is paid in its deals: a sum over the places of its board, before and behind its own.
 use Rattle.std.proofs.Common.{◌≡◌, ◌+◌, ◌<◌, ◌≤◌, ◌∙◌, ℕ, zero, suc, ℤ, pos, Bool, true, false, cond, eqb, nat_lt, List, ◌∷◌, drop, length, get_or, map, take}
-use Rattle.std.proofs.Common.{refl, sym, ap, subst, arith, ⊎_elim}
+use Rattle.std.proofs.Common.{refl, sym, ap, subst, arith, true≢false, ⊎_elim}
 use Rattle.std.proofs.{Math.IntN.{+ℤ_idl}, lemmas.Bool.{cases_lt}, lemmas.Bool.Decides.{Decides-eqb}, lemmas.Int.{ints}}
 use Rattle.std.proofs.lemmas.List.{drop_more, get_or-drop, get_or-take, get_or_default, length-drop, length-take, take-append-drop}
 use Rattle.std.specs.{Prelude.{◌==◌, ◌&&◌, ◌+ℤ◌, ◌*ℤ◌, All, filter, slice_index}, List.{range_with_len}}
@@ -10,7 +10,13 @@ use Rattle.gs_tree.specs.{Plain.{IsPlain}, Walk.{deal_at, last_count, shows_same
 use Rattle.gs_tree.proofs.{Pairs.{row_deals}, Weighed.{weight_is}}
 use Rattle.gs_boards.specs.{Boards.{ArePlaces, IsPlace, deal_sum, paid}, Places.{AreApart}, Runs.{number_at, outcome_at, paid_by}, declared.pays.Pays.{Pays}}
 use Rattle.gs_boards.specs.declared.place.Place.{Place}
-use Rattle.gs_boards.proofs.{Once.{apart_from, over_places, place_of}, Telling.{board_tells, outcome_tells}}
+use Rattle.gs_boards.proofs.{Once.{AreOnce, apart_from, of_signal, over_places}, Telling.{board_tells, outcome_tells}}
+
+-- places of whole boards: of the signals that pass a test, and a signal passes if one passes that shows the same
+pub record AreWhole (g : Game) (on : ℕ → Bool) (places : List Place) : Type 0 where
+  pub each : All (IsPlace g) places
+  pub once : AreOnce on (last_count g) places
+  pub closed : All (λ (p : Place). (k : ℕ) → on k ≡ false → shows_same g p.signal k ≡ false) places
 
 module _ (g : Game) (plain : IsPlain g) (numbers : List ℕ) (pays : ℤ → ℤ) where
   -- what a deal adds
@@ -78,51 +84,47 @@ module _ (g : Game) (plain : IsPlain g) (numbers : List ℕ) (pays : ℤ → ℤ
       go true = refl
       go false = refl
 
-  module _ (places : List Place) (are : ArePlaces g places) where
-    inside : All (λ (p : Place). p.signal < last_count g) places
-    inside i d l = (are.each i d l).within
+  -- what a signal is paid: by the places before its own, and by those behind it
+  pub place_paid : (on : ℕ → Bool) (places : List Place) → AreWhole g on places → (n : ℕ) (d : Place) → n < length places
+      → deal_sum g numbers pays (get_or places n d).signal ≡ sum_z (by_place (get_or places n d)) (take n places)
+      +ℤ sum_z (by_place (get_or places n d)) (drop (n + 1) places)
+  place_paid on places are n d l =
+      row_paid p.signal (are.once.within n d l) ∙ over_places (beside p.signal) are.once unpaid
+      ∙ ap (sum_z f) (sym (take-append-drop n places)) ∙ sum_z-append f (take n places) (drop n places)
+      ∙ ap (λ xs. sum_z f (take n places) +ℤ sum_z f xs) (drop_more places n d l)
+      ∙ ap (λ z. sum_z f (take n places) +ℤ (z +ℤ sum_z f (drop (n + 1) places))) (own_place p.signal)
+      ∙ ap (λ z. sum_z f (take n places) +ℤ z) (+ℤ_idl (sum_z f (drop (n + 1) places)))
+      ∙ ap (λ z. z +ℤ sum_z f (drop (n + 1) places)) (sum_z-same_all f (by_place p) (take n places) before)
+      ∙ ap (λ z. sum_z (by_place p) (take n places) +ℤ z) (sum_z-same_all f (by_place p) (drop (n + 1) places) behind)
+    where
+      p : Place
+      p = get_or places n d
 
-    apart : AreApart places
-    apart = apart_from (last_count g) places inside are.once
+      f : Place → ℤ
+      f q = beside p.signal q.signal
 
-    -- what a signal is paid: by the places before its own, and by those behind it
-    pub place_paid : (n : ℕ) (d : Place) → n < length places
-        → deal_sum g numbers pays (get_or places n d).signal ≡ sum_z (by_place (get_or places n d)) (take n places)
-        +ℤ sum_z (by_place (get_or places n d)) (drop (n + 1) places)
-    place_paid n d l =
-        row_paid p.signal (inside n d l) ∙ over_places (beside p.signal) (last_count g) places inside are.once
-        ∙ ap (sum_z f) (sym (take-append-drop n places)) ∙ sum_z-append f (take n places) (drop n places)
-        ∙ ap (λ xs. sum_z f (take n places) +ℤ sum_z f xs) (drop_more places n d l)
-        ∙ ap (λ z. sum_z f (take n places) +ℤ (z +ℤ sum_z f (drop (n + 1) places))) (own_place p.signal)
-        ∙ ap (λ z. sum_z f (take n places) +ℤ z) (+ℤ_idl (sum_z f (drop (n + 1) places)))
-        ∙ ap (λ z. z +ℤ sum_z f (drop (n + 1) places)) (sum_z-same_all f (by_place p) (take n places) before)
-        ∙ ap (λ z. sum_z (by_place p) (take n places) +ℤ z) (sum_z-same_all f (by_place p) (drop (n + 1) places) behind)
-      where
-        p : Place
-        p = get_or places n d
+      unpaid : (k : ℕ) → on k ≡ false → beside p.signal k ≡ pos 0
+      unpaid k e = ap (λ b. cond (b && cond (eqb k p.signal) false true) (paid_at p.signal k) (pos 0)) (are.closed n d l k e)
 
-        f : Place → ℤ
-        f q = beside p.signal q.signal
+      at : (k : ℕ) → k < length places → (k ≡ n → ⊥) → f (get_or places k d) ≡ by_place p (get_or places k d)
+      at k m ne = other_place p (get_or places k d) (are.each n d l) (are.each k d m) (λ e. ⊎_elim
+          (λ (lt : k < n). apart_from are.once k n d lt l e)
+          (λ (ge : n ≤ k). apart_from are.once n k d (omega (arith, ge, ne)) m (sym e))
+          (cases_lt k n))
 
-        at : (k : ℕ) → k < length places → (k ≡ n → ⊥) → f (get_or places k d) ≡ by_place p (get_or places k d)
-        at k m ne = other_place p (get_or places k d) (are.each n d l) (are.each k d m) (λ e. ⊎_elim
-            (λ (lt : k < n). apart k n d lt l e)
-            (λ (ge : n ≤ k). apart n k d (omega (arith, ge, ne)) m (sym e))
-            (cases_lt k n))
+      before : All (λ q. f q ≡ by_place p q) (take n places)
+      before i e m =
+          let lt : i < n = omega (arith, m, length-take n places) in
+          let in' : i < length places = omega arith in
+          let is : get_or (take n places) i e ≡ get_or places i d = get_or-take n places i e lt ∙ get_or_default places i e d in' in
+          subst (λ q. f q ≡ by_place p q) (sym is) (at i in' (λ same. absurd (omega (arith, same, lt))))
 
-        before : All (λ q. f q ≡ by_place p q) (take n places)
-        before i e m =
-            let lt : i < n = omega (arith, m, length-take n places) in
-            let in' : i < length places = omega arith in
-            let is : get_or (take n places) i e ≡ get_or places i d = get_or-take n places i e lt ∙ get_or_default places i e d in' in
-            subst (λ q. f q ≡ by_place p q) (sym is) (at i in' (λ same. absurd (omega (arith, same, lt))))
-
-        behind : All (λ q. f q ≡ by_place p q) (drop (n + 1) places)
-        behind i e m =
-            let in' : n + 1 + i < length places = omega (arith, m, length-drop (n + 1) places) in
-            let is : get_or (drop (n + 1) places) i e ≡ get_or places (n + 1 + i) d =
-            get_or-drop (n + 1) places i e ∙ get_or_default places (n + 1 + i) e d in' in
-            subst (λ q. f q ≡ by_place p q) (sym is) (at (n + 1 + i) in' (λ same. absurd (omega (arith, same))))
+      behind : All (λ q. f q ≡ by_place p q) (drop (n + 1) places)
+      behind i e m =
+          let in' : n + 1 + i < length places = omega (arith, m, length-drop (n + 1) places) in
+          let is : get_or (drop (n + 1) places) i e ≡ get_or places (n + 1 + i) d =
+          get_or-drop (n + 1) places i e ∙ get_or_default places (n + 1 + i) e d in' in
+          subst (λ q. f q ≡ by_place p q) (sym is) (at (n + 1 + i) in' (λ same. absurd (omega (arith, same))))
 
 -- what the walk up has written for each place
 abbrev pub ArePaidBefore : List Place → Pays → List ℕ → List ℤ → Type 0
@@ -136,21 +138,23 @@ ArePaidBehind places pays numbers sums more =
     → get_or more (get_or places n d).signal (pos 0) ≡ get_or sums (get_or places n d).signal (pos 0)
     +ℤ paid_by pays numbers (get_or places n d) (drop (n + 1) places)
 
+-- the places of all boards
+all_whole : (g : Game) (places : List Place) → ArePlaces g places → AreWhole g (λ s. true) places
+all_whole g places are = record {
+  each = are.each;
+  once = record { within = λ i d l. (are.each i d l).within; once = are.once };
+  closed = λ i d l k e. absurd (true≢false e);
+}
+
 -- both walks give what each signal is paid
 pub both_ways : (g : Game) → IsPlain g → (places : List Place) → ArePlaces g places → (pays : Pays) (numbers : List ℕ) (sums more : List ℤ)
     → ArePaidBefore places pays numbers sums → ArePaidBehind places pays numbers sums more
     → (signal : ℕ) → signal < last_count g → get_or more signal (pos 0) ≡ deal_sum g numbers (paid pays) signal
 both_ways g plain places are pays numbers sums more up down signal l =
-    let at = place_of places signal (are.once signal l) in
-    let none : Place = record { board = 0; strength = 0; win = 0; signal = 0 } in
-    let n : ℕ = at.index in
-    let p : Place = get_or places n none in
-    let here : get_or more p.signal (pos 0) ≡ deal_sum g numbers (paid pays) p.signal =
-    down n none at.inside ∙ ap (λ z. z +ℤ paid_by pays numbers p (drop (n + 1) places)) (up n none at.inside)
-    ∙ sym (place_paid g plain numbers (paid pays) places are n none at.inside) in
-    let P : ℕ → Type 0 = λ s. get_or more s (pos 0) ≡ deal_sum g numbers (paid pays) s in
-    subst P (at.is none) here
+    of_signal (λ s. get_or more s (pos 0) ≡ deal_sum g numbers (paid pays) s) places signal (are.once signal l) (λ n d in'.
+    down n d in' ∙ ap (λ z. z +ℤ paid_by pays numbers (get_or places n d) (drop (n + 1) places)) (up n d in')
+    ∙ sym (place_paid g plain numbers (paid pays) (λ s. true) places (all_whole g places are) n d in'))
 
 -- no signal has two places
 pub are_apart : (g : Game) (places : List Place) → ArePlaces g places → AreApart places
-are_apart g places are = apart_from (last_count g) places (λ i d l. (are.each i d l).within) are.once
+are_apart g places are = apart_from (all_whole g places are).once

@@ -3,7 +3,9 @@ pub mod Payments
 pub mod Chips
 pub mod Steps
 pub mod Added
+pub mod Wrapped
 pub mod Once
 pub mod Telling
 pub mod Deals
 pub mod Placed
+pub mod BoardRemainders

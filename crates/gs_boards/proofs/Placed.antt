@@ -1,20 +1,21 @@
 -- Places listed board by board are the places of a game in order.
 use Rattle.std.proofs.Common.{◌≡◌, ◌+◌, ◌-◌, ◌<◌, ◌≤◌, ◌∙◌, ℕ, pos, Bool, true, false, cond, count_by, nat_lt, List, [], ◌∷◌, ◌++◌, get_or, length}
-use Rattle.std.proofs.{Common.{map, sum_by, refl, sym, ap, arith, ⊎_elim}, lemmas.Bool.{cases_eq, cases_lt, le-ltb, lt-ltb}, lemmas.Bool.Decides.{Decides-eqb}}
+use Rattle.std.proofs.{Common.{map, sum_by, refl, sym, ap, arith, true≢false, ⊎_elim}, lemmas.Bool.{cases_eq, cases_lt, le-ltb, lt-ltb}}
+use Rattle.std.proofs.lemmas.Bool.Decides.{Decides-eqb}
 use Rattle.std.proofs.{lemmas.List.{get_or_append_left, get_or-append_right, length-append}, lemmas.List.Elements.{All-append, All-nil, All-weaker}}
 use Rattle.std.proofs.lemmas.List.FromFn.{length-range_with_len}
 use Rattle.std.proofs.{lemmas.List.Sorted.{All-permutation, sum_by-IsPermutation}, lemmas.List.Sums.{sum_by-append, sum_by-cons}}
 use Rattle.std.specs.{Prelude.{◌==◌, All, filter}, List.{range_with_len}, List.Sorted.{IsNonDecreasingBy, IsPermutation}}
-use Rattle.gs_model.specs.{Game.{Game, round_count}, Signals.{signal_at}}
+use Rattle.gs_model.specs.{Game.{Game}}
 use Rattle.gs_model.proofs.{Basics.{pos-injective, sum-ones}, RawBound.{range_once}, Regroup.{sum_z-pos}}
 use Rattle.gs_tree.specs.{Boards.{AreBoards, signals_on}, Walk.{last_count, shows_same}}
-use Rattle.gs_tree.proofs.Same.{public_alike, public_self}
 use Rattle.gs_boards.specs.{Boards.{ArePlaces, IsFirstOn, IsPlace}, Places.{AreInOrder, IsNoLater}, declared.place.Place.{Place}}
-use Rattle.gs_boards.proofs.Once.{by_signals, one_passes, over_places, places_of}
+use Rattle.gs_boards.proofs.{Deals.{AreWhole}, Once.{AreOnce, by_signals, one_passes, over_places, places_of}}
+use Rattle.gs_boards.proofs.Telling.{alike, first_here, first_of_none, first_shows, one_first}
 
 -- ---- the order, with a later board behind
 
-in_order : (n : ℕ) (places board : List Place) → AreInOrder places → All (λ (p : Place). p.board < n) places → All (λ (p : Place). p.board ≡ n) board
+pub in_order : (n : ℕ) (places board : List Place) → AreInOrder places → All (λ (p : Place). p.board < n) places → All (λ (p : Place). p.board ≡ n) board
     → IsNonDecreasingBy (λ (p : Place). p.strength) board → AreInOrder (places ++ board)
 in_order n places board order before here rising i j d le l = ⊎_elim
     (λ (j_left : j < length places).
@@ -97,23 +98,38 @@ passes false l = absurd (omega arith)
 
 -- ---- boards
 
+-- the places of one board, all of them
+pub record AreOnBoard (g : Game) (first : ℕ) (board : List Place) : Type 0 where
+  pub whole : AreWhole g (shows_same g first) board
+  pub here : All (λ (p : Place). p.board ≡ first) board
+
+pub on_board : (g : Game) (n : ℕ) → IsFirstOn g n n → (made board : List Place) → All (IsPlace g) made
+    → map (λ (p : Place). p.signal) made ≡ signals_on g n → IsPermutation made board → AreOnBoard g n board
+on_board g n first made board each all moved = record {
+  whole = record {
+    each = each_here;
+    once = record { within = λ i d l. (each_here i d l).within; once = once };
+    closed = λ i d l k e. sym (alike g n (get_or board i d).signal k (same i d l)) ∙ e;
+  };
+  here = λ i d l. sym (one_first g n (get_or board i d).signal n (get_or board i d).board first (each_here i d l).board (same i d l));
+}
+  where
+    once : (s : ℕ) → s < last_count g → places_of s board ≡ cond {A = ℕ} (shows_same g n s) 1 0
+    once s l =
+        sum_by-IsPermutation (λ (p : Place). cond {A = ℕ} (p.signal == s) 1 0) made board moved
+        ∙ by_signals s made ∙ ap (λ xs. count_by (λ x. s == x) xs) all ∙ kept (shows_same g n) s (range_with_len 0 (last_count g))
+        ∙ ap (λ k. cond (shows_same g n s) k 0) (range_once s 0 (last_count g) (omega arith) (omega (arith, l)))
+
+    each_here : All (IsPlace g) board
+    each_here = All-permutation (IsPlace g) made board moved each
+
+    same : All (λ (p : Place). shows_same g n p.signal ≡ true) board
+    same i d l =
+        let p : Place = get_or board i d in
+        let some = one_passes (λ (q : Place). q.signal == p.signal) board i d l ((Decides-eqb p.signal p.signal).1 refl) in
+        passes (shows_same g n p.signal) (omega (arith, some, once p.signal (each_here i d l).within))
+
 module _ (g : Game) where
-  shows : (s t : ℕ) → shows_same g s t ≡ true → (k : ℕ) → shows_same g s k ≡ shows_same g t k
-  shows s t same k = let r : ℕ = round_count g in public_alike (signal_at g r s) (signal_at g r t) (signal_at g r k) same
-
-  -- signals that show the same have one first signal
-  one_first : (s t b c : ℕ) → shows_same g s t ≡ true → IsFirstOn g s b → IsFirstOn g t c → b ≡ c
-  one_first s t b c same one two = ⊎_elim
-      (λ (e : b ≡ c). e)
-      (λ (other : b ≡ c → ⊥). ⊎_elim
-      (λ (l : b < c). absurd (apart (shows_same g t b) (sym (shows s t same b) ∙ one.same) (two.none_before b l)))
-      (λ (l : c ≤ b). absurd (apart (shows_same g s c) (shows s t same c ∙ two.same) (one.none_before c (omega (arith, l, other)))))
-      (cases_lt b c))
-      (cases_eq b c)
-    where
-      apart : (b : Bool) → b ≡ true → b ≡ false → ⊥
-      apart b t f = cc
-
   -- the places of the boards whose first signals are before signal `n`
   pub record ArePlacedBefore (firsts : List ℕ) (n : ℕ) (places : List Place) : Type 0 where
     each : All (IsPlace g) places
@@ -122,9 +138,6 @@ module _ (g : Game) where
     order : AreInOrder places
 
   module _ (firsts nexts : List ℕ) (boards : AreBoards g firsts nexts) where
-    first_of : (s : ℕ) → s < last_count g → IsFirstOn g s (get_or firsts s 0)
-    first_of s l = record { within = boards.first_in s l; same = boards.first_same s l; none_before = λ k b. boards.none_before s k l b }
-
     pub none_placed : ArePlacedBefore firsts 0 []
     none_placed = record {
       each = All-nil (IsPlace g);
@@ -139,78 +152,45 @@ module _ (g : Game) where
       each = are.each;
       before = All-weaker (λ (p : Place). p.board < n) (λ p. p.board < n + 1) (λ p l. omega (arith, l)) places are.before;
       once = λ s l.
-          (let f : ℕ = get_or firsts s 0 in
-          let no_first : f ≡ n → ⊥ = λ e.
-          (let again : f ≡ get_or firsts f 0 = one_first s f f (get_or firsts f 0) (boards.first_same s l) (first_of s l) (first_of f (boards.first_in s l)) in
-          other (sym (ap (λ k. get_or firsts k 0) e) ∙ sym again ∙ e)) in
-          omega (arith, are.once s l, added f n false (λ e. absurd (no_first e)) (λ other. refl)));
+          omega (
+            arith,
+            are.once s l,
+            added (get_or firsts s 0) n false (λ e. absurd (first_of_none boards n other s l e)) (λ other. refl),
+          );
       order = are.order;
     }
 
-    module _ (n : ℕ) (l : n < last_count g) (own : get_or firsts n 0 ≡ n) (made board : List Place) (each : All (IsPlace g) made)
-        (all : map (λ (p : Place). p.signal) made ≡ signals_on g n) (moved : IsPermutation made board) where
-      board_once : (s : ℕ) → s < last_count g → places_of s board ≡ cond {A = ℕ} (shows_same g n s) 1 0
-      board_once s in' =
-          sum_by-IsPermutation (λ (p : Place). cond {A = ℕ} (p.signal == s) 1 0) made board moved
-          ∙ by_signals s made ∙ ap (λ xs. count_by (λ x. s == x) xs) all ∙ kept (shows_same g n) s (range_with_len 0 (last_count g))
-          ∙ ap (λ k. cond (shows_same g n s) k 0) (range_once s 0 (last_count g) (omega arith) (omega (arith, in')))
-
-      here : IsFirstOn g n n
-      here = let first = first_of n l in record {
-        within = l;
-        same = public_self (signal_at g (round_count g) n);
-        none_before = λ k b. first.none_before k (omega (arith, b, own));
-      }
-
-      each_here : All (IsPlace g) board
-      each_here = All-permutation (IsPlace g) made board moved each
-
-      on_board : All (λ (p : Place). p.board ≡ n) board
-      on_board i d in' =
-          let p : Place = get_or board i d in
-          let place = each_here i d in' in
-          let some = one_passes (λ (q : Place). q.signal == p.signal) board i d in' ((Decides-eqb p.signal p.signal).1 refl) in
-          let same = passes (shows_same g n p.signal) (omega (arith, some, board_once p.signal place.within)) in
-          sym (one_first n p.signal n p.board same here place.board)
-
-      same_first : (s : ℕ) → s < last_count g → (get_or firsts s 0 ≡ n → shows_same g n s ≡ true) × ((get_or firsts s 0 ≡ n → ⊥) → shows_same g n s ≡ false)
-      same_first s in' = (
-        λ e. (let same : shows_same g s n ≡ true = ap (λ k. shows_same g s k) (sym e) ∙ boards.first_same s in' in
-            sym (shows s n same s) ∙ public_self (signal_at g (round_count g) s)),
-        λ other. by other (shows_same g n s) refl,
-      )
-        where
-          by : (get_or firsts s 0 ≡ n → ⊥) → (b : Bool) → shows_same g n s ≡ b → b ≡ false
-          by other false e = refl
-          by other true e = absurd (other (sym (one_first n s n (get_or firsts s 0) e here (first_of s in'))))
-
-      -- the places of a board behind those of the boards before it
-      pub board_placed : (places : List Place) → IsNonDecreasingBy (λ (p : Place). p.strength) board → ArePlacedBefore firsts n places
-          → ArePlacedBefore firsts (n + 1) (places ++ board)
-      board_placed places rising are = record {
-        each = All-append (IsPlace g) places board are.each each_here;
-        before = All-append (λ (p : Place). p.board < n + 1) places board
-            (All-weaker (λ (p : Place). p.board < n) (λ p. p.board < n + 1) (λ p b. omega (arith, b)) places are.before)
-            (All-weaker (λ (p : Place). p.board ≡ n) (λ p. p.board < n + 1) (λ p e. omega (arith, e)) board on_board);
-        once = λ s in'.
-            (let first = same_first s in' in
-            omega (
-              arith,
-              sum_by-append (λ (p : Place). cond {A = ℕ} (p.signal == s) 1 0) places board,
-              are.once s in',
-              board_once s in',
-              added (get_or firsts s 0) n (shows_same g n s) first.0 first.1,
-            ));
-        order = in_order n places board are.order are.before on_board rising;
-      }
+    -- the places of a board behind those of the boards before it
+    pub board_placed : (n : ℕ) → n < last_count g → get_or firsts n 0 ≡ n → (made board : List Place) → All (IsPlace g) made
+        → map (λ (p : Place). p.signal) made ≡ signals_on g n → IsPermutation made board → (places : List Place)
+        → IsNonDecreasingBy (λ (p : Place). p.strength) board → ArePlacedBefore firsts n places → ArePlacedBefore firsts (n + 1) (places ++ board)
+    board_placed n l own made board each all moved places rising are = record {
+      each = All-append (IsPlace g) places board are.each on.whole.each;
+      before = All-append (λ (p : Place). p.board < n + 1) places board
+          (All-weaker (λ (p : Place). p.board < n) (λ p. p.board < n + 1) (λ p b. omega (arith, b)) places are.before)
+          (All-weaker (λ (p : Place). p.board ≡ n) (λ p. p.board < n + 1) (λ p e. omega (arith, e)) board on.here);
+      once = λ s in'.
+          (let first = first_shows boards n l own s in' in
+          omega (
+            arith,
+            sum_by-append (λ (p : Place). cond {A = ℕ} (p.signal == s) 1 0) places board,
+            are.once s in',
+            on.whole.once.once s in',
+            added (get_or firsts s 0) n (shows_same g n s) first.0 first.1,
+          ));
+      order = in_order n places board are.order are.before on.here rising;
+    }
+      where
+        on : AreOnBoard g n board
+        on = on_board g n (first_here boards n l own) made board each all moved
 
     -- all boards
     pub all_placed : (n : ℕ) (places : List Place) → last_count g ≤ n → ArePlacedBefore firsts n places → ArePlaces g places
     all_placed n places whole are =
         let once : (s : ℕ) → s < last_count g → places_of s places ≡ 1 = λ s l. are.once s l
         ∙ ap (λ b. cond {A = ℕ} b 1 0) (lt-ltb (get_or firsts s 0) n (omega (arith, boards.first_in s l))) in
-        let within = All-weaker (IsPlace g) (λ p. p.signal < last_count g) (λ p h. h.within) places are.each in
-        let signals = over_places (λ s. pos 1) (last_count g) places within once in
+        let all : AreOnce (λ s. true) (last_count g) places = record { within = λ i d l. (are.each i d l).within; once = once } in
+        let signals = over_places (λ s. pos 1) all (λ s e. absurd (true≢false e)) in
         let counted = pos-injective (sum_by (λ (s : ℕ). 1) (range_with_len 0 (last_count g))) (sum_by (λ (p : Place). 1) places)
         (sym (sum_z-pos (λ (s : ℕ). 1) (range_with_len 0 (last_count g))) ∙ signals ∙ sum_z-pos (λ (p : Place). 1) places) in
         record {

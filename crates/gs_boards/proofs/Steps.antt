@@ -1,5 +1,5 @@
 -- Walks over places in order, up and down: what a walk has passed when it comes to a place.
-use Rattle.std.proofs.Common.{◌≡◌, ◌≢◌, ◌+◌, ◌-◌, ◌<◌, ◌≤◌, ◌∙◌, ℕ, ℤ, pos, Bool, true, false, cond, List, length, get_or, refl, sym, ap, subst, arith, ⊎_elim}
+use Rattle.std.proofs.Common.{◌≡◌, ◌≢◌, ◌+◌, ◌-◌, ◌<◌, ◌≤◌, ◌∙◌, ℕ, Bool, true, false, cond, List, length, get_or, refl, sym, ap, subst, arith, ⊎_elim}
 use Rattle.std.proofs.{Common.{sum_by, take, drop, set, get_or-set_other, get_or-set_same}, lemmas.List.Sums.{sum_by-drop_more, sum_by_more}}
 use Rattle.std.proofs.{lemmas.Bool.{cases_eq, cases_lt}, lemmas.List.{drop_all, get_or-drop, get_or-take, get_or_default, length-drop, length-take}}
 use Rattle.std.specs.Prelude.{◌==◌, All}
@@ -185,7 +185,7 @@ module _ (worth : Place → ℕ) (places : List Place) (order : AreInOrder place
 
 -- ---- what is written for places
 
-module _ (places : List Place) (apart : AreApart places) (sums : List ℤ) (inside : All (λ p. p.signal < length sums) places) where
+module _ {A : Type 0} (z : A) (places : List Place) (apart : AreApart places) (sums : List A) (inside : All (λ p. p.signal < length sums) places) where
   same_place : (n : ℕ) (d e : Place) → n < length places → get_or places n d ≡ get_or places n e
   same_place n d e l = get_or_default places n d e l
 
@@ -195,17 +195,17 @@ module _ (places : List Place) (apart : AreApart places) (sums : List ℤ) (insi
       ⊎_elim (λ (lt : k < n). apart k n e lt l one) (λ (ge : n ≤ k). apart n k e (omega (arith, ge, ne)) m (sym one)) (cases_lt k n)
 
   -- what is written for one place is there, and what stands for the others stays
-  pub written : (R : ℕ → Place → ℤ → Type 0) (n : ℕ) (d : Place) (v : ℤ) → n < length places → (k : ℕ) (e : Place) → k < length places
-      → (k ≡ n → R n (get_or places n d) v) → ((k ≡ n → ⊥) → R k (get_or places k e) (get_or sums (get_or places k e).signal (pos 0)))
-      → R k (get_or places k e) (get_or (set sums (get_or places n d).signal v) (get_or places k e).signal (pos 0))
+  pub written : (R : ℕ → Place → A → Type 0) (n : ℕ) (d : Place) (v : A) → n < length places → (k : ℕ) (e : Place) → k < length places
+      → (k ≡ n → R n (get_or places n d) v) → ((k ≡ n → ⊥) → R k (get_or places k e) (get_or sums (get_or places k e).signal z))
+      → R k (get_or places k e) (get_or (set sums (get_or places n d).signal v) (get_or places k e).signal z)
   written R n d v l k e m here there = ⊎_elim
       (λ (is : k ≡ n).
-      let at : get_or (set sums (get_or places n d).signal v) (get_or places n d).signal (pos 0) ≡ v =
-      get_or-set_same sums (get_or places n d).signal v (pos 0) (inside n d l) in
-      let P : Place → Type 0 = λ q. R n q (get_or (set sums (get_or places n d).signal v) q.signal (pos 0)) in
-      let Q : ℕ → Type 0 = λ j. R j (get_or places j e) (get_or (set sums (get_or places n d).signal v) (get_or places j e).signal (pos 0)) in
+      let at : get_or (set sums (get_or places n d).signal v) (get_or places n d).signal z ≡ v =
+      get_or-set_same sums (get_or places n d).signal v z (inside n d l) in
+      let P : Place → Type 0 = λ q. R n q (get_or (set sums (get_or places n d).signal v) q.signal z) in
+      let Q : ℕ → Type 0 = λ j. R j (get_or places j e) (get_or (set sums (get_or places n d).signal v) (get_or places j e).signal z) in
       subst Q (sym is) (subst P (same_place n d e l) (subst (R n (get_or places n d)) (sym at) (here is))))
       (λ (ne : k ≡ n → ⊥).
       let other : (get_or places k e).signal ≢ (get_or places n d).signal = other_signal n k d e l m ne in
-      subst (R k (get_or places k e)) (sym (get_or-set_other sums (get_or places n d).signal (get_or places k e).signal v (pos 0) other)) (there ne))
+      subst (R k (get_or places k e)) (sym (get_or-set_other sums (get_or places n d).signal (get_or places k e).signal v z other)) (there ne))
       (cases_eq k n)

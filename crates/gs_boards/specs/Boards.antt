@@ -1,5 +1,6 @@
 -- What last-round signals are paid in their deals, and their order by boards and strengths.
-use Rattle.std.specs.Prelude.{ℕ, ◌≡◌, ◌==◌, ◌<◌, true, false, All, List, count_by, filter, length, ℤ, pos, ◌*ℤ◌, slice_index}
+use Rattle.std.specs.{Int.{int_rem_euclid}}
+use Rattle.std.specs.Prelude.{ℕ, ◌≡◌, ◌==◌, ◌<◌, ◌^◌, true, false, All, List, count_by, filter, length, ℤ, pos, ◌*ℤ◌, slice_index}
 use Rattle.gs_model.specs.{Deals.{Deal, deals}, Game.{Game, round_count}, Outcome.{category}, Signals.{signal_at}, Sums.{sum_z}, ViewTree.{signal_strength}}
 use Rattle.gs_tree.specs.Walk.{last_count, shows_same}
 use Rattle.gs_boards.specs.{Places.{AreInOrder}, declared.pays.Pays.{Pays}, declared.pays.Pays.TheVariants.{Fixed, Showdown}, declared.place.Place.{Place}}
@@ -13,6 +14,14 @@ paid (Showdown chips) outcome = pos chips *ℤ outcome
 abbrev pub deal_sum : Game → List ℕ → (ℤ → ℤ) → ℕ → ℤ
 deal_sum g numbers pays signal =
     sum_z (λ (d : Deal). pos (slice_index numbers d.two) *ℤ (pos d.weight *ℤ pays d.outcome)) (filter (λ (d : Deal). d.one == signal) (deals g))
+
+-- an integer modulo 2^32
+abbrev pub remainder : ℤ → ℤ
+remainder z = int_rem_euclid z (pos (2 ^ 32))
+
+-- what a last-round signal is paid in its deals at a showdown for one chip, modulo 2^32
+abbrev pub deal_remainder : Game → List ℕ → ℕ → ℤ
+deal_remainder g numbers signal = remainder (deal_sum g numbers (paid (Showdown 1)) signal)
 
 -- ---- of private functions
 

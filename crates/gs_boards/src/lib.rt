@@ -4,8 +4,10 @@
 mod board_order;
 mod pays;
 mod place;
+mod remainders;
 mod running;
 mod walks;
 
 pub use board_order::BoardOrder;
 pub use pays::Pays;
+pub use remainders::deal_remainders;

@@ -39,7 +39,11 @@ fn place_of(signals: &Signals, signal: u32) -> Place
 }
 
 /// Returns the places of the signals on the board of `first`, in the order of the signals. Fails only if memory runs out.
-fn places_on(alloc: Global, signals: &Signals, first: u32) -> Result<Vec<Place>, AllocError>
+pub(crate) fn places_on(
+    alloc: Global,
+    signals: &Signals,
+    first: u32,
+) -> Result<Vec<Place>, AllocError>
     requires { first < last_count (rules_of signals.now) }
     ensures each { IfOk result (λ v. All (IsPlace (rules_of signals.now)) v.items) }
     ensures all { IfOk result (λ v. map (λ (p : Placed). p.signal) v.items ≡ signals_on (rules_of signals.now) first) }
@@ -56,7 +60,7 @@ fn places_on(alloc: Global, signals: &Signals, first: u32) -> Result<Vec<Place>,
 }
 
 /// Sorts places by strength.
-fn sort_places(places: &mut Vec<Place>)
+pub(crate) fn sort_places(places: &mut Vec<Place>)
     ensures moved { IsPermutation places.old.items places.new.items }
     ensures rising { IsNonDecreasingBy (λ place. place.strength) places.new.items }
 {

@@ -1,4 +1,3 @@
-pub mod Each
 pub mod Agreed
 pub mod MemberNumbers
 pub mod Turned

@@ -4,16 +4,16 @@ use Rattle.std.proofs.Common.{replicate, sym, ap, ◌∙◌, subst, arith, slice
 use Rattle.std.proofs.{Math.IntN.{*ℤ_comm, +ℤ_idl}, lemmas.Bool.{cases_eq}, lemmas.Bool.Decides.{Decides-eqb}, lemmas.Int.{ints}}
 use Rattle.std.proofs.lemmas.List.{get_or-map, get_or-replicate, get_or-set_other, get_or-set_same, length-replicate, map-id}
 use Rattle.std.proofs.{lemmas.List.FromFn.{map-range_with_len_more}, lemmas.List.Sums.{sum_by-append, sum_by-cons}}
-use Rattle.std.specs.{Prelude.{◌==◌, ◌%◌, ◌/◌, ◌^◌, ◌+ℤ◌, ◌*ℤ◌, All, filter, slice_index}, Int.{int_rem_euclid}, List.{range_with_len}}
+use Rattle.std.specs.{Prelude.{◌==◌, ◌%◌, ◌^◌, ◌+ℤ◌, ◌*ℤ◌, All, filter, slice_index}, List.{range_with_len}}
 use borrow.Author.Differences.{product_is}
-use Rattle.gs_boards.specs.{Boards.{deal_sum, paid}, declared.pays.Pays.TheVariants.{Showdown}}
+use Rattle.gs_boards.specs.{Boards.{deal_remainder, deal_sum, paid, remainder}, declared.pays.Pays.TheVariants.{Showdown}}
 use Rattle.gs_model.specs.{Classes.{ClassLists, InOneClass, class_of, list_of}, Deals.{Deal, deals}, Sums.{sum_z}}
 use Rattle.gs_model.specs.{Frame.{Frame, ancestor, frame_of, last_round, parents_of, signal_count, signals_in}, FrameFacts.{InRange}}
 use Rattle.gs_model.specs.{Game.{Game, IsPlayable, round_count}, Lossless.{IsLossless}, Refinement.{IsCoarsestLossless, Refines}, Signals.{parents}}
 use Rattle.gs_model.proofs.{Alike.{alike_items, fair_children, fair_last}, Lift.{by_pair, pair_exact, pair_test}, Ranges.{parents_at}, RawBound.{All-range}}
 use Rattle.gs_model.proofs.{Regroup.{sum_z-pos}, Total.{mul_assoc_z, sum_z-same}, Basics.{pos-injective, not_eq}, Walked.{last_round_of}}
 use Rattle.gs_lossless.proofs.Descent.{parent_is, tabled}
-use Rattle.gs_split.specs.{Proposal.{AreFair, AreFairFrom, IsProposal, child_number, child_term, deal_number, mixed}, Turns.{AreParted, HaveNumbers}}
+use Rattle.gs_split.specs.{Proposal.{AreFair, AreFairFrom, IsProposal, child_number, child_term, mixed}, Turns.{AreParted, HaveNumbers}}
 
 -- ---- what fair numbers part
 
@@ -229,21 +229,22 @@ module _ (g : Game) (p : IsPlayable g) (lists other : ClassLists) (l : IsLossles
           let one : InOneClass (frame_of g) other (round + 1) x y = record { first_in = lx; second_in = ly; same = e } in
           let class = r (round + 1) x y (omega arith) (omega (arith, lt)) one in
           let number = fair.same other l r x y one in
-          ap (λ k. pos (mixed (k + get_or numbers x 0 * 2 ^ 32) / 2 ^ 32)) class
-          ∙ ap (λ k. pos (mixed (get_or (list_of lists (round + 1)) y 0 + k * 2 ^ 32) / 2 ^ 32)) number))
+          ap (λ k. pos (mixed (k + get_or numbers x 0 * 2 ^ 32))) class
+          ∙ ap (λ k. pos (mixed (get_or (list_of lists (round + 1)) y 0 + k * 2 ^ 32))) number))
 
 -- ---- the numbers as they are made
 
 pub deals_fair : (g : Game) (p : IsPlayable g) (lists : ClassLists) (numbers : List ℕ)
     → length (list_of lists (last_round (frame_of g))) ≡ signal_count (frame_of g) (last_round (frame_of g)) → 0 < last_round (frame_of g)
     → length numbers ≡ signal_count (frame_of g) (last_round (frame_of g))
-    → ((s : ℕ) → s < length (list_of lists (last_round (frame_of g))) → pos (get_or numbers s 0) ≡ deal_number g (list_of lists (last_round (frame_of g))) s)
+    → ((s : ℕ) → s < length (list_of lists (last_round (frame_of g)))
+    → pos (get_or numbers s 0) ≡ deal_remainder g (map mixed (list_of lists (last_round (frame_of g)))) s)
     → AreFair (frame_of g) lists (last_round (frame_of g)) numbers
 deals_fair g p lists numbers long some all is = record {
   long = all;
   same = λ other l r s t c.
       pos-injective (get_or numbers s 0) (get_or numbers t 0)
-      (is s (omega (arith, c.first_in, long)) ∙ ap (λ z. int_rem_euclid z (pos (2 ^ 32))) (sums_same g p lists other l r long some s t c)
+      (is s (omega (arith, c.first_in, long)) ∙ ap remainder (sums_same g p lists other l r long some s t c)
       ∙ sym (is t (omega (arith, c.second_in, long))));
 }
 

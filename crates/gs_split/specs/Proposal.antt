@@ -1,27 +1,22 @@
 -- The proposal, which splits classes before the exact turns, and the numbers that it splits by.
-use Rattle.std.specs.{Prelude.{ℕ, ◌+◌, ◌*◌, ◌/◌, ◌%◌, ◌^◌, ◌<◌, ◌≡◌, ◌==◌, ℤ, pos, List, [], get_or, length, map, sum_by, if◌then◌else◌}, Int.{int_rem_euclid}}
+use Rattle.std.specs.Prelude.{ℕ, ◌+◌, ◌*◌, ◌/◌, ◌%◌, ◌^◌, ◌<◌, ◌≡◌, ◌==◌, List, [], get_or, length, sum_by, if◌then◌else◌}
 use Rattle.std.specs.{Int.Bits.{bit_xor}, List.{range_with_len}}
-use Rattle.gs_boards.specs.{Boards.{deal_sum, paid}, declared.pays.Pays.TheVariants.{Showdown}}
-use Rattle.gs_model.specs.{Classes.{ClassLists, InOneClass}, Frame.{Frame, last_round, signal_count}, Game.{Game}, Lossless.{IsLossless}, Refinement.{Refines}}
+use Rattle.gs_model.specs.{Classes.{ClassLists, InOneClass}, Frame.{Frame, last_round, signal_count}, Lossless.{IsLossless}, Refinement.{Refines}}
 
--- a hash: a number spread over 64 bits. Nothing is claimed of it but that it depends on the number alone
+-- a hash: the upper half of 64 bits that a number is spread over. Nothing is claimed of it but that it depends on the number alone
 unfoldable pub mixed : ℕ → ℕ
 mixed number =
     let spread = (number * 11400714819323198485) % 2 ^ 64 in
-    (bit_xor spread (spread / 2 ^ 32) * 11400714819323198485) % 2 ^ 64
+    (bit_xor spread (spread / 2 ^ 32) * 11400714819323198485) % 2 ^ 64 / 2 ^ 32
 
 -- what a child adds to its parent's number: a hash of its class and its number
 abbrev pub child_term : List ℕ → List ℕ → ℕ → ℕ
-child_term classes numbers child = mixed (get_or classes child 0 + get_or numbers child 0 * 2 ^ 32) / 2 ^ 32
+child_term classes numbers child = mixed (get_or classes child 0 + get_or numbers child 0 * 2 ^ 32)
 
 -- the sum of the terms of a signal's children, modulo 2^32; `parents` has the parent of each child
 abbrev pub child_number : List ℕ → List ℕ → List ℕ → ℕ → ℕ
 child_number parents classes numbers s = sum_by (λ x. if get_or parents x 0 == s then child_term classes numbers x
     else 0) (range_with_len 0 (length parents)) % 2 ^ 32
-
--- the number of a last-round signal, modulo 2^32: the sum over its deals of weight times outcome times the hash of the opponent's class
-abbrev pub deal_number : Game → List ℕ → ℕ → ℤ
-deal_number g classes s = int_rem_euclid (deal_sum g (map mixed classes) (paid (Showdown 1)) s) (pos (2 ^ 32))
 
 -- numbers of the signals of a round: equal for any two signals that some lossless refinement of the classes keeps together
 pub record AreFair (f : Frame) (lists : ClassLists) (round : ℕ) (numbers : List ℕ) : Type 0 where

@@ -1,12 +1,12 @@
 //! A proposal for the exact turns: classes split by hashed sums, which never split what a lossless refinement keeps together.
 
-ghost use Rattle.std.specs.{Prelude.{◌≡◌, ◌+◌, ◌*◌, ◌/◌, ◌<◌, ◌^◌, ℕ, pos, [], All, IfOk, IfSome, get_or, length, map}, Int.{int_rem_euclid}};
+ghost use Rattle.std.specs.Prelude.{◌≡◌, ◌+◌, ◌<◌, ℕ, [], All, IfOk, IfSome, get_or, length, map};
 ghost use Rattle.gs_model.specs.{Rows.{rows}, Frame.{frame_of, last_round}};
-ghost use Rattle.gs_tree.specs.{Trees.{rules_of}, Walk.{last_count}};
-ghost use Rattle.gs_split.specs.Proposal.{AreFair, AreFairFrom, IsProposal, child_number, deal_number, mixed as mixed_of};
+ghost use Rattle.gs_tree.specs.{Plain.{IsPlain}, Trees.{rules_of}};
+ghost use Rattle.gs_split.specs.Proposal.{AreFair, AreFairFrom, IsProposal, child_number, mixed as mixed_of};
 
 use crate::parting::parted;
-use gs_boards::{BoardOrder, Pays};
+use gs_boards::deal_remainders;
 use gs_filter::Classes;
 use gs_lossless::Grouped;
 use std::alloc::{AllocError, Global};
@@ -14,20 +14,20 @@ use std::alloc::{AllocError, Global};
 /// An odd factor with no pattern in its bits.
 const SPREAD: u64 = 11_400_714_819_323_198_485;
 
-/// 2^32: two to the power of half the bits of a hash.
+/// 2^32: it parts 64 bits into two halves.
 const HALF: u64 = 0x1_0000_0000;
 
-/// Returns a hash of a number, spread over 64 bits.
+/// Returns a hash of a number: the upper half of 64 bits that it is spread over.
 #[tactic(auto, unfolding(crate::specs::Proposal::mixed))]
-fn mixed(number: u64) -> u64
+fn mixed(number: u64) -> u32
     ensures { result ≡ mixed_of number }
 {
     let spread = number.wrapping_mul(SPREAD);
-    (spread ^ (spread / HALF)).wrapping_mul(SPREAD)
+    ((spread ^ (spread / HALF)).wrapping_mul(SPREAD) / HALF) as u32
 }
 
 /// Returns the hashes of class numbers.
-fn mixed_classes(alloc: Global, classes: &[u32]) -> Result<Vec<u64>, AllocError>
+fn mixed_classes(alloc: Global, classes: &[u32]) -> Result<Vec<u32>, AllocError>
     ensures { IfOk result (λ v. v.items ≡ map mixed_of classes.now) }
 {
     let mut numbers = Vec::with_capacity(alloc, classes.len())?;
@@ -35,50 +35,6 @@ fn mixed_classes(alloc: Global, classes: &[u32]) -> Result<Vec<u64>, AllocError>
         numbers.push(mixed(u64::from(*class)))?;
     }
     Ok(numbers)
-}
-
-/// Returns the sum at a place, modulo 2^32.
-fn folded(sums: &[i128], at: usize) -> u32
-    requires { at < length sums.now }
-    ensures { pos result ≡ int_rem_euclid (get_or sums.now at (pos 0)) (pos (2 ^ 32)) }
-{
-    sums[at].rem_euclid(i128::from(HALF)) as u32
-}
-
-/// Returns sums modulo 2^32.
-fn folded_sums(alloc: Global, sums: &[i128]) -> Result<Vec<u32>, AllocError>
-    ensures long { IfOk result (λ v. length v.items ≡ length sums.now) }
-    ensures each { IfOk result (λ v. (s : ℕ) → s < length sums.now → pos (get_or v.items s 0) ≡ int_rem_euclid (get_or sums.now s (pos 0)) (pos (2 ^ 32))) }
-{
-    let mut numbers = Vec::with_capacity(alloc, sums.len())?;
-    for at in 0..sums.len() {
-        numbers.push(folded(sums, at))?;
-    }
-    Ok(numbers)
-}
-
-/// Returns the numbers of the last-round signals from the classes of the opponent's signals, by two walks along the boards.
-fn deal_numbers(
-    alloc: Global,
-    order: &BoardOrder<'_>,
-    classes: &[u32],
-) -> Result<Vec<u32>, AllocError>
-    requires { length classes.now ≡ last_count (rules_of order.now.signals.now) }
-    ensures long { IfOk result (λ v. length v.items ≡ length classes.now) }
-    ensures each { IfOk result (λ v. (s : ℕ) → s < length classes.now → pos (get_or v.items s 0)
-        ≡ deal_number (rules_of order.now.signals.now) classes.now s) }
-{
-    let numbers = mixed_classes(alloc, classes)?;
-    let mut sums = vec![in alloc; 0i128; classes.len()]?;
-    order.deal_sums(Pays::Showdown(1), &numbers, &mut sums);
-    folded_sums(alloc, &sums)
-}
-
-/// Returns what a child with this class and this number adds to its parent's number.
-fn child_term_of(class: u32, number: u32) -> u32
-    ensures { result ≡ mixed_of (class + number * 2 ^ 32) / 2 ^ 32 }
-{
-    (mixed(u64::from(class) + u64::from(number) * HALF) / HALF) as u32
 }
 
 /// Returns for each of `count` signals the sum of the terms of its children, modulo 2^32. The lists have the parent, class and number of each child.
@@ -98,26 +54,23 @@ fn child_numbers(
 {
     let mut sums = vec![in alloc; 0u32; count as usize]?;
     for (child, parent) in parents.iter().enumerate() {
-        let term = child_term_of(classes[child], numbers[child]);
+        let term = mixed(u64::from(classes[child]) + u64::from(numbers[child]) * HALF);
         let place = *parent as usize;
         sums[place] = sums[place].wrapping_add(term);
     }
     Ok(sums)
 }
 
-/// Returns fair numbers of the last round, from the order of its signals on boards.
-fn order_numbers(
-    alloc: Global,
-    grouped: &Grouped<'_>,
-    order: &BoardOrder<'_>,
-) -> Result<Vec<u32>, AllocError>
-    requires { order.now.signals.now ≡ grouped.now.signals.now }
+/// Returns fair numbers of the last round: what its signals are paid in their deals, where the other player's signals have the hashes of their classes.
+fn plain_numbers(alloc: Global, grouped: &Grouped<'_>) -> Result<Vec<u32>, AllocError>
+    requires { IsPlain (rules_of grouped.now.signals.now) }
     ensures { let f = frame_of (rules_of grouped.now.signals.now) in
         IfOk result (λ v. AreFair f grouped.now.classes.now.lists (last_round f) v.items) }
 {
     let last = grouped.signals.rounds();
     let list = &grouped.classes.lists()[usize::from(last) - 1];
-    deal_numbers(alloc, order, list)
+    let hashes = mixed_classes(alloc, list)?;
+    deal_remainders(alloc, grouped.signals, &hashes)
 }
 
 /// Returns fair numbers of the last round. Returns `None` unless every kind of card has at most one copy and each player gets one private card.
@@ -125,10 +78,10 @@ fn last_numbers(alloc: Global, grouped: &Grouped<'_>) -> Result<Option<Vec<u32>>
     ensures { let f = frame_of (rules_of grouped.now.signals.now) in
         IfOk result (λ o. IfSome o (λ v. AreFair f grouped.now.classes.now.lists (last_round f) v.items)) }
 {
-    let Some(order) = BoardOrder::of(alloc, grouped.signals)? else {
+    if !grouped.signals.is_plain() {
         return Ok(None);
-    };
-    let numbers = order_numbers(alloc, grouped, &order)?;
+    }
+    let numbers = plain_numbers(alloc, grouped)?;
     Ok(Some(numbers))
 }
 

@@ -1,4 +1,4 @@
-use Rattle.std.proofs.{Common.{◌≡◌, ◌<◌, ◌^◌, ◌∙◌, ℕ, List, arith, get_or, length, rules, subst, sym, take, to_z, of_z}, lemmas.Int.{to_z-of_z}}
+use Rattle.std.proofs.{Common.{◌≡◌, ◌<◌, ◌^◌, ◌∙◌, ℕ, List, arith, get_or, length, pos, rules, subst, sym, take, to_z, of_z}, lemmas.Int.{to_z-of_z}}
 use Rattle.std.specs.{Int.{w128}, Prelude.{All, unsigned_abs}}
 use mir.Val.{SFits}
 use Rattle.gs_boards.specs.{Runs.{number_at, paid_by}, declared.place.Place.{Place}}
@@ -37,11 +37,11 @@ loop-at-preserved c =
         c.type_inv.numbers p.signal,
         c.loop-at.invariant.few,
       );
-      paid = λ k e m. written places c.requires.apart c.loop-at.sums inside (λ k q z. z ≡ paid_by c.args.pays numbers q (take k places)) n d
+      paid = λ k e m. written (pos 0) places c.requires.apart c.loop-at.sums inside (λ k q z. z ≡ paid_by c.args.pays numbers q (take k places)) n d
           (to_z w128 (of_z w128 c.won.result)) l k e (omega arith)
           (λ is. kept ∙ paid) (λ ne. c.loop-at.invariant.paid k e (omega (arith, m, ne)));
-      small = λ k e m. written places c.requires.apart c.loop-at.sums inside (λ k q z. unsigned_abs z < 2 ^ 120) n d (to_z w128 (of_z w128 c.won.result)) l k e
-          (omega arith)
+      small = λ k e m. written (pos 0) places c.requires.apart c.loop-at.sums inside (λ k q z. unsigned_abs z < 2 ^ 120) n d
+          (to_z w128 (of_z w128 c.won.result)) l k e (omega arith)
           (λ is. subst (λ z. unsigned_abs z < 2 ^ 120) (sym kept) c.won.ensures.small) (λ ne. c.loop-at.invariant.small k e (omega (arith, m, ne)));
     }
 

@@ -54,11 +54,11 @@ loop-at-preserved c =
         c.worth.ensures.small,
         c.loop-at.invariant.few,
       );
-      paid = λ k e from m. written places c.requires.apart c.loop-at.sums inside
+      paid = λ k e from m. written (pos 0) places c.requires.apart c.loop-at.sums inside
           (λ k q z. z ≡ get_or c.args.sums.now q.signal (pos 0) +ℤ paid_by c.args.pays numbers q (drop (k + 1) places)) n d v l k e m
           (λ is. paid) (λ ne. c.loop-at.invariant.paid k e (omega (arith, from, ne)) m);
-      same = λ k e m. written places c.requires.apart c.loop-at.sums inside (λ k q z. z ≡ get_or c.args.sums.now q.signal (pos 0)) n d v l k e (omega arith)
-          (λ is. absurd (omega (arith, is, m))) (λ ne. c.loop-at.invariant.same k e (omega arith));
+      same = λ k e m. written (pos 0) places c.requires.apart c.loop-at.sums inside (λ k q z. z ≡ get_or c.args.sums.now q.signal (pos 0)) n d v l k e
+          (omega arith) (λ is. absurd (omega (arith, is, m))) (λ ne. c.loop-at.invariant.same k e (omega arith));
     }
 
 pub past-behind-requires : goal.past-behind-requires

@@ -1,5 +1,7 @@
-use Rattle.std.proofs.{lemmas.Grind.{common_steps}, Common.{◌≡◌, ◌<◌, ℕ, List, arith, get_or, length, refl, slice_set, subst, ◌∙◌}, lemmas.List.{length-set}}
-use Rattle.std.specs.Prelude.{◌+◌, ◌%◌, ◌^◌}
+use Rattle.std.proofs.Common.{◌≡◌, ◌<◌, ℕ, List, ap, arith, get_or, length, refl, slice_set, subst, ◌∙◌}
+use Rattle.std.proofs.lemmas.{Grind.{common_steps}, List.{length-set}}
+use Rattle.std.specs.Prelude.{◌+◌, ◌*◌, ◌%◌, ◌^◌}
+use Rattle.gs_split.specs.Proposal.{child_term, mixed}
 use Rattle.gs_split.proofs.Proposed.{child_more, terms_to}
 use Rattle.gs_split.proofs.proposal.child_numbers.Goals as goal
 use Rattle.gs_lossless.proofs.Items.{get_or-in}
@@ -12,16 +14,20 @@ loop-child-preserved c =
     let n = c.loop-child.child in
     let sums = c.loop-child.sums.items in
     let place : ℕ = get_or ps n 0 in
-    let term = c.child_term_of-term.result in
+    let term = c.mixed-term.result in
     let i = c.loop-child.invariant in
     let inside : place < length sums = omega (arith, c.requires.in_range n 0 c.loop-child-test.true, i.long) in
     let here : get_or sums place 0 ≡ c.index.result.now = get_or-in sums place c.index.result.now c.index.ensures inside in
     let new : ℕ → List ℕ = λ v. slice_set sums place ((v + term) % 2 ^ 32) in
+    let one : c.from.result ≡ get_or classes n 0 = c.from.ensures in
+    let two : c.from-in-loop-child.result ≡ get_or numbers n 0 = c.from-in-loop-child.ensures in
+    let is : term ≡ child_term classes numbers n = c.mixed-term.ensures ∙ ap (λ k. mixed (k + c.from-in-loop-child.result * 2 ^ 32)) one
+    ∙ ap (λ k. mixed (get_or classes n 0 + k * 2 ^ 32)) two in
     let long : (v : ℕ) → length (new v) ≡ length sums = λ v. length-set sums place ((v + term) % 2 ^ 32) in
     record {
       long = long c.index.result.now ∙ i.long;
       each = λ s l. subst (λ v. get_or (new v) s 0 ≡ terms_to ps classes numbers (n + 1) s % 2 ^ 32) here
-          (child_more ps classes numbers sums n place term refl inside c.child_term_of-term.ensures i.each s (omega (arith, l, long c.index.result.now)));
+          (child_more ps classes numbers sums n place term refl inside is i.each s (omega (arith, l, long c.index.result.now)));
     }
 
 pub loop-child-init : goal.loop-child-init
