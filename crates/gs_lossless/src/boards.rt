@@ -15,7 +15,7 @@ use std::collections::HashMap;
 /// The signals of a game and the boards of its last round.
 /// The list of boards is empty if some kind of card has several copies, or if players are not dealt exactly one private card.
 #[derive(Drop)]
-pub struct Boards<'a> {
+pub(crate) struct Boards<'a> {
     pub signals: &'a Signals<'a>,
     list: Vec<Board>,
     by_rank: bool,
@@ -30,8 +30,8 @@ pub(crate) fn are_ones(bonus: &[u8]) -> bool
 }
 
 impl<'a> Boards<'a> {
-    /// Returns the boards of the last round.
-    pub fn of(alloc: Global, signals: &'a Signals<'a>) -> Result<Boards<'a>, AllocError>
+    // Returns the boards of the last round.
+    fn of(alloc: Global, signals: &'a Signals<'a>) -> Result<Boards<'a>, AllocError>
         ensures { IfOk result (λ boards. boards.signals.now ≡ signals.entry.now) }
     {
         let by_rank = are_ones(&signals.game().game().bonus);
@@ -70,9 +70,8 @@ impl<'a> Boards<'a> {
         Ok(marks)
     }
 
-    /// Returns for each last-round signal a stand-in, at the same or an earlier place. `keys` has a key for each last-round signal.
-    /// A signal and its stand-in have the same key and the same number of ways to them. Their deals agree in the opponent's key, outcome and weight.
-    pub fn stand_ins(&self, alloc: Global, keys: &[u32]) -> Result<Vec<u32>, AllocError>
+    // Returns for each last-round signal a stand-in, as the function `stand_ins` does.
+    fn stand_ins(&self, alloc: Global, keys: &[u32]) -> Result<Vec<u32>, AllocError>
         requires { length keys.now ≡ last_count (rules_of self.now.signals.now) }
         ensures { IfOk result (λ v. AreStandIns (rules_of self.now.signals.now) keys.now v.items) }
     {
@@ -81,7 +80,8 @@ impl<'a> Boards<'a> {
     }
 }
 
-/// Returns for each last-round signal a stand-in, as `Boards::stand_ins` does, with boards made for this one call.
+/// Returns for each last-round signal a stand-in, at the same or an earlier place. `keys` has a key for each last-round signal.
+/// A signal and its stand-in have the same key and the same number of ways to them. Their deals agree in the opponent's key, outcome and weight.
 pub fn stand_ins(alloc: Global, signals: &Signals, keys: &[u32]) -> Result<Vec<u32>, AllocError>
     requires { length keys.now ≡ last_count (rules_of signals.now) }
     ensures { IfOk result (λ v. AreStandIns (rules_of signals.now) keys.now v.items) }

@@ -21,7 +21,7 @@ mod standing;
 mod stop;
 mod stopped;
 
-pub use boards::{Boards, stand_ins};
+pub use boards::stand_ins;
 pub use checking::{Lossless, check};
 pub use grouped::Grouped;
 pub use lists::empty_lists;

@@ -26,7 +26,7 @@ pub struct SideKeys<'a> {
     pub classes: &'a Classes,
     pub side: Side,
     pub round: u8,
-    pub keys: Vec<u32>,
+    pub(crate) keys: Vec<u32>,
     tables: Vec<Table>,
     ghost has: { HasSide (frame_of (rules_of signals.now)) side round } by { HasSide-prop (frame_of (rules_of signals.now)) side round },
     ghost are: { keys.items ≡ keys_of (frame_of (rules_of signals.now)) classes.now.lists side round },

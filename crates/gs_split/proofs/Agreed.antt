@@ -1,11 +1,17 @@
 -- Sums of one signal and of another, and the numbers that they get.
 use Rattle.std.proofs.Common.{◌≡◌, ◌↔◌, ℕ, ℤ, pos, ◌<◌, ◌≤◌, Bool, true, cond, List, length, get_or, sym, ap, ◌∙◌, subst, arith}
+use Rattle.std.proofs.Common.{◌-◌, false, replicate, ⊎_elim}
+use Rattle.std.proofs.lemmas.{Bool.{cases_lt}, List.{get_or-replicate, get_or_default, length-replicate, same_lists}}
+use Rattle.std.proofs.lemmas.List.FromFn.{get_or-map-range_with_len, length-map-range_with_len}
 use Rattle.std.proofs.lemmas.Bool.Decides.{Decides-and, Decides-eqb, Decides-like}
 use Rattle.std.specs.{Prelude.{◌==◌, ◌&&◌}, Bool.{Decides}, Ordering.{int_eq}}
-use Rattle.gs_model.specs.{Classes.{ClassLists, class_of, first_member}, Frame.{Frame, frame_of, last_round}, Game.{Game, round_count}}
+use Rattle.gs_model.specs.{Classes.{ClassLists, IsClass, class_of, first_member, list_of}, Game.{Game, IsPlayable, round_count}}
+use Rattle.gs_model.specs.Frame.{Frame, at_round, frame_of, last_round, signal_count}
 use Rattle.gs_model.specs.{Lossless.{weight_against, weight_with}, Signals.{signals}}
-use Rattle.gs_model.proofs.Ranges.{signal_count_is}
-use Rattle.gs_lossless.specs.{Amounts.{HaveEqualAmounts, AgreesWithFirst, AreSideFirsts, amount}, declared.parts.Part.{Part}, declared.sides.Side.{Side}}
+use Rattle.gs_model.proofs.{Ranges.{signal_count_is}, Walked.{last_round_of}}
+use Rattle.gs_lossless.proofs.{Alike.{firsts_of_deals}, Descent.{tabled}}
+use Rattle.gs_lossless.specs.{Amounts.{HaveEqualAmounts, AgreesWithFirst, AreSideFirsts, HasSide, amount, keys_of}, Alike.{AreStandIns}}
+use Rattle.gs_lossless.specs.{declared.parts.Part.{Part}, declared.sides.Side.{Side}}
 use Rattle.gs_lossless.specs.declared.sides.Side.TheVariants.{Deals, Children}
 use Rattle.gs_split.specs.Turns.{AreSettled, AreSideNumbers, AreTurnNumbers, HaveSameSums, IsSettled}
 
@@ -60,6 +66,58 @@ module _ (f : Frame) (lists : ClassLists) (round : ℕ) where
     long = h.long;
     same = λ i j li lj e. let a = h.same i j li lj e in let b = deals_same i j l in (λ x. b.0 (a.0 x), λ y. a.1 (b.1 y));
   }
+
+-- where each class is settled, the numbers 0 tell its members apart
+module _ (f : Frame) (lists : ClassLists) (round : ℕ) (firsts numbers : List ℕ) (settled : List Bool) where
+  module _ (known : AreSettled lists round firsts settled) (all : (k : ℕ) → k < length settled → get_or settled k false ≡ true) where
+    module _ (within : (s : ℕ) → s < length firsts → IsClass lists round (class_of lists round s)) (none : numbers ≡ replicate (length firsts) 0) where
+      settled_numbers : (side : Side) → AreSideFirsts f lists side round firsts → AreSideNumbers f lists side round numbers
+      settled_numbers side stands =
+          let long : length numbers ≡ length firsts = ap (λ (l : List ℕ). length l) none ∙ length-replicate {A = ℕ} (length firsts) 0 in
+          let zero : (s : ℕ) → s < length numbers → get_or numbers s 0 ≡ 0 = λ s l. ap (λ (l : List ℕ). get_or l s 0) none
+          ∙ get_or-replicate (length firsts) s 0 0 (omega (arith, l, long)) in
+          let is : (s : ℕ) → s < length firsts → IsSettled lists round settled s = λ s l.
+          (let w = within s l in all (class_of lists round s - 1) (omega (arith, w.0, w.1, known.long))) in
+          record {
+            long = long ∙ stands.long;
+            same = λ i j li lj e.
+                let a : i < length firsts = omega (arith, li, long) in
+                let b : j < length firsts = omega (arith, lj, long) in (
+                  (λ _. settled_alike f lists round side firsts settled i j stands known a b e (is i a) (is j b)),
+                  (λ _. zero i li ∙ sym (zero j lj)),
+                );
+          }
+
+      pub settled_turn : 0 < round → round ≤ last_round f → ((side : Side) → HasSide f side round → AreSideFirsts f lists side round firsts)
+          → AreTurnNumbers f lists round numbers
+      settled_turn some top stands = ⊎_elim
+          (λ (lt : round < last_round f). numbers_of_children f lists round numbers lt (settled_numbers Children (stands Children (some, lt))))
+          (λ (ge : last_round f ≤ round). numbers_of_deals f lists round numbers (omega (arith, ge, top)) (settled_numbers Deals (stands Deals (some, top))))
+          (cases_lt round (last_round f))
+
+-- the classes of the last round are the keys of its deals
+classes_are_keys : (g : Game) → IsPlayable g → (lists : ClassLists)
+    → length (list_of lists (last_round (frame_of g))) ≡ signal_count (frame_of g) (last_round (frame_of g))
+    → list_of lists (last_round (frame_of g)) ≡ keys_of (frame_of g) lists Deals (last_round (frame_of g))
+classes_are_keys g p lists long =
+    let f = frame_of g in
+    let last = last_round f in
+    let key : ℕ → ℕ = λ x. class_of lists last (at_round f last x) in
+    let n = length-map-range_with_len key 0 (signal_count f last) in
+    same_lists (list_of lists last) (keys_of f lists Deals last) (long ∙ sym n) (λ i d l.
+    get_or_default (list_of lists last) i d 0 l ∙ sym (ap (class_of lists last) ((tabled g p).itself last i))
+    ∙ sym (get_or-map-range_with_len key 0 (signal_count f last) i i d (omega (arith, l, long)) (omega arith)))
+
+-- stand-ins for these keys are stand-ins in the last round
+pub firsts_of_classes : (g : Game) → IsPlayable g → (round : ℕ) (lists : ClassLists) (keys firsts : List ℕ) → round ≡ round_count g
+    → length (list_of lists round) ≡ signal_count (frame_of g) round → keys ≡ list_of lists round → AreStandIns g keys firsts
+    → (side : Side) → HasSide (frame_of g) side round → AreSideFirsts (frame_of g) lists side round firsts
+firsts_of_classes g p round lists keys firsts e long is h Children has = absurd (omega (arith, has.1, e, last_round_of g))
+firsts_of_classes g p round lists keys firsts e long is h Deals has =
+    let f = frame_of g in
+    let top : last_round f ≡ round = omega (arith, e, last_round_of g) in
+    let P : ℕ → Type 0 = λ r. length (list_of lists r) ≡ signal_count f r → list_of lists r ≡ keys_of f lists Deals r in
+    firsts_of_deals g p Deals round has e lists keys firsts (is ∙ subst P top (classes_are_keys g p lists) long) h
 
 -- each signal stands for itself
 pub firsts_of_themselves : (g : Game) (side : Side) (round n : ℕ) (lists : ClassLists) (firsts : List ℕ) → 0 < round → round ≤ round_count g

@@ -1,31 +1,30 @@
 //! What a turn compares: the sums of deals in the last round, and the children before it.
 
-ghost use Rattle.std.specs.Prelude.{◌≡◌, ◌<◌, ◌≤◌, ℕ, IfOk, List, length};
+ghost use Rattle.std.specs.Prelude.{◌≡◌, ◌<◌, ◌≤◌, ℕ, false, true, IfOk, IsTrue, List, get_or, length};
 ghost use Rattle.gs_model.specs.{Classes.{ClassLists, list_of}, Frame.{frame_of, last_round}};
 ghost use Rattle.gs_tree.specs.Trees.{rules_of};
-ghost use Rattle.gs_lossless.specs.Amounts.{AreSideFirsts, HasSide};
+ghost use Rattle.gs_lossless.specs.{Amounts.{AreSideFirsts, HasSide}, declared.sides.Side.{Side as SideOf}};
 ghost use Rattle.gs_split.specs.Turns.{AreSettled, AreSideNumbers, AreTurnNumbers};
 
 use crate::members::number_members;
 use gs_filter::{Classes, next_members};
-use gs_lossless::{Boards, Grouped, Side, SideKeys};
+use gs_lossless::{Grouped, Side, SideKeys, stand_ins};
 use gs_tree::Signals;
 use std::alloc::{AllocError, Global};
 
-/// Returns for each signal of a round a stand-in on one side, at the same or an earlier place.
+/// Returns for each signal of a round a stand-in on the side that a turn compares, at the same or an earlier place.
 /// In the last round the stand-in sees the same deals; before it, the stand-in is the signal itself.
-fn side_firsts(
-    alloc: Global,
-    boards: &Boards<'_>,
-    at: &SideKeys<'_>,
-) -> Result<Vec<u32>, AllocError>
-    requires { boards.now.signals.now ≡ at.now.signals.now }
-    ensures { IfOk result (λ v. AreSideFirsts (frame_of (rules_of at.now.signals.now)) at.now.classes.now.lists at.now.side at.now.round v.items) }
+fn side_firsts(alloc: Global, grouped: &Grouped<'_>, round: u8) -> Result<Vec<u32>, AllocError>
+    requires some { 0 < round }
+    requires top { round ≤ last_round (frame_of (rules_of grouped.now.signals.now)) }
+    ensures { let f = frame_of (rules_of grouped.now.signals.now) in
+        IfOk result (λ v. (side : SideOf) → HasSide f side round → AreSideFirsts f grouped.now.classes.now.lists side round v.items) }
 {
-    if at.round == at.signals.rounds() {
-        return boards.stand_ins(alloc, &at.keys);
+    if round == grouped.signals.rounds() {
+        let keys = &grouped.classes.lists()[usize::from(round) - 1];
+        return stand_ins(alloc, grouped.signals, keys);
     }
-    let count = at.signals.count(at.round);
+    let count = grouped.signals.count(round);
     let mut firsts = Vec::with_capacity(alloc, count as usize)?;
     for signal in 0..count {
         firsts.push(signal)?;
@@ -70,32 +69,59 @@ fn side_at(signals: &Signals, round: u8) -> Side
     }
 }
 
-/// Returns a number for each signal of a round. Within a class, numbers are equal exactly where the signals have the same sums.
-/// These are the sums of deals in the last round, and the counts of children by class before it.
-/// Goes class by class, and passes over classes that the turn cannot split.
-pub(crate) fn side_numbers(
+/// Returns whether all classes are settled.
+fn are_all(settled: &[bool]) -> bool
+    ensures { IsTrue result → (s : ℕ) → s < length settled.now → get_or settled.now s false ≡ true }
+{
+    settled.iter().all(|is_settled| *is_settled)
+}
+
+/// Returns a number for each signal of a round, as `side_numbers` does. `firsts` has the stand-ins, and `settled` whether each class is settled.
+/// Goes class by class, and passes over classes that are settled.
+fn numbers_by_class(
     alloc: Global,
-    boards: &Boards<'_>,
     grouped: &Grouped<'_>,
     round: u8,
+    firsts: &[u32],
+    settled: &[bool],
 ) -> Result<Vec<u32>, AllocError>
-    requires boards { boards.now.signals.now ≡ grouped.now.signals.now }
     requires some { 0 < round }
     requires top { round ≤ last_round (frame_of (rules_of grouped.now.signals.now)) }
+    requires firsts { let f = frame_of (rules_of grouped.now.signals.now) in
+        (side : SideOf) → HasSide f side round → AreSideFirsts f grouped.now.classes.now.lists side round firsts.now }
+    requires settled { AreSettled grouped.now.classes.now.lists round firsts.now settled.now }
     ensures { IfOk result (λ v. AreTurnNumbers (frame_of (rules_of grouped.now.signals.now)) grouped.now.classes.now.lists round v.items) }
 {
     let Grouped { signals, classes } = *grouped;
     let side = side_at(signals, round);
     let at = SideKeys::of(alloc, signals, classes, side, round)?;
-    let firsts = side_firsts(alloc, boards, &at)?;
-    let settled = settled_classes(alloc, classes, round, &firsts)?;
     let nexts = next_members(alloc, classes, round)?;
     let mut numbers = vec![in alloc; 0; nexts.len()]?;
     for (before, is_settled) in settled.iter().enumerate() {
         if *is_settled {
             continue;
         }
-        number_members(alloc, &at, &firsts, &nexts, before as u32 + 1, &mut numbers)?;
+        number_members(alloc, &at, firsts, &nexts, before as u32 + 1, &mut numbers)?;
     }
     Ok(numbers)
+}
+
+/// Returns a number for each signal of a round. Within a class, numbers are equal exactly where the signals have the same sums.
+/// These are the sums of deals in the last round, and the counts of children by class before it.
+/// Makes no sums if all classes are settled.
+pub(crate) fn side_numbers(
+    alloc: Global,
+    grouped: &Grouped<'_>,
+    round: u8,
+) -> Result<Vec<u32>, AllocError>
+    requires some { 0 < round }
+    requires top { round ≤ last_round (frame_of (rules_of grouped.now.signals.now)) }
+    ensures { IfOk result (λ v. AreTurnNumbers (frame_of (rules_of grouped.now.signals.now)) grouped.now.classes.now.lists round v.items) }
+{
+    let firsts = side_firsts(alloc, grouped, round)?;
+    let settled = settled_classes(alloc, grouped.classes, round, &firsts)?;
+    if are_all(&settled) {
+        return vec![in alloc; 0; firsts.len()];
+    }
+    numbers_by_class(alloc, grouped, round, &firsts, &settled)
 }

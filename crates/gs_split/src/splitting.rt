@@ -8,7 +8,7 @@ use crate::proposal::proposal;
 use crate::stays::known_rounds;
 use crate::turns::turn;
 use gs_filter::Classes;
-use gs_lossless::{Boards, Grouped};
+use gs_lossless::Grouped;
 use gs_tree::Signals;
 use std::alloc::{AllocError, Global};
 
@@ -31,13 +31,12 @@ fn settled(alloc: Global, signals: &Signals, from: &Classes) -> Result<Classes, 
     ensures coarsest { IfOk result (λ c. IsCoarsestLossless (frame_of (rules_of signals.now)) from.now.lists c.lists) }
     ensures parents { IfOk result (λ c. c.parents ≡ (frame_of (rules_of signals.now)).parents) }
 {
-    let boards = Boards::of(alloc, signals)?;
     let mut total = class_total(from);
     let mut known = vec![in alloc; false; usize::from(signals.rounds())]?;
-    let mut classes = turn(alloc, signals, &boards, from, &known)?;
+    let mut classes = turn(alloc, signals, from, &known)?;
     while total < class_total(&classes) {
         total = class_total(&classes);
-        let finer = turn(alloc, signals, &boards, &classes, &known)?;
+        let finer = turn(alloc, signals, &classes, &known)?;
         known = known_rounds(alloc, signals, &classes, &finer)?;
         classes = finer;
     }

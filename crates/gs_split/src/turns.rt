@@ -8,7 +8,7 @@ ghost use Rattle.gs_split.specs.Turns.{AreExact, AreKnown, AreTurnNumbers, HaveS
 use crate::parting::parted;
 use crate::sides::side_numbers;
 use gs_filter::Classes;
-use gs_lossless::{Boards, Grouped};
+use gs_lossless::Grouped;
 use gs_tree::Signals;
 use std::alloc::{AllocError, Global};
 
@@ -17,12 +17,10 @@ use std::alloc::{AllocError, Global};
 /// With `known`, all members of each class are known to have the same sums, and all numbers are 0.
 fn round_numbers(
     alloc: Global,
-    boards: &Boards<'_>,
     grouped: &Grouped<'_>,
     round: u8,
     known: bool,
 ) -> Result<Vec<u32>, AllocError>
-    requires boards { boards.now.signals.now ≡ grouped.now.signals.now }
     requires some { 0 < round }
     requires top { round ≤ last_round (frame_of (rules_of grouped.now.signals.now)) }
     requires known { known ≡ true → (s t : ℕ) → InOneClass (frame_of (rules_of grouped.now.signals.now)) grouped.now.classes.now.lists round s t
@@ -32,25 +30,23 @@ fn round_numbers(
     if known {
         vec![in alloc; 0; grouped.signals.count(round) as usize]
     } else {
-        side_numbers(alloc, boards, grouped, round)
+        side_numbers(alloc, grouped, round)
     }
 }
 
 /// Returns for each round the numbers of its signals.
 fn exact_numbers(
     alloc: Global,
-    boards: &Boards<'_>,
     grouped: &Grouped<'_>,
     known: &[bool],
 ) -> Result<Vec<Vec<u32>>, AllocError>
-    requires boards { boards.now.signals.now ≡ grouped.now.signals.now }
     requires known { AreKnown (frame_of (rules_of grouped.now.signals.now)) grouped.now.classes.now.lists known.now }
     ensures { IfOk result (λ v. AreExact (frame_of (rules_of grouped.now.signals.now)) grouped.now.classes.now.lists (rows v.items)) }
 {
     let mut numbers = Vec::with_capacity(alloc, usize::from(grouped.signals.rounds()))?;
     for done in 0..grouped.signals.rounds() {
         let is_known = known[usize::from(done)];
-        let here = round_numbers(alloc, boards, grouped, done + 1, is_known)?;
+        let here = round_numbers(alloc, grouped, done + 1, is_known)?;
         numbers.push(here)?;
     }
     Ok(numbers)
@@ -62,17 +58,15 @@ fn exact_numbers(
 pub(crate) fn turn(
     alloc: Global,
     signals: &Signals,
-    boards: &Boards<'_>,
     classes: &Classes,
     known: &[bool],
 ) -> Result<Classes, AllocError>
-    requires boards { boards.now.signals.now ≡ signals.now }
     requires parents { classes.now.parents ≡ (frame_of (rules_of signals.now)).parents }
     requires known { AreKnown (frame_of (rules_of signals.now)) classes.now.lists known.now }
     ensures parents { IfOk result (λ c. c.parents ≡ (frame_of (rules_of signals.now)).parents) }
     ensures turn { IfOk result (λ c. IsTurn (frame_of (rules_of signals.now)) classes.now.lists c.lists) }
 {
     let grouped = Grouped { signals, classes };
-    let numbers = exact_numbers(alloc, boards, &grouped, known)?;
+    let numbers = exact_numbers(alloc, &grouped, known)?;
     parted(alloc, &grouped, &numbers)
 }

@@ -1,149 +1,53 @@
-use Rattle.std.proofs.Common.{◌≡◌, ◌≤◌, ◌<◌, ◌∙◌, ◌+◌, ◌++◌, ℕ, Bool, true, false, List, ap, arith, drop, get_or, length, refl, subst, sym, take}
-use Rattle.std.proofs.lemmas.Grind.{common_steps}
-use Rattle.gs_filter.proofs.ClassLaws.{class_at, count_fits}
-use Rattle.gs_model.specs.{Classes.{class_count, class_of}, Frame.{frame_of, signal_count}}
-use Rattle.gs_lossless.proofs.{Marked.{whole}, Scanned.{side_classes, side_signals}, SideOf.{as_asked}}
-use Rattle.gs_lossless.specs.{declared.sides.Side.{Side}, Amounts.{AreSideFirsts}}
+use Rattle.std.proofs.Common.{◌≡◌, ◌<◌, ◌≤◌, ◌∙◌, ℕ, Bool, false, true, List, ap, arith, get_or, length, replicate, rules, subst, sym}
+use Rattle.std.proofs.lemmas.{Result.{IfOk-weaker}}
+use Rattle.gs_filter.proofs.ClassLaws.{class_at}
+use Rattle.gs_model.specs.{Classes.{list_of}, Frame.{frame_of}}
+use Rattle.gs_model.proofs.{Ranges.{signal_count_is}, Walked.{last_round_of}}
 use Rattle.gs_tree.specs.Trees.{rules_of}
-use Rattle.gs_split.specs.Turns.{AreMemberNumbers, AreSettled, AreSideNumbers}
-use Rattle.gs_split.proofs.{MemberNumbers.{AreDone, done_all, done_more, done_settled}, sides.side_numbers.Goals.{In_ok-firsts, Start}}
+use Rattle.gs_lossless.proofs.Descent.{list_long}
+use Rattle.gs_lossless.specs.{declared.sides.Side.{Side}, declared.sides.Side.TheVariants.{Deals}, Amounts.{AreSideFirsts, HasSide}}
+use Rattle.gs_split.specs.Turns.{AreSettled}
+use Rattle.gs_split.proofs.{Agreed.{settled_turn}, sides.side_numbers.Goals.{In_ok-firsts, Start}}
 use Rattle.gs_split.proofs.sides.side_numbers.Goals as goal
 
-pub side_firsts-requires : goal.side_firsts-requires
-side_firsts-requires c = c.requires.boards ∙ sym c.in_ok-at.ensures.signals
-
--- what is known of the stand-ins
-stands : (c : In_ok-firsts) → AreSideFirsts (frame_of (rules_of c.args.grouped.now.signals.now)) c.args.grouped.now.classes.now.lists c.in_ok-at.at.side
-    c.args.round c.in_ok-firsts.firsts.items
-stands c = as_asked (λ s k a m. AreSideFirsts (frame_of (rules_of s)) k.lists a m c.in_ok-firsts.firsts.items) c.in_ok-at.ensures.signals
-    c.in_ok-at.ensures.classes (refl, c.in_ok-at.ensures.side.1) c.in_ok-firsts.ensures
-
-pub settled_classes-requires-clause-all : goal.settled_classes-requires-clause-all
-settled_classes-requires-clause-all c =
-    let g = rules_of c.args.grouped.now.signals.now in
-    ap (λ (l : List ℕ). length l) c.deref.ensures.value ∙ (stands (goal.at.settled_classes-requires-clause-all c).In_ok-firsts).long
-    ∙ side_signals g c.side_at-side.result c.args.round c.side_at-side.ensures.side
-    ∙ sym (side_classes g c.args.grouped.now.classes.now c.args.grouped.now.parents c.side_at-side.result c.args.round c.side_at-side.ensures.side)
-
+-- the round is one of the lists
 top : (c : Start) → c.args.round ≤ length c.args.grouped.now.classes.now.lists
 top c = omega (arith, c.requires.top, c.args.grouped.now.classes.now.classes.rounds, ap (λ (ps : List (List ℕ)). length ps) c.args.grouped.now.parents)
 
--- a round has few classes
-few : (c : Start) → class_count c.args.grouped.now.classes.now.lists c.args.round < 4294967296
-few c = count_fits c.args.grouped.now.classes.now c.args.round c.requires.some (top c)
-
-pub overflow_cast-before : goal.overflow_cast-before
-overflow_cast-before c = omega (
-  arith,
-  few (goal.at.overflow_cast-before c).Start,
-  c.in_ok-settled.ensures.long,
-  c.loop-before-test.true,
-  ap (λ (l : List Bool). length l) c.deref-is_settled-items.ensures.value,
-)
-
-pub overflow_add-before : goal.overflow_add-before
-overflow_add-before c = omega (
-  arith,
-  few (goal.at.overflow_add-before c).Start,
-  c.in_ok-settled.ensures.long,
-  c.loop-before-test.true,
-  ap (λ (l : List Bool). length l) c.deref-is_settled-items.ensures.value,
-)
-
-pub loop-before-preserved-then-is_settled : goal.loop-before-preserved-then-is_settled
-loop-before-preserved-then-is_settled c =
+-- one stand-in for each class of a signal
+many : (c : In_ok-firsts) → length c.in_ok-firsts.firsts.items ≡ length (list_of c.args.grouped.now.classes.now.lists c.args.round)
+many c =
     let g = rules_of c.args.grouped.now.signals.now in
+    let le = c.requires.top in
+    (c.in_ok-firsts.ensures Deals (c.requires.some, le)).long ∙ signal_count_is g c.args.round c.requires.some (omega (arith, le, last_round_of g))
+    ∙ sym (list_long g c.args.grouped.now.classes.now c.args.grouped.now.parents c.args.round c.requires.some (omega (arith, le, last_round_of g)))
+
+pub settled_classes-requires-clause-all : goal.settled_classes-requires-clause-all
+settled_classes-requires-clause-all c =
+    ap (λ (l : List ℕ). length l) c.deref.ensures.value ∙ many (goal.at.settled_classes-requires-clause-all c).In_ok-firsts
+
+pub returns-then-are_all : goal.returns-then-are_all
+returns-then-are_all c =
+    let g = rules_of c.args.grouped.now.signals.now in
+    let f = frame_of g in
     let lists = c.args.grouped.now.classes.now.lists in
-    let classes = c.args.grouped.now.classes.now in
-    let side = c.side_at-side.ensures.side in
+    let round = c.args.round in
     let firsts = c.in_ok-firsts.firsts.items in
     let settled = c.in_ok-settled.settled.items in
-    let stand = stands (goal.at.loop-before-preserved-then-is_settled c).In_ok-firsts in
-    let known : AreSettled lists c.args.round firsts settled = subst (λ (l : List ℕ). AreSettled lists c.args.round l settled) c.deref.ensures.value
+    let known : AreSettled lists round firsts settled = subst (λ (l : List ℕ). AreSettled lists round l settled) c.deref.ensures.value
     c.in_ok-settled.ensures in
-    let i = c.loop-before.invariant in
-    let long : length c.loop-before.numbers.items ≡ length firsts = omega (
-      arith,
-      i.long,
-      c.in_ok-nexts.ensures.long,
-      stand.long,
-      side_signals g c.side_at-side.result c.args.round side,
-      side_classes g classes c.args.grouped.now.parents c.side_at-side.result c.args.round side,
-    ) in
-    let is : get_or settled c.loop-before.before false ≡ true =
-    subst (λ (l : List Bool). get_or l c.loop-before.before false ≡ true) c.deref-is_settled-items.ensures.value c.if-is_settled.true in
-    record {
-      long = i.long;
-      done = done_settled (frame_of g) lists c.in_ok-at.at.side c.args.round c.loop-before.before firsts c.loop-before.numbers.items settled stand known
-          long is i.done;
-    }
+    let all : (k : ℕ) → k < length settled → get_or settled k false ≡ true =
+    subst (λ (l : List Bool). (k : ℕ) → k < length l → get_or l k false ≡ true) c.deref-2.ensures.value (c.are_all.ensures c.if-are_all.true) in
+    let n = many (goal.at.returns-then-are_all c).In_ok-firsts in
+    let len : c.len.result ≡ length firsts = omega (arith, c.len.ensures, c.in_ok-firsts.firsts.ok.0) in
+    IfOk-weaker c.vec.result _ _
+    (λ v h. settled_turn f lists round firsts v.items settled known all
+    (λ s l. class_at c.args.grouped.now.classes.now round c.requires.some (top (goal.at.returns-then-are_all c).Start) s (omega (arith, l, n)))
+    (subst (λ k. v.items ≡ replicate k 0) len (h (λ y k. search rules))) c.requires.some c.requires.top c.in_ok-firsts.ensures)
+    c.vec.ensures.items_if_clones_equal
 
-pub loop-before-preserved : goal.loop-before-preserved
-loop-before-preserved c =
-    let g = rules_of c.args.grouped.now.signals.now in
-    let f = frame_of g in
-    let lists = c.args.grouped.now.classes.now.lists in
-    let at = c.in_ok-at.ensures in
-    let k = c.loop-before.before + 1 in
-    let i = c.loop-before.invariant in
-    let old = c.loop-before.numbers.items in
-    let new = c.number_members.new.numbers in
-    let h = c.in_ok-number_members.ensures in
-    let value = c.deref_mut.ensures.value in
-    let long : length new ≡ length old = h.long ∙ ap (λ (l : List ℕ). length l) value in
-    let others = subst (λ (l : List ℕ). (s : ℕ) → (class_of lists c.args.round s ≡ k → ⊥) → get_or new s 0 ≡ get_or l s 0) value
-    (as_asked (λ s t a m. (x : ℕ) → (class_of t.lists m x ≡ k → ⊥) → get_or new x 0 ≡ get_or c.deref_mut.result.now x 0) {a = c.in_ok-at.at.side}
-    at.signals at.classes (refl, at.side.1) h.others) in
-    let members = as_asked (λ s t a m. AreMemberNumbers (frame_of (rules_of s)) t.lists a m k new) at.signals at.classes (refl, at.side.1) h.members in
-    let all : take c.loop-before.numbers.len (new ++ drop (length new) old) ≡ new = whole c.loop-before.numbers.len new old long
-    (omega (arith, c.loop-before.numbers.ok.0)) in
-    record {
-      long = ap (λ (l : List ℕ). length l) all ∙ long ∙ i.long;
-      done = subst (AreDone f lists c.in_ok-at.at.side c.args.round k) (sym all)
-          (done_more f lists c.in_ok-at.at.side c.args.round c.loop-before.before old new i.done long others members);
-    }
-
-pub returns : goal.returns
-returns c =
-    let g = rules_of c.args.grouped.now.signals.now in
-    let f = frame_of g in
-    let classes = c.args.grouped.now.classes.now in
-    let lists = classes.lists in
-    let side = c.side_at-side.ensures.side in
-    let numbers = c.loop-before.numbers.items in
-    let i = c.loop-before.invariant in
-    let start = (goal.at.returns c).Start in
-    let n = side_classes g classes c.args.grouped.now.parents c.side_at-side.result c.args.round side in
-    let long : length numbers ≡ signal_count f c.args.round = omega (
-      arith,
-      i.long,
-      c.in_ok-nexts.ensures.long,
-      side_signals g c.side_at-side.result c.args.round side,
-      n,
-    ) in
-    let ended = ap (λ (l : List Bool). length l) c.deref-is_settled-items.ensures.value in
-    let within : (s : ℕ) → s < length numbers → class_of lists c.args.round s ≤ c.loop-before.before = λ s l.
-    (let is = class_at classes c.args.round c.requires.some (top start) s (omega (arith, l, i.long, c.in_ok-nexts.ensures.long)) in
-    omega (arith, is.1, c.in_ok-settled.ensures.long, ended, c.loop-before-test.false)) in
-    c.side_at-side.ensures.turn lists numbers (subst (λ (s : Side). AreSideNumbers f lists s c.args.round numbers) c.in_ok-at.ensures.side.0 (record {
-      long = long;
-      same = done_all f lists c.in_ok-at.at.side c.args.round c.loop-before.before (length numbers) numbers i.done refl within;
-    }))
-
-pub loop-before-init : goal.loop-before-init
-loop-before-init c = grind (arith, common_steps)
-
-pub number_members-requires-clause-firsts : goal.number_members-requires-clause-firsts
-number_members-requires-clause-firsts c = grind arith
-
-pub number_members-requires-clause-class : goal.number_members-requires-clause-class
-number_members-requires-clause-class c = grind arith
-
-pub number_members-requires-clause-nexts : goal.number_members-requires-clause-nexts
-number_members-requires-clause-nexts c = grind arith
-
-pub next_members-requires-clause-top : goal.next_members-requires-clause-top
-next_members-requires-clause-top c = grind arith
-
-pub settled_classes-requires-clause-top : goal.settled_classes-requires-clause-top
-settled_classes-requires-clause-top c = grind arith
+pub numbers_by_class-requires-clause-firsts : goal.numbers_by_class-requires-clause-firsts
+numbers_by_class-requires-clause-firsts c =
+    let f = frame_of (rules_of c.args.grouped.now.signals.now) in
+    subst (λ (l : List ℕ). (side : Side) → HasSide f side c.args.round → AreSideFirsts f c.args.grouped.now.classes.now.lists side c.args.round l)
+    (sym c.deref-3.ensures.value) c.in_ok-firsts.ensures

@@ -55,9 +55,3 @@ returns-clause-coarsest c =
 
 pub known_rounds-requires-clause-turned : goal.known_rounds-requires-clause-turned
 known_rounds-requires-clause-turned c = grind arith
-
-pub turn-requires-in-loop-total-clause-boards : goal.turn-requires-in-loop-total-clause-boards
-turn-requires-in-loop-total-clause-boards c = grind arith
-
-pub turn-requires-clause-boards : goal.turn-requires-clause-boards
-turn-requires-clause-boards c = grind arith

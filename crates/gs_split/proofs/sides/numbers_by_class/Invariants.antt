@@ -2,7 +2,7 @@ use Rattle.std.proofs.Common.{◌≡◌, length}
 use Rattle.gs_model.specs.Frame.{frame_of}
 use Rattle.gs_tree.specs.Trees.{rules_of}
 use Rattle.gs_split.proofs.MemberNumbers.{AreDone}
-use Rattle.gs_split.proofs.sides.side_numbers.Given as goal
+use Rattle.gs_split.proofs.sides.numbers_by_class.Given as goal
 
 abbrev pub invariant-loop-before : goal.invariant-loop-before
 invariant-loop-before l = record {
