@@ -1,11 +1,14 @@
 -- What a run answered, and that it says some reply where nothing outside fails.
 use Rattle.std.proofs.Common.{◌≡◌, inl, inr, ℕ, ◌+◌, ◌≤◌, ◌++◌, true, false, Bool, List, length, Some, None, Option, Ok, Vec, refl, sym, ap, ◌∙◌, subst, arith}
 use Rattle.std.proofs.{Common.{[]}, KnownBytes.{Consumes-nil}, lemmas.List.{append-nil, length-append}}
-use Rattle.std.specs.{Io.KnownBytes.{Consumes, IsAtEnd}, declared.alloc.Global.{Global}}
+use Rattle.std.specs.{Prelude.{Err, Result, codes}, Io.KnownBytes.{Consumes, IsAtEnd}, declared.alloc.Global.{Global}}
+use Rattle.gs_io.specs.{declared.ReadStop.{ReadStop}}
+use Rattle.gs_io.specs.declared.ReadStop.TheVariants as read
 use Rattle.gs_reply.specs.Refusals.{Refusal, Bad_game, Unlike_pair, Overflows, Many_pivots, Too_large, Bad_strategy, Wrong_number, Bad_query, Other_game}
 use Rattle.gs_reply.specs.{Refusals.{Bad_certificate, line_of}, Replies.{Reply, Prints, Refuses}}
 use Rattle.gs_words.specs.{Requests.{request_of}, Tasks.{Task, Shrink, Check, Make, Evaluate, Query, Upgrade, Certify, Verify, Solve, Play, Path, Judge, Duel}}
-use Rattle.gs_run.specs.{Asking.{Asks, reads}, Deciding.{Holds}, Endings.{EndsSo}, Statuses.{status_of}, Running.{Writes, most_bytes, sinks}}
+use Rattle.gs_run.specs.{Asking.{Asks, reads}, Deciding.{Holds}, Endings.{EndsSo}, Statuses.{status_of}}
+use Rattle.gs_run.specs.Running.{Writes, long_line, memory_line, most_bytes, sinks}
 use Rattle.gs_run.specs.Running.{Asked, Ends, Inputs, IsAnswered, IsRefused, NothingFailed, Quiet, ReadsInput, ReadsWhole, RunsTo, TellsLine, TookInput}
 use Rattle.gs_run.specs.declared.status.Status.{Status}
 use Rattle.gs_run.specs.declared.status.Status.TheVariants as status
@@ -147,3 +150,35 @@ run_of words task old new bytes status.ReadFault asked input h = absurd h
 run_of words task old new bytes status.TooLong asked input h = absurd h
 run_of words task old new bytes s asked input h =
     (task, asked, record { why = h.0; answered = record { bytes = bytes; input = input; says = h.1 }; status = h.2; quiet = h.3; told = h.4 })
+
+-- ---- what was not read
+
+-- where reading the input stops, the task reads it
+stopped : (b : Bool) (old new : Option (List ℕ)) (before now : ℕ) (e : ReadStop) → ReadsInput b old new before now (Err e)
+    → (b ≡ true) × ReadsInput true old new before now (Err e)
+stopped true old new before now e h = (refl, h)
+stopped false old new before now e h = absurd h
+
+module _ (words : List (List ℕ)) (task : Task) (old new : Ends) (asked : request_of words ≡ Some task) (r : Result (Vec ℕ Global) ReadStop)
+    (input : ReadsInput (reads task) old.left new.left old.read_faults new.read_faults r) (quiet : Quiet old new) where
+  reads_it : (e : ReadStop) → r ≡ Err e → (reads task ≡ true) × ReadsInput true old.left new.left old.read_faults new.read_faults (Err e)
+  reads_it e is = stopped (reads task) old.left new.left old.read_faults new.read_faults e
+      (subst (ReadsInput (reads task) old.left new.left old.read_faults new.read_faults) is input)
+
+  -- a read failed
+  pub read_fault : (s : Status) → s ≡ status.ReadFault → r ≡ Err read.Fault → TellsLine old new (codes "read fault\n") → RunsTo words old new s
+  read_fault s is e told =
+      let h = reads_it read.Fault e in
+      subst (RunsTo words old new) (sym is) (task, asked, (h.0, (h.1.0, h.1.1), quiet, told))
+
+  -- the source holds more than the limit
+  pub too_long : (s : Status) → s ≡ status.TooLong → r ≡ Err read.TooLong → TellsLine old new long_line → RunsTo words old new s
+  too_long s is e told =
+      let h = reads_it read.TooLong e in
+      subst (RunsTo words old new) (sym is) (task, asked, (h.0, h.1.0, h.1.1, quiet, told))
+
+  -- there was no room for what was read
+  pub no_room : (s : Status) → s ≡ status.Memory → r ≡ Err read.Memory → TellsLine old new memory_line → RunsTo words old new s
+  no_room s is e told =
+      let h = reads_it read.Memory e in
+      subst (RunsTo words old new) (sym is) (record { front = h.1.0; unread = inr (task, asked, h.0) }, h.1.1, quiet, told)

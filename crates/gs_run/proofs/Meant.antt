@@ -17,7 +17,8 @@ use Rattle.gs_strategy.proofs.Strategies.{reads_strategy, strategies_raw}
 use Rattle.gs_words.specs.{Made.{made_game}, declared.kind.Kind.{Kind}, declared.request.Grouping.{Grouping}}
 use Rattle.gs_words.specs.Tasks.{Task, Shrink, Check, Make, Evaluate, Query, Upgrade, Judge, Duel, Certify, Verify, Solve, Play, Path}
 use Rattle.gs_model.specs.{Classes.{ClassLists}, Plans.{lift}, Play.{IsFictitiousPlay}, Verdict.{IsVerdict}}
-use Rattle.gs_reply.specs.{Replies.{OfFile, OfRead, OfReading, Reply, Prints}, declared.refusals.Which.TheVariants.{Only, First, Second}}
+use Rattle.gs_reply.specs.{Refusals.{Refusal, Bad_strategy}, Replies.{OfFile, OfRead, OfReading, Reply, Prints, Refuses}}
+use Rattle.gs_reply.specs.declared.refusals.Which.TheVariants.{Only, First, Second}
 use Rattle.gs_reply.specs.VerdictText.{verdict_text}
 use Rattle.gs_seq.specs.{Slots.{plan_of}, declared.plan.Plan.{Plan}}
 use Rattle.gs_strategy.specs.{Checks.{ReadResult, Reads}, Confirmed.{IsConfirmed, over, raw_plan}, Laws.{IsStrategy}, Texts.{strategy_text}}
@@ -29,6 +30,10 @@ use Rattle.gs_run.specs.Meanings.{AreOnRawCards, IsDuelled, IsJudgedText, IsPlay
 
 text_is : (one two : List ℕ) → Prints one ≡ Prints two → two ≡ one
 text_is one two e = cc
+
+-- what is printed is no refusal
+printed : (text : List ℕ) (why : Refusal) → Prints text ≡ Refuses why → ⊥
+printed text why e = cc
 
 -- ---- game files
 
@@ -114,8 +119,8 @@ of_confirmed : (says : Strategy → Reply → Type 0) (tells : Strategy → List
     → ((s : Strategy) → says s (Prints text) → tells s text) → Reads bytes read → OfRead Only (OfConfirmed says) read (Prints text)
     → OfStrategyFile (Confirmed tells) bytes text
 of_confirmed says tells bytes text (Ok s) told reads (inl h) = of_strategy (Confirmed tells) bytes text s reads (h.0, told s h.1)
-of_confirmed says tells bytes text (Ok s) told reads (inr h) = let bad = h.2 in cc
-of_confirmed says tells bytes text (Err why) told reads h = cc
+of_confirmed says tells bytes text (Ok s) told reads (inr h) = absurd (printed text _ h.2)
+of_confirmed says tells bytes text (Err why) told reads h = absurd (printed text (Bad_strategy Only why) h)
 
 -- what is said of a strategy file is said of its strategy, which is confirmed
 confirmed : (says : Strategy → Reply → Type 0) (tells : Strategy → List ℕ → Type 0) (bytes text : List ℕ)
@@ -128,7 +133,7 @@ number_lines s text h = sym (text_is text (verdict_text s.numbers) h)
 queried : (player : ℕ) (line signal : List ℕ) (s : Strategy) (text : List ℕ) → SaysQueried player line signal s (Prints text)
     → IsQueried s player line signal text
 queried player line signal s text (inl h) = subst (λ (x : List ℕ). IsQueried s player line signal x) (text_is text h.0 h.2) h.1
-queried player line signal s text (inr h) = let bad = h.2 in cc
+queried player line signal s text (inr h) = absurd (printed text _ h.2)
 
 upgraded : (s : Strategy) (text : List ℕ) → SaysUpgraded s (Prints text) → text ≡ strategy_text Two s
 upgraded s text h = cc
@@ -147,7 +152,7 @@ on_raw_cards says one two text same (inl h) =
     let verdict = subst (λ (g : FileGame). IsVerdict (file_frame one.game) (raw_plan one one.one) (lift (file_frame g) two.classes (plan_in two two.two))
     (over n.value) (over n.gap1) (over n.gap2)) same j.verdict in
     (n, record { few = h.0; fractions = j.fractions; verdict = verdict }, h.1.2)
-on_raw_cards says one two text same (inr h) = let bad = h.1 in cc
+on_raw_cards says one two text same (inr h) = absurd (printed text _ h.1)
 
 judged : (s : Strategy) (text : List ℕ) → SaysJudged s (Prints text) → IsJudgedText s text
 judged s text h =
@@ -156,7 +161,7 @@ judged s text h =
 
 of_judged : (bytes text : List ℕ) (read : ReadResult) → Reads bytes read → OfRead Only SaysJudged read (Prints text) → OfStrategyFile IsJudgedText bytes text
 of_judged bytes text (Ok s) reads h = of_strategy IsJudgedText bytes text s reads (judged s text h)
-of_judged bytes text (Err why) reads h = cc
+of_judged bytes text (Err why) reads h = absurd (printed text (Bad_strategy Only why) h)
 
 -- ---- two files
 
@@ -185,7 +190,7 @@ duelled version one two text is same h =
 
 second_file : (bytes text : List ℕ) (one : Strategy) (read : ReadResult) → Reads (first_line bytes).0 (Ok one) → Reads (first_line bytes).1 read
     → OfRead Second (SaysDuel one) read (Prints text) → OfTwoFiles IsDuelled bytes text
-second_file bytes text one (Ok two) a b (inl h) = let bad = h.1 in cc
+second_file bytes text one (Ok two) a b (inl h) = absurd (printed text _ h.1)
 second_file bytes text one (Ok two) a b (inr h) =
     let f = reads_strategy (first_line bytes).0 one a in
     let g = reads_strategy (first_line bytes).1 two b in
@@ -201,18 +206,18 @@ second_file bytes text one (Ok two) a b (inr h) =
       raw = strategies_raw f.0 g.0 one two f.1 g.1 h.0;
       said = duelled f.0 one two text f.1 h.0 h.1;
     }
-second_file bytes text one (Err why) a b h = cc
+second_file bytes text one (Err why) a b h = absurd (printed text (Bad_strategy Second why) h)
 
 first_file : (bytes text : List ℕ) (read : ReadResult) → Reads (first_line bytes).0 read
     → OfRead First (λ one. OfFile Second (SaysDuel one) (first_line bytes).1) read (Prints text) → OfTwoFiles IsDuelled bytes text
 first_file bytes text (Ok one) a h = second_file bytes text one h.read a h.reads h.said
-first_file bytes text (Err why) a h = cc
+first_file bytes text (Err why) a h = absurd (printed text (Bad_strategy First why) h)
 
 -- ---- certificates
 
 verified : (bytes text : List ℕ) (read : ReadResult) → Reads (first_line bytes).0 read → OfRead Only (SaysVerified (first_line bytes).1) read (Prints text)
     → OfCertifiedFile bytes text
-verified bytes text (Ok s) reads (inl h) = let bad = h.told in cc
+verified bytes text (Ok s) reads (inl h) = absurd (printed text _ h.told)
 verified bytes text (Ok s) reads (inr h) =
     let f = reads_strategy (first_line bytes).0 s reads in
     record {
@@ -224,7 +229,7 @@ verified bytes text (Ok s) reads (inr h) =
       raw = strategies_raw f.0 f.0 s s f.1 f.1 refl;
       verified = h.2;
     }
-verified bytes text (Err why) reads h = cc
+verified bytes text (Err why) reads h = absurd (printed text (Bad_strategy Only why) h)
 
 -- ---- the table
 
