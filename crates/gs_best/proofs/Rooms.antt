@@ -1,8 +1,8 @@
 -- Room by the sizes of rounds.
-use Rattle.std.proofs.Common.{◌≡◌, ℕ, ◌+◌, ◌-◌, ◌*◌, ◌<◌, ◌≤◌, length, get_or, sym, ap, ◌∙◌, subst, arith, sum_by, count_by, eqb}
+use Rattle.std.proofs.Common.{◌≡◌, ℕ, List, ◌+◌, ◌-◌, ◌*◌, ◌<◌, ◌≤◌, length, get_or, sym, ap, ◌∙◌, subst, arith, sum_by, count_by, eqb}
 use Rattle.std.proofs.{Math.Nat.{mul-one, mul_comm}, lemmas.Bool.Decides.{Decides-eqb}, lemmas.Int.{ints}, lemmas.List.{get_or-map, length-map}}
 use Rattle.std.proofs.lemmas.List.FromFn.{get_or-range_with_len, length-range_with_len}
-use Rattle.std.specs.{Prelude.{pos, ◌*ℤ◌}, List.{range_with_len}}
+use Rattle.std.specs.{Prelude.{ℤ, pos, ◌*ℤ◌}, List.{range_with_len}, Vec.{with_items}}
 use borrow.Author.Differences.{product_is}
 use Rattle.gs_model.specs.{Classes.{ClassLists, class_count}, Frame.{Frame, last_round, point_count, round_of}, FrameFacts.{IsWalked}, Positions.{at_point}}
 use Rattle.gs_model.proofs.{RawBound.{All-range, range_once}, Regroup.{regroup_weights, sum_z-pos}, Total.{sum_z-same}}
@@ -103,3 +103,12 @@ holds_all f lists w t s r = subst (λ n. HoldsEntries (point_count f) n t) (valu
 
 pub has_room : (f : Frame) (lists : ClassLists) (t : Table) (s : Scratch) → IsRoomy (sizes_of f lists) t s → HasRows f lists s
 has_room f lists t s r = for_rows f lists s (subst (λ n. AreRowsFor f lists n s) (size_count f lists) r.rows)
+
+-- scratch rows that were written are as long as before
+pub rows_written : (f : Frame) (lists : ClassLists) (s : Scratch) (numbers : List ℕ) (ends : List ℤ) → HasRows f lists s
+    → HasRows f lists (record { numbers = with_items s.numbers numbers; ends = with_items s.ends ends; worths = s.worths })
+rows_written f lists s numbers ends r = record {
+  numbers = λ i z l. omega (arith, r.numbers i z l, s.numbers.ok.0, (with_items s.numbers numbers).ok.0);
+  ends = λ i z l. omega (arith, r.ends i z l, s.ends.ok.0, (with_items s.ends ends).ok.0);
+  worths = r.worths;
+}

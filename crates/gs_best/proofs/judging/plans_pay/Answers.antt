@@ -1,8 +1,9 @@
 use Rattle.std.proofs.Common.{ℕ, List, length, ap, arith}
 use Rattle.std.specs.Prelude.{ℤ}
 use Rattle.gs_model.specs.{Frame.{round_of}, Positions.{at_end}}
-use Rattle.gs_seq.specs.Abstracts.{abstract_frame}
+use Rattle.gs_seq.specs.Abstracts.{abstract_frame, lists_of}
 use Rattle.gs_seq.proofs.Forms.{form_walked}
+use Rattle.gs_best.proofs.Rooms.{rows_written}
 use Rattle.gs_best.proofs.judging.plans_pay.Goals as goal
 
 pub payoff_in-requires-clause-sums : goal.payoff_in-requires-clause-sums
@@ -21,3 +22,7 @@ payoff_in-requires-clause-numbers c =
       ap (λ (l : List ℕ). length l)
           c.deref_mut-2.ensures.value,
     )
+
+pub returns-clause-room : goal.returns-clause-room
+returns-clause-room c =
+    rows_written (abstract_frame c.args.form.now) (lists_of c.args.form.now) c.args.scratch.now c.payoff_in.new.numbers c.payoff_in.new.sums c.requires.room

@@ -136,3 +136,6 @@ scaled-requires c = grind arith
 
 pub fraction-requires-clause-fits : goal.fraction-requires-clause-fits
 fraction-requires-clause-fits c = grind (arith, common_steps)
+
+pub overflow_mul-weight : goal.overflow_mul-weight
+overflow_mul-weight c = grind arith

@@ -1,4 +1,6 @@
 use Rattle.std.proofs.Common.{arith}
+use Rattle.gs_best.specs.Sides.{frame_at, lists_at}
+use Rattle.gs_best.proofs.Rooms.{rows_written}
 use Rattle.gs_best.proofs.start.best_total.Goals as goal
 
 pub returns-clause-laid : goal.returns-clause-laid
@@ -21,3 +23,9 @@ start_total-requires-clause-laid c = grind arith
 
 pub backward-requires-clause-rows : goal.backward-requires-clause-rows
 backward-requires-clause-rows c = grind arith
+
+pub returns-clause-rows : goal.returns-clause-rows
+returns-clause-rows c =
+    let b = c.backward in
+    let s = c.start_total.new in
+    rows_written (frame_at c.args.side.now) (lists_at c.args.side.now) b.new.scratch s.numbers s.row b.ensures.rows

@@ -43,3 +43,6 @@ returns-clause-long c = grind arith
 
 pub row_to-below-requires-clause-numbers : goal.row_to-below-requires-clause-numbers
 row_to-below-requires-clause-numbers c = grind arith
+
+pub row_to-below-requires-clause-row : goal.row_to-below-requires-clause-row
+row_to-below-requires-clause-row c = grind arith

@@ -66,3 +66,9 @@ returns-in-End-clause-room c =
     let n = end (goal.at.returns-in-End-clause-room c).In-End in
     let wide = c.requires.row (round_of (frame_at s) (at_end c.in-End.end)) ((walked s).end_round c.in-End.end n) ((walked s).end_in c.in-End.end n) in
     omega (arith, wide, ap (class_count (lists_at s)) c.end_round-round.ensures.value, c.end_sums.auto.sums)
+
+pub end_sums-requires-clause-wide : goal.end_sums-requires-clause-wide
+end_sums-requires-clause-wide c = grind arith
+
+pub end_sums-requires-clause-room : goal.end_sums-requires-clause-room
+end_sums-requires-clause-room c = grind arith

@@ -65,3 +65,6 @@ loop-point-init c = grind arith
 
 pub fill_point-requires-clause-rows : goal.fill_point-requires-clause-rows
 fill_point-requires-clause-rows c = grind arith
+
+pub returns-clause-rows : goal.returns-clause-rows
+returns-clause-rows c = grind arith
