@@ -12,3 +12,6 @@ same-classes c = grind arith
 
 pub plan_from-requires-2-clause-parents : goal.plan_from-requires-2-clause-parents
 plan_from-requires-2-clause-parents c = grind arith
+
+pub invariant_of-result : goal.invariant_of-result
+invariant_of-result c = record { parents = c.in_ok-classes.ensures.parents; first = c.in_ok-one.ensures.plan; second = c.in_ok-two.ensures.plan }
