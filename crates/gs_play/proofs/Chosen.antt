@@ -7,9 +7,9 @@ use Rattle.gs_model.specs.{BestAnswers.{Values}, Classes.{ClassLists, IsClass}, 
 use Rattle.gs_model.specs.{FrameFacts.{IsWalked}, Positions.{at_point}, Sums.{sum_z}}
 use Rattle.gs_best.specs.{Tables.{moves_of}, ClassTotals.{total_worth}}
 use Rattle.gs_best.proofs.{Ranges.{sum_same}, PointStarts.{place_before}}
-use Rattle.gs_play.specs.{Lines.{flat, line_at, wrapped}, Plots.{IsRowIn, cell_place, worth_place}, Tables.{IsLineSettled}, Tallies.{slopes_of, zeros_of}}
-use Rattle.gs_play.specs.Tallies.{AreSmallAtEnds, HasTallyRoom, HasWorths, IsAddedUp, IsChosen, IsLineFound, IsTally, at_part, lines_at, part_table, slope_part}
-use Rattle.gs_play.specs.{declared.line.Line.{Line}, declared.plot.Row.{Row}, declared.tally.Tally.{Tally}}
+use Rattle.gs_play.specs.{Lines.{StaysFirst, flat, line_at, wrapped}, Plots.{IsRowIn, cell_place, worth_place}, Tables.{IsLineSettled}}
+use Rattle.gs_play.specs.Tallies.{AreSmallAtEnds, HasTallyRoom, HasWorths, IsAddedUp, IsChosen, IsLineFound, IsPicked, IsTally, at_part, lines_at, part_table}
+use Rattle.gs_play.specs.{Tallies.{slope_part, slopes_of, zeros_of}, declared.line.Line.{Line}, declared.plot.Row.{Row}, declared.tally.Tally.{Tally}}
 use Rattle.gs_play.proofs.{Found.{AreWorthLines, other_found, own_found}, Known.{slope_few, slopes_few, zero_few, zeros_few}, Wrapped.{unwrapped}}
 use Rattle.gs_play.proofs.{Lists.{changed_table, worths_before}, PlotRows.{row_first}, Settling.{IsChanged}}
 
@@ -177,3 +177,22 @@ module _ (f : Frame) (lists : ClassLists) (player : ℕ) (walked : IsWalked f pl
 
   pub found_again : IsFoundAgain f lists player (Z old) (S old) (Z new) (S new) q c now old new
   found_again = ⊎_elim own_again other_again (cases_eq (player_at f q) player)
+
+-- what is written at a cell, where its picks and its turns are those before with the choice and the turn in its place
+pub written : (lines : List Line) (point cell now last best until : ℕ) (old new : Tally) → cell < length old.picks.items
+    → cell < length old.dues.turns.items → best < length lines → StaysFirst lines best now until → now < until
+    → new.totals.items ≡ set old.totals.items cell (line_at lines best) → IsPicked point cell best old new
+    → new.dues.turns.items ≡ set old.dues.turns.items cell until → IsChosen lines point cell now last old new
+written lines point cell now last best until old new inside_picks inside_turns inside stays later totals picked turns =
+    let at : best ≡ slice_index new.picks.items cell =
+    sym (ap (λ (xs : List ℕ). slice_index xs cell) picked.picks ∙ get_or-set_same old.picks.items cell best 0 inside_picks) in
+    let due : until ≡ slice_index new.dues.turns.items cell =
+    sym (ap (λ (xs : List ℕ). slice_index xs cell) turns ∙ get_or-set_same old.dues.turns.items cell until 0 inside_turns) in
+    record {
+      inside = subst (λ b. b < length lines) at inside;
+      stays = subst (λ b. StaysFirst lines b now (slice_index new.dues.turns.items cell)) at (subst (λ t. StaysFirst lines best now t) due stays);
+      later = subst (λ t. now < t) due later;
+      totals = totals ∙ ap (λ b. set old.totals.items cell (line_at lines b)) at;
+      picked = subst (λ b. IsPicked point cell b old new) at picked;
+      dues = turns ∙ ap (λ t. set old.dues.turns.items cell t) due;
+    }

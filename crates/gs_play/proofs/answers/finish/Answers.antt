@@ -56,3 +56,6 @@ returns c =
 
 pub stop_at-requires-clause-answer : goal.stop_at-requires-clause-answer
 stop_at-requires-clause-answer c = grind arith
+
+pub loop-point-init : goal.loop-point-init
+loop-point-init c = grind arith

@@ -58,3 +58,10 @@ is_loose-requires-clause-turned c = grind (arith, common_steps)
 
 pub returns-else-index-side-clause-room : goal.returns-else-index-side-clause-room
 returns-else-index-side-clause-room c = grind arith
+
+pub renew_point-requires-clause-own : goal.renew_point-requires-clause-own
+renew_point-requires-clause-own c =
+    let s = c.args.side.now in
+    let f = side_frame s in
+    let row = row_at f (side_lists s) s.plot.now s.plotted c.args.point c.requires.point c.index.result.now c.index.ensures in
+    sym (row_player f (side_lists s) c.args.point c.index.result.now row) ∙ c.if-index-side.true

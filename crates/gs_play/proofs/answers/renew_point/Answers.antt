@@ -190,3 +190,6 @@ returns-clause-turned c = grind arith
 
 pub returns-clause-room : goal.returns-clause-room
 returns-clause-room c = grind arith
+
+pub returns-clause-plan : goal.returns-clause-plan
+returns-clause-plan c = grind arith

@@ -108,3 +108,6 @@ returns-clause-plan c =
 
 pub pay_off-requires-clause-answer : goal.pay_off-requires-clause-answer
 pay_off-requires-clause-answer c = grind arith
+
+pub index_mut-requires-3 : goal.index_mut-requires-3
+index_mut-requires-3 c = grind arith

@@ -1,3 +1,4 @@
+use Rattle.std.proofs.lemmas.Grind.{common_steps}
 use Rattle.std.proofs.{Common.{◌≡◌, ◌+◌, true, ap, ◌∙◌, arith, rules, to_z, of_z}, lemmas.Int.{ints, to_z-of_z}}
 use Rattle.std.specs.{Prelude.{ℤ, ◌-ℤ◌, ◌<ℤ◌, unsigned_abs}, Int.RustNames.{FitsSigned}, Int.Signed.{lt_z}}
 use mir.Syntax.{w128}
@@ -45,3 +46,6 @@ returns-else-slope-rise-clause-behind c = slower_stays c.args.before c.args.valu
 
 pub returns-then-slope-rise-clause-some : goal.returns-then-slope-rise-clause-some
 returns-then-slope-rise-clause-some c = grind arith
+
+pub within_gap-requires-clause-gap : goal.within_gap-requires-clause-gap
+within_gap-requires-clause-gap c = grind (arith, common_steps)

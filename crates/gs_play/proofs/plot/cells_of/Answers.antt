@@ -22,3 +22,6 @@ loop-point-preserved c =
           (cells_more f lists points q n (omega (arith, c.loop-point-test.true, c.point_total-point-end.ensures)) c.loop-point.invariant.long wide
           c.loop-point.invariant.cells);
     }
+
+pub returns-clause-long : goal.returns-clause-long
+returns-clause-long c = grind arith

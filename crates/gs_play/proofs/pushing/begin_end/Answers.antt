@@ -86,3 +86,9 @@ turn_end-requires-clause-room c = grind arith
 
 pub returns-clause-room : goal.returns-clause-room
 returns-clause-room c = grind arith
+
+pub overflow_cast-more-in-loop-class : goal.overflow_cast-more-in-loop-class
+overflow_cast-more-in-loop-class c = grind arith
+
+pub bounds-sums-class : goal.bounds-sums-class
+bounds-sums-class c = grind arith

@@ -141,3 +141,14 @@ returns-clause-pushed c =
 
 pub push_end-requires-clause-room : goal.push_end-requires-clause-room
 push_end-requires-clause-room c = grind arith
+
+pub returns-clause-room : goal.returns-clause-room
+returns-clause-room c = grind arith
+
+pub end_step-requires : goal.end_step-requires
+end_step-requires c =
+    subst (λ g. c.loop-end.end < end_count (frame_in g)) (sym c.game-game.ensures)
+    (omega (arith, few (goal.at.end_step-requires c).After-index-span, c.loop-end-test.true))
+
+pub push_end-requires-clause-end : goal.push_end-requires-clause-end
+push_end-requires-clause-end c = omega (arith, few (goal.at.push_end-requires-clause-end c).After-index-span, c.loop-end-test.true)

@@ -94,3 +94,6 @@ push_row-requires-clause-room c = grind arith
 
 pub returns-clause-room : goal.returns-clause-room
 returns-clause-room c = grind arith
+
+pub push_row-requires-clause-class : goal.push_row-requires-clause-class
+push_row-requires-clause-class c = grind arith

@@ -12,3 +12,6 @@ returns-in-Show-clause-pays c = grind arith
 
 pub returns-then-loser-folder-clause-few : goal.returns-then-loser-folder-clause-few
 returns-then-loser-folder-clause-few c = grind arith
+
+pub returns-else-loser-folder-clause-few : goal.returns-else-loser-folder-clause-few
+returns-else-loser-folder-clause-few c = grind arith

@@ -1,4 +1,5 @@
-use Rattle.std.proofs.Common.{arith}
+use Rattle.std.proofs.{Common.{◌≡◌, ◌-◌, ◌/◌, ◌<◌, length, sym, ap, ◌∙◌, arith, ⊎_elim}, lemmas.Bool.{cases_eq}, lemmas.List.{get_or_default}}
+use Rattle.std.specs.Prelude.{slice_index}
 use Rattle.gs_play.specs.Sides.{side_frame, side_lists}
 use Rattle.gs_play.proofs.Tells.{tells_next}
 use Rattle.gs_play.proofs.sweeping.sweep.Goals as goal
@@ -18,3 +19,32 @@ loop-block-preserved-then-index-now c =
 
 pub loop-block-init : goal.loop-block-init
 loop-block-init c = grind arith
+
+pub loop-block-preserved : goal.loop-block-preserved
+loop-block-preserved c =
+    let block = c.loop-block.block - 1 in
+    let dues = c.loop-block.tally.dues in
+    let was = c.loop-block.invariant in
+    let there : block < length dues.soonest.items =
+    omega (
+      arith,
+      c.loop-block-test.true,
+      c.loop-block.auto.block,
+      c.len-block.ensures,
+      c.args.tally.now.dues.soonest.ok.0,
+      was.room.blocks,
+      c.requires.room.blocks,
+    ) in
+    let read : c.index.result.now ≡ slice_index dues.soonest.items block =
+    c.index.ensures ∙ sym (get_or_default dues.soonest.items block 0 c.index.result.now there) in
+    record {
+      room = was.room;
+      none = λ k lo hi. ⊎_elim
+          (λ (same : k / 64 ≡ block).
+          let soonest = ap (λ i. slice_index dues.soonest.items i) same in
+          omega (arith, was.room.dues.least k hi, soonest, read, c.if-index-now.false))
+          (λ (other : k / 64 ≡ block → ⊥). was.none k (omega (arith, lo, other, c.loop-block-test.true)) hi)
+          (cases_eq (k / 64) block);
+      tells = was.tells;
+      kept = was.kept;
+    }

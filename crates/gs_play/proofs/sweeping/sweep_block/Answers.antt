@@ -92,3 +92,16 @@ sweep_row-requires-clause-behind c = grind arith
 
 pub returns-clause-settled : goal.returns-clause-settled
 returns-clause-settled c = grind arith
+
+pub returns-clause-room : goal.returns-clause-room
+returns-clause-room c = grind arith
+
+pub past_due-left-requires-clause-behind : goal.past_due-left-requires-clause-behind
+past_due-left-requires-clause-behind c = grind arith
+
+pub index-row-requires : goal.index-row-requires
+index-row-requires c =
+    let s = c.args.side.now in
+    let at = point_at (side_frame s) (side_lists s) s.plot.now s.plotted (c.loop-left.left - 1) c.index.result.now
+    (omega (arith, c.loop-left.invariant.few, c.loop-left-test.true, c.loop-left.invariant.room.totals)) c.index.ensures in
+    omega (arith, at.inside, s.plotted.many)

@@ -1,4 +1,4 @@
-use Rattle.std.proofs.{Common.{◌≡◌, ◌-◌, ◌<◌, sym, subst, arith, ⊎_elim}, lemmas.Bool.{cases_eq}}
+use Rattle.std.proofs.{Common.{◌≡◌, ◌-◌, ◌<◌, length, sym, ◌∙◌, subst, arith, ⊎_elim}, lemmas.Bool.{cases_eq}, lemmas.List.{get_or_default}}
 use Rattle.std.specs.Prelude.{slice_index}
 use Rattle.gs_play.specs.{Plots.{IsCellOf}, Sides.{side_frame, side_lists}}
 use Rattle.gs_play.proofs.{PlotRows.{cell_within}, Tells.{tells_next}}
@@ -35,4 +35,26 @@ loop-cell-preserved-then-index-now c =
           (cases_eq k (cell - 1));
       tells = tells_next (side_frame c.args.side.now) (side_lists c.args.side.now) c.args.tally.now c.loop-cell.tally new was.tells is.tells;
       kept = λ pays rise few h. is.kept pays rise few (λ k lo hi. was.none k (omega (arith, lo, c.loop-cell-test.true)) hi) (was.kept pays rise few h);
+    }
+
+pub settle-requires-clause-room : goal.settle-requires-clause-room
+settle-requires-clause-room c = grind arith
+
+pub loop-cell-preserved : goal.loop-cell-preserved
+loop-cell-preserved c =
+    let cell = c.loop-cell.cell in
+    let turns = c.loop-cell.tally.dues.turns.items in
+    let was = c.loop-cell.invariant in
+    record {
+      most = omega (arith, was.most);
+      room = was.room;
+      none = λ k lo hi. ⊎_elim
+          (λ (same : k ≡ cell - 1).
+          let there : cell - 1 < length turns = omega (arith, same, hi) in
+          let read : c.index.result.now ≡ slice_index turns (cell - 1) = c.index.ensures ∙ sym (get_or_default turns (cell - 1) 0 c.index.result.now there) in
+          subst (λ i. c.args.now < slice_index turns i) (sym same) (subst (λ t. c.args.now < t) read c.if-index-now.false))
+          (λ (other : k ≡ cell - 1 → ⊥). was.none k (omega (arith, lo, other, c.loop-cell-test.true)) hi)
+          (cases_eq k (cell - 1));
+      tells = was.tells;
+      kept = was.kept;
     }

@@ -1,4 +1,4 @@
-use Rattle.std.proofs.{Common.{◌≡◌, ℕ, List, Bool, false, get_or, length, ap, ◌∙◌, arith, rules}, lemmas.List.{length-replicate}}
+use Rattle.std.proofs.{Common.{◌≡◌, ℕ, List, Bool, false, get_or, length, sym, ap, ◌∙◌, arith, rules, true≢false}, lemmas.List.{length-replicate}}
 use Rattle.std.specs.Int.{div_ceil}
 use Rattle.gs_model.specs.Frame.{point_count}
 use Rattle.gs_best.specs.Tables.{start_of}
@@ -31,5 +31,5 @@ returns-clause-clear c =
       totals = λ k. ap (λ (l : List Line). line_at l k) totals ∙ same_at c.len-cells.result k flat;
       due = λ k. ap (λ (l : List ℕ). get_or l k 0) c.in_ok-dues.ensures.turns ∙ same_at c.len-cells.result k 0;
       picks = λ k. ap (λ (l : List ℕ). get_or l k 0) picks ∙ same_at c.len-cells.result k 0;
-      still = λ q is. let none = ap (λ (l : List Bool). get_or l q false) moved ∙ same_at c.len.result q false in absurd (cc);
+      still = λ q is. let none = ap (λ (l : List Bool). get_or l q false) moved ∙ same_at c.len.result q false in absurd (true≢false (sym is ∙ none));
     }
