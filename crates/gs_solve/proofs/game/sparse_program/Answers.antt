@@ -1,4 +1,4 @@
-use Rattle.std.proofs.Common.{◌≡◌, ◌+◌, ◌*◌, ◌≤◌, ap, sym, ◌∙◌, subst}
+use Rattle.std.proofs.Common.{◌≡◌, ◌+◌, ◌*◌, ◌≤◌, ap, sym, ◌∙◌, subst, arith}
 use Rattle.gs_seq.specs.Abstracts.{abstract_frame, lists_of}
 use Rattle.gs_solve.specs.Sequences.{form_sizes}
 use Rattle.gs_solve.proofs.{EndSteps.{form_is}, GameOpening.{game_opening_opens}}
@@ -30,3 +30,6 @@ returns-clause-small c =
     ap (λ k. k + s.two_rows + s.twos + 1) c.of-size.ensures.ones ∙ ap (λ k. n.ones + k + s.twos + 1) c.of-size.ensures.two_rows
     ∙ ap (λ k. n.ones + n.two_rows + k + 1) c.of-size.ensures.twos ∙ ap (λ k. k + 1) (sym g.cols) in
     subst (λ k. (p.rows + 1) * k ≤ 1048576) cols (subst (λ k. k * (s.ones + s.two_rows + s.twos + 1) ≤ 1048576) rows c.in_ok-fits.ensures.fits)
+
+pub returns-in_err-program-clause-refused : goal.returns-in_err-program-clause-refused
+returns-in_err-program-clause-refused c = grind arith
