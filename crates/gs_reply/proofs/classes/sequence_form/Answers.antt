@@ -1,3 +1,4 @@
+use Rattle.std.proofs.Common.{arith}
 use Rattle.gs_file.specs.Views.{valid_view}
 use Rattle.gs_reply.specs.Troubles.{SaysLarge}
 use Rattle.gs_reply.proofs.Refused.{fails, too_large}
@@ -8,3 +9,6 @@ returns-in_err-of-clause-large c =
     let l = c.args.lossless.now in
     let g = valid_view l.signals.now.game.now in
     fails (SaysLarge g l.classes.now.lists) _ _ c.from_residual.ensures.1 (too_large g l.classes.now.lists c.in_err-of.field-0.0 c.in_err-of.ensures.refused)
+
+pub returns-clause-held : goal.returns-clause-held
+returns-clause-held c = grind arith
