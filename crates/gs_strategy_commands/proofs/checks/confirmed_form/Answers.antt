@@ -1,3 +1,4 @@
+use Rattle.std.proofs.Common.{arith}
 use Rattle.gs_strategy_commands.proofs.Told.{large, wrong}
 use Rattle.gs_strategy_commands.specs.Troubles.{IsUnconfirmed}
 use Rattle.gs_reply.proofs.Refused.{fails}
@@ -13,3 +14,12 @@ pub returns-in_err-check_numbers-clause-refused : goal.returns-in_err-check_numb
 returns-in_err-check_numbers-clause-refused c =
     let s = stored_view c.args.stored.now in
     fails (IsUnconfirmed s) _ _ c.from_residual-in_err-check_numbers.ensures.1 (wrong s _ c.in_err-check_numbers.ensures.wrong)
+
+pub returns-clause-confirmed : goal.returns-clause-confirmed
+returns-clause-confirmed c = grind arith
+
+pub check_numbers-requires : goal.check_numbers-requires
+check_numbers-requires c = grind arith
+
+pub returns-clause-form : goal.returns-clause-form
+returns-clause-form c = grind arith

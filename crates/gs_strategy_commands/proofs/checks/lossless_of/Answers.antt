@@ -1,3 +1,4 @@
+use Rattle.std.proofs.Common.{arith}
 use Rattle.std.proofs.{Common.{sym, ap, ◌∙◌, subst}, lemmas.Result.{IfErr-weaker}}
 use Rattle.gs_file.specs.Views.{valid_view}
 use Rattle.gs_game.specs.declared.valid.ValidGame.{ValidGame}
@@ -13,3 +14,6 @@ returns-clause-unlike c =
     let lists = c.args.stored.now.classes.lists in
     IfErr-weaker c.lossless_classes.result _ _ (λ e h. subst (λ (w : ValidGame). StopsFor (SaysUnlike (valid_view w) lists) e) c.requires h)
     c.lossless_classes.ensures.unlike
+
+pub returns-clause-lossless : goal.returns-clause-lossless
+returns-clause-lossless c = grind arith

@@ -1,4 +1,4 @@
-use Rattle.std.proofs.Common.{Err, ap, refl, sym, ◌∙◌}
+use Rattle.std.proofs.Common.{Err, ap, refl, sym, ◌∙◌, arith}
 use Rattle.gs_best.specs.Judged.{parts}
 use Rattle.gs_certificate.specs.FaultTexts.{cert_fault_text}
 use Rattle.gs_model.specs.Verdict.{IsValue}
@@ -44,3 +44,15 @@ returns-in_ok-bounds_text-in-Ok c =
       value_is = moved (λ f n. IsValue f (lifted f n s.one) (lifted f n s.two) (parts v).0 (parts v).1) l s c.requires.form.held c.value_of-value.ensures;
       printed = c.in_ok-bounds_text-in-Ok.ensures;
     }
+
+pub value_of-value-requires-clause-paid : goal.value_of-value-requires-clause-paid
+value_of-value-requires-clause-paid c = grind arith
+
+pub value_of-value-requires-clause-one : goal.value_of-value-requires-clause-one
+value_of-value-requires-clause-one c = grind arith
+
+pub value_of-value-requires-clause-two : goal.value_of-value-requires-clause-two
+value_of-value-requires-clause-two c = grind arith
+
+pub certified_payoff-requires-clause-small : goal.certified_payoff-requires-clause-small
+certified_payoff-requires-clause-small c = grind arith
