@@ -1,4 +1,4 @@
-use Rattle.std.proofs.Common.{ap, subst}
+use Rattle.std.proofs.Common.{ap, subst, arith}
 use Rattle.gs_file.specs.Views.{valid_view}
 use Rattle.gs_game.specs.{Games.{game_of}, declared.valid.ValidGame.{ValidGame}}
 use Rattle.gs_reply.specs.Replies.{StopsFor}
@@ -27,3 +27,15 @@ returns c =
     is_checked c.args.grouping c.args.summary (valid_view c.args.game.now) (rules_of s) (deck_of s) c.in_ok-classes.classes.lists c.in_ok-told.field-0.items
     (ap (λ v. game_of v.game) c.in_ok-signals.ensures) (ap (λ v. v.game.deck) c.in_ok-signals.ensures) c.in_ok-classes.ensures.grouping
     c.in_ok-lossless_of.ensures.lossless c.in_ok-told.ensures
+
+pub invariant_of-signals-in_err-told : goal.invariant_of-signals-in_err-told
+invariant_of-signals-in_err-told c = grind arith
+
+pub invariant_of-signals-in_err-lossless_of : goal.invariant_of-signals-in_err-lossless_of
+invariant_of-signals-in_err-lossless_of c = grind arith
+
+pub invariant_of-signals : goal.invariant_of-signals
+invariant_of-signals c = grind arith
+
+pub invariant_of-signals-2 : goal.invariant_of-signals-2
+invariant_of-signals-2 c = grind arith

@@ -1,3 +1,4 @@
+use Rattle.std.proofs.Common.{arith}
 use Rattle.gs_game_commands.specs.Paths.{ShowsPath}
 use Rattle.gs_game_commands.proofs.{Said.{IsOver, is_over, large, said, unlike, unread}, commands.path_answer.Goals.{In_ok-lossless}}
 use Rattle.gs_game_commands.proofs.commands.path_answer.Goals as goal
@@ -26,3 +27,15 @@ pub returns : goal.returns
 returns c =
     said ShowsPath c.args.grouping c.args.bytes.now c.shown.result c.in_ok-lossless.lossless (over (goal.at.returns c).In_ok-lossless) c.in_ok-form.form
     c.in_ok-form.ensures.held c.in_ok-form.ensures.small c.shown.ensures
+
+pub invariant_of-signals-in_err-lossless : goal.invariant_of-signals-in_err-lossless
+invariant_of-signals-in_err-lossless c = grind arith
+
+pub invariant_of-signals-2 : goal.invariant_of-signals-2
+invariant_of-signals-2 c = grind arith
+
+pub invariant_of-signals : goal.invariant_of-signals
+invariant_of-signals c = grind arith
+
+pub invariant_of-signals-in_err-form : goal.invariant_of-signals-in_err-form
+invariant_of-signals-in_err-form c = grind arith

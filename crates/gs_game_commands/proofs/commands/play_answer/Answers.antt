@@ -1,4 +1,4 @@
-use Rattle.std.proofs.Common.{Ok}
+use Rattle.std.proofs.Common.{Ok, arith}
 use Rattle.gs_game_commands.specs.Playing.{Plays}
 use Rattle.gs_game_commands.proofs.{Said.{IsOver, is_over, large, said, unlike, unread}, commands.play_answer.Goals.{In_ok-lossless}}
 use Rattle.gs_game_commands.proofs.commands.play_answer.Goals as goal
@@ -27,3 +27,24 @@ pub returns : goal.returns
 returns c =
     said (Plays c.args.turns) c.args.grouping c.args.bytes.now (Ok c.in_ok-played.field-0) c.in_ok-lossless.lossless (over (goal.at.returns c).In_ok-lossless)
     c.in_ok-form.form c.in_ok-form.ensures.held c.in_ok-form.ensures.small c.in_ok-played.ensures
+
+pub invariant_of-signals-in_err-form : goal.invariant_of-signals-in_err-form
+invariant_of-signals-in_err-form c = grind arith
+
+pub invariant_of-signals : goal.invariant_of-signals
+invariant_of-signals c = grind arith
+
+pub returns-in_err-played : goal.returns-in_err-played
+returns-in_err-played c = grind arith
+
+pub played-requires-clause-small : goal.played-requires-clause-small
+played-requires-clause-small c = grind arith
+
+pub invariant_of-signals-2 : goal.invariant_of-signals-2
+invariant_of-signals-2 c = grind arith
+
+pub invariant_of-signals-in_err-lossless : goal.invariant_of-signals-in_err-lossless
+invariant_of-signals-in_err-lossless c = grind arith
+
+pub invariant_of-signals-in_err-played : goal.invariant_of-signals-in_err-played
+invariant_of-signals-in_err-played c = grind arith

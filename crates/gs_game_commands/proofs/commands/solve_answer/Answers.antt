@@ -1,3 +1,4 @@
+use Rattle.std.proofs.Common.{arith}
 use Rattle.gs_game_commands.specs.Solving.{Solves}
 use Rattle.gs_game_commands.proofs.{Said.{IsOver, is_over, large, said, unlike, unread}, commands.solve_answer.Goals.{In_ok-lossless}}
 use Rattle.gs_game_commands.proofs.commands.solve_answer.Goals as goal
@@ -26,3 +27,18 @@ pub returns : goal.returns
 returns c =
     said Solves c.args.grouping c.args.bytes.now c.solved.result c.in_ok-lossless.lossless (over (goal.at.returns c).In_ok-lossless) c.in_ok-form.form
     c.in_ok-form.ensures.held c.in_ok-form.ensures.small c.solved.ensures
+
+pub invariant_of-signals-in_err-lossless : goal.invariant_of-signals-in_err-lossless
+invariant_of-signals-in_err-lossless c = grind arith
+
+pub invariant_of-signals-in_err-form : goal.invariant_of-signals-in_err-form
+invariant_of-signals-in_err-form c = grind arith
+
+pub invariant_of-signals : goal.invariant_of-signals
+invariant_of-signals c = grind arith
+
+pub invariant_of-signals-2 : goal.invariant_of-signals-2
+invariant_of-signals-2 c = grind arith
+
+pub solved-requires : goal.solved-requires
+solved-requires c = grind arith

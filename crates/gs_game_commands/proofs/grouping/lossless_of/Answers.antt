@@ -1,3 +1,4 @@
+use Rattle.std.proofs.Common.{arith}
 use Rattle.std.proofs.lemmas.Result.{IfErr-weaker}
 use Rattle.gs_file.specs.Views.{valid_view}
 use Rattle.gs_reply.proofs.Refused.{stops_more}
@@ -16,3 +17,6 @@ returns-in-Isomorphism-clause-unlike c =
 
 pub known-requires-clause-lossless : goal.known-requires-clause-lossless
 known-requires-clause-lossless c = always_lossless c.args.grouping (rules_of c.args.signals.now) c.args.classes.now.lists c.in-Coarsest.is c.requires.grouping
+
+pub returns-in-Coarsest : goal.returns-in-Coarsest
+returns-in-Coarsest c = grind arith

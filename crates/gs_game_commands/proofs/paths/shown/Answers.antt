@@ -1,4 +1,4 @@
-use Rattle.std.proofs.Common.{◌∙◌, sym, subst, ap}
+use Rattle.std.proofs.Common.{◌∙◌, sym, subst, ap, arith}
 use Rattle.gs_simplex.specs.{Program.{Listing}, Answer.{IsStop}, Trace.{IsShown}}
 use Rattle.gs_solve.specs.Solutions.{most_pivots}
 use Rattle.gs_seq.specs.Abstracts.{abstract_frame, lists_of}
@@ -26,3 +26,12 @@ unended-requires-clause-met c =
     stop_is_met (abstract_frame form) (lists_of form) (form_is form) c.in-Ok.made.0 c.in-Ok.made.1.items c.in-Ok.ensures.path c.in-Ok.ensures.small
     c.in-Err-path.stop
     (subst (λ (o : Listing). IsStop c.in-Ok.made.0 o most_pivots c.in-Err-path.stop) c.deref.ensures.value c.in-Err-path.ensures)
+
+pub unended-requires-clause-path : goal.unended-requires-clause-path
+unended-requires-clause-path c = grind arith
+
+pub path-requires-clause-opens : goal.path-requires-clause-opens
+path-requires-clause-opens c = grind arith
+
+pub path-requires-clause-shaped : goal.path-requires-clause-shaped
+path-requires-clause-shaped c = grind arith
