@@ -1,3 +1,4 @@
+use Rattle.std.proofs.lemmas.Grind.{common_steps}
 use Rattle.std.proofs.{Common.{◌≡◌, ◌<◌, ◌++◌, get_or, length, map, pos, string_bytes, sym, ap, ◌∙◌, arith}, lemmas.List.{get_or-map}}
 use Rattle.gs_strategy.specs.{Values.{FractionParts}, Views.{parts_of}}
 use Rattle.gs_tree.specs.Trees.{deck_of, rules_of}
@@ -18,3 +19,6 @@ loop-signal-preserved c =
     lines_more (λ s. hand_line d g s (get_or (map parts_of xs) s (pos 0, pos 1))) (string_bytes c.loop-signal.text)
     (string_bytes c.push_hand.new.text) n c.loop-signal.invariant
     (c.in_ok-push_hand.ensures ∙ ap (λ (p : FractionParts). string_bytes c.loop-signal.text ++ hand_line d g n p) at)
+
+pub returns : goal.returns
+returns c = grind (arith, common_steps)

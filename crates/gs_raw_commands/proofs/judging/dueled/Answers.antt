@@ -1,4 +1,4 @@
-use Rattle.std.proofs.Common.{◌≡◌, IsTrue, false, inl, inr, refl, rules, sym, ◌∙◌, true≢false}
+use Rattle.std.proofs.Common.{◌≡◌, IsTrue, false, inl, inr, refl, rules, sym, ◌∙◌, true≢false, arith}
 use Rattle.gs_file.specs.Views.{valid_view}
 use Rattle.gs_reply.specs.Refusals.{Other_game}
 use Rattle.gs_reply.proofs.Refused.{answers_more}
@@ -19,3 +19,6 @@ returns c =
     let yes' : IsTrue c.in_ok-same_game.field-0 = search rules in
     let one : valid_view c.args.one.now.game ≡ valid_view c.args.two.now.game = c.in_ok-same_game.ensures.0 yes' in
     answers_more (SaysHands x y) (SaysDuel x y) (λ r p. inr (one, p)) c.fought.result c.fought.ensures
+
+pub fought-requires : goal.fought-requires
+fought-requires c = grind arith

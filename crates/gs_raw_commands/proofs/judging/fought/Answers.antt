@@ -70,3 +70,18 @@ returns-in-Err-TooManyCells c =
     rw c.in-Err-TooManyCells.field-0-is (too_many f x y (λ n reply. (hands : List FractionParts) × AreHandValues x y hands
     × (reply ≡ Prints (verdict_text n ++ hands_text x.game.deck (rules_in x.game) hands))) c.in-Err-TooManyCells.count c.in-Err-TooManyCells.field-0
     (ap frame_in c.in_ok-signals.ensures) c.in-Err-TooManyCells.field-0-is c.in-Err-TooManyCells.ensures.refused)
+
+pub invariant_of-signals-in_err-push_hands-in-Ok : goal.invariant_of-signals-in_err-push_hands-in-Ok
+invariant_of-signals-in_err-push_hands-in-Ok c = grind arith
+
+pub invariant_of-signals-in-Ok : goal.invariant_of-signals-in-Ok
+invariant_of-signals-in-Ok c = grind arith
+
+pub invariant_of-signals : goal.invariant_of-signals
+invariant_of-signals c = grind arith
+
+pub invariant_of-signals-in-Err-TooManyCells : goal.invariant_of-signals-in-Err-TooManyCells
+invariant_of-signals-in-Err-TooManyCells c = grind arith
+
+pub invariant_of-signals-2 : goal.invariant_of-signals-2
+invariant_of-signals-2 c = grind arith

@@ -1,4 +1,4 @@
-use Rattle.std.proofs.Common.{◌≡◌, ◌≤◌, inl, sym, ap, subst}
+use Rattle.std.proofs.Common.{◌≡◌, ◌≤◌, inl, sym, ap, subst, arith}
 use Rattle.gs_game.specs.declared.valid.ValidGame.{ValidGame}
 use Rattle.gs_raw.specs.Cells.{raw_cell_count}
 use Rattle.gs_reply.specs.{Replies.{Prints}, VerdictText.{verdict_text}}
@@ -39,3 +39,15 @@ returns-in-Err-TooManyCells c =
     let f = frame_in c.in_ok-signals.signals.game.now in
     rw c.in-Err-TooManyCells.field-0-is (too_many f s s (λ n reply. reply ≡ Prints (verdict_text n)) c.in-Err-TooManyCells.count c.in-Err-TooManyCells.field-0
     (ap frame_in c.in_ok-signals.ensures) c.in-Err-TooManyCells.field-0-is c.in-Err-TooManyCells.ensures.refused)
+
+pub invariant_of-signals-in-Err-TooManyCells : goal.invariant_of-signals-in-Err-TooManyCells
+invariant_of-signals-in-Err-TooManyCells c = grind arith
+
+pub invariant_of-signals-2 : goal.invariant_of-signals-2
+invariant_of-signals-2 c = grind arith
+
+pub invariant_of-signals-in-Ok : goal.invariant_of-signals-in-Ok
+invariant_of-signals-in-Ok c = grind arith
+
+pub invariant_of-signals : goal.invariant_of-signals
+invariant_of-signals c = grind arith
