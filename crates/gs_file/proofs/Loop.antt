@@ -1,10 +1,11 @@
 -- Reading the members of a list one after the other, as a loop does.
 use Rattle.std.proofs.Common.{◌≡◌, ℕ, ◌+◌, ◌≤◌, ◌<◌, List, [], ◌∷◌, ◌++◌, map, drop, length, get_or, Result, Ok, Err, refl, sym, ap, ◌∙◌, append_assoc, add-one}
-use Rattle.std.proofs.{lemmas.List.{append-nil, drop_all}, Math.Seq.{drop-cons}}
+use Rattle.std.specs.Result.{IsErrAnd}
+use Rattle.std.proofs.{Common.{subst}, lemmas.List.{append-nil, drop_all}, Math.Seq.{drop-cons}}
 use Rattle.gs_game.specs.declared.faults.GameFault.{GameFault}
 use Rattle.gs_game.specs.declared.faults.GameFault.TheVariants as rules
 use Rattle.gs_json.specs.Steps.{◌>>=◌}
-use Rattle.gs_file.specs.{declared.fault.FileFault.{FileFault}, Faults.{Fault}, Answers.{Fails, FailsByRules}, Tables.{each}}
+use Rattle.gs_file.specs.{declared.fault.FileFault.{FileFault}, Faults.{Fault}, Answers.{Fails, FailsByRules, Gives}, Tables.{each}}
 use Rattle.gs_file.specs.declared.fault.FileFault.TheVariants as fault
 
 -- what was read before, and what is still read
@@ -71,3 +72,9 @@ pub is_done : {A C B : Type 0} (read : ℕ → C → Result B Fault) (seen : A �
 is_done read seen front xs i n total le so_far =
     let one : with_front front (each read n (map seen (drop i xs))) ≡ Ok front = rw (drop_all i xs le) (ap (λ ys. Ok ys) (append-nil front)) in
     sym so_far ∙ one
+
+-- a fault of one reading, handed on as it is
+pub handed_on : {A X Y : Type 0} (view : A → Y) (e : FileFault) (result : Result A FileFault) (one : Result X Fault) (total : Result Y Fault)
+    → IsErrAnd result (λ f. f ≡ e) → Fails e one → ((f : Fault) → one ≡ Err f → total ≡ Err f) → Gives view result total
+handed_on view e (Ok x) one total is h on = absurd is
+handed_on view e (Err f) one total is h on = subst (λ k. Fails k total) (sym is) (fails_so e one total h on)

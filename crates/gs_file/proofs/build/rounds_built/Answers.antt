@@ -1,3 +1,4 @@
+use Rattle.std.proofs.Common.{arith}
 use Rattle.std.proofs.{Common.{◌≡◌, ◌+◌, map, ◌++◌, ◌∷◌, [], subst, sym, ap, ◌∙◌, All}, lemmas.List.{map-append}, lemmas.List.Elements.{All-push}}
 use Rattle.std.proofs.lemmas.Result.{err_from_is_err_and}
 use Rattle.gs_game.specs.Games.{HasFewCards, round_rules}
@@ -38,3 +39,6 @@ returns-in_err-round c =
     (n + 1) c.index-sizes-index.result total c.loop-index-test.true
     (subst (λ x. Fails why (round_built (n + 1) (ranged_view x))) c.index-sizes-index.is c.in_err-round.ensures.gives) c.loop-index.invariant.so_far in
     record { gives = rw (e.1, e.2) fails; few = rw e.1 tt }
+
+pub loop-index-init : goal.loop-index-init
+loop-index-init c = grind arith

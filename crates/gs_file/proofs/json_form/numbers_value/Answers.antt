@@ -7,3 +7,6 @@ loop-number-preserved c = grind (arith, common_steps)
 
 pub returns : goal.returns
 returns c = grind (arith, common_steps, view-Array)
+
+pub loop-number-init : goal.loop-number-init
+loop-number-init c = grind arith

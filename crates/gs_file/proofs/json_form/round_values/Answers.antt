@@ -7,3 +7,6 @@ loop-round-preserved c = grind (arith, common_steps)
 
 pub returns : goal.returns
 returns c = grind (arith, common_steps, view-Array)
+
+pub loop-round-init : goal.loop-round-init
+loop-round-init c = grind arith

@@ -9,3 +9,6 @@ returns c = grind (arith, common_steps)
 
 pub returns-in_err-table : goal.returns-in_err-table
 returns-in_err-table c = grind (arith, common_steps)
+
+pub loop-item-init : goal.loop-item-init
+loop-item-init c = grind arith

@@ -1,4 +1,5 @@
 use Rattle.std.proofs.Common.{◌≡◌, ◌+◌, ◌<◌, ◌≤◌, ℕ, pos, get_or, length, length-append, ◌++◌, ◌∷◌, [], subst, sym, ap, ◌∙◌, Ok, rules, arith, All}
+use Rattle.std.proofs.lemmas.Grind.{common_steps}
 use Rattle.std.proofs.{lemmas.Int.{to_z-of_z}, lemmas.List.Elements.{All-push}, lemmas.Result.{err_from_is_err_and}}
 use Rattle.std.specs.Int.RustNames.{FitsSigned}
 use mir.Syntax.{w64}
@@ -45,3 +46,6 @@ returns-in_err-bonus c =
     let fails : Fails why total = breaks_off (λ n. within (top Bonus) 1 9) (λ z. z) why c.loop-number.bonuses.items c.args.numbers.now n (n + 1)
     (pos 0) total c.loop-number-test.true (subst (λ p. Fails why (within p 1 9 z)) c.top.ensures here) c.loop-number.invariant.so_far in
     record { gives = rw (e.1, e.2) fails; range = rw e.1 tt; count = rw e.1 tt }
+
+pub loop-number-init : goal.loop-number-init
+loop-number-init c = grind (arith, common_steps)
