@@ -26,3 +26,6 @@ returns c =
       | else-by_rank w ↦ ap (λ (v : Vec Seat). v.items) w.seats-is ∙ ap (λ (b : Bool). cond b (ranked seats) seats) (sym w.if-by_rank.false)
     ] in
     board_is g c.args.first seats moved c.args.by_rank _ c.requires.plain c.requires.once levels
+
+pub rank-requires-clause-ascending : goal.rank-requires-clause-ascending
+rank-requires-clause-ascending c = grind arith

@@ -1,3 +1,4 @@
+use Rattle.std.proofs.lemmas.Grind.{common_steps}
 use Rattle.std.proofs.{Common.{arith, ◌∙◌, List, ap, subst, sym}, lemmas.List.Elements.{All-push}}
 use Rattle.std.specs.{Global.{Vec}, List.{All}}
 use Rattle.gs_tree.specs.Trees.{rules_of}
@@ -18,3 +19,9 @@ loop-signal-preserved c =
 
 pub board_of-requires-clause-plain : goal.board_of-requires-clause-plain
 board_of-requires-clause-plain c = grind arith
+
+pub board_of-requires-clause-once : goal.board_of-requires-clause-once
+board_of-requires-clause-once c = grind (arith, common_steps)
+
+pub board_of-requires-clause-first_in : goal.board_of-requires-clause-first_in
+board_of-requires-clause-first_in c = grind arith

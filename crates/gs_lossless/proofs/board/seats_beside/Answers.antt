@@ -48,3 +48,6 @@ returns c =
 
 pub overflow_cast-signal-in-loop-signal-3 : goal.overflow_cast-signal-in-loop-signal-3
 overflow_cast-signal-in-loop-signal-3 c = grind arith
+
+pub offset_bounds-nexts-signal : goal.offset_bounds-nexts-signal
+offset_bounds-nexts-signal c = grind arith

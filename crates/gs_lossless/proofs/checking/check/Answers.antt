@@ -6,3 +6,6 @@ returns-in_err-first_unlike-clause-single c = grind arith
 
 pub returns-in_err-first_unlike-clause-refuted : goal.returns-in_err-first_unlike-clause-refuted
 returns-in_err-first_unlike-clause-refuted c = grind arith
+
+pub returns-clause-lossless : goal.returns-clause-lossless
+returns-clause-lossless c = grind arith

@@ -49,3 +49,6 @@ returns c =
     (here s (omega (arith, ls, count_last g p, c.count-end-2.ensures.value, ap (λ (k : ℕ). length (signals g k)) c.rounds-last.ensures.value))))
     (λ r s some lr ls. c.loop-round.invariant r some (omega (arith, lr, top)) s
     (omega (arith, ls, signal_count_is g r some (omega (arith, lr, last_round_of g)))))
+
+pub returns-then-is_some : goal.returns-then-is_some
+returns-then-is_some c = grind arith

@@ -1,3 +1,4 @@
+use Rattle.std.proofs.lemmas.Grind.{common_steps}
 use Rattle.std.proofs.{Common.{◌≡◌, ◌+◌, ℕ, List, [], ◌∷◌, ◌++◌, ap, length, map, sym, ◌∙◌, arith}, lemmas.List.FromFn.{map-range_with_len_more}}
 use Rattle.std.specs.List.{range_with_len}
 use Rattle.gs_model.specs.{Classes.{class_of}, Frame.{at_round, frame_of, last_round, signal_count}, Signals.{signals}}
@@ -38,3 +39,6 @@ returns c =
 
 pub class_of-requires-clause-top : goal.class_of-requires-clause-top
 class_of-requires-clause-top c = grind arith
+
+pub ancestor-requires-clause-in_range : goal.ancestor-requires-clause-in_range
+ancestor-requires-clause-in_range c = grind (arith, common_steps)

@@ -6,3 +6,6 @@ returns-in-Children c = grind (arith, common_steps)
 
 pub bounds-lists-from : goal.bounds-lists-from
 bounds-lists-from c = grind (arith, common_steps)
+
+pub returns-in-Deals : goal.returns-in-Deals
+returns-in-Deals c = grind arith

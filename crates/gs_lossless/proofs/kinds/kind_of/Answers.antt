@@ -40,3 +40,6 @@ returns-clause-list c = inr (record {
 
 pub returns-clause-kind : goal.returns-clause-kind
 returns-clause-kind c = grind arith
+
+pub returns-in-Some-clause-list : goal.returns-in-Some-clause-list
+returns-in-Some-clause-list c = grind arith

@@ -26,3 +26,6 @@ loop-place-preserved c =
 
 pub bounds-keys-seat : goal.bounds-keys-seat
 bounds-keys-seat c = grind arith
+
+pub returns : goal.returns
+returns c = grind arith

@@ -10,3 +10,6 @@ loop-n-preserved g c =
       empty = subst (All (λ (v : Vec g.row.T.Denot Global). v.items ≡ [])) (sym c.in_ok-push.ensures.items)
           (All-push (λ (v : Vec g.row.T.Denot Global). v.items ≡ []) lists c.new.result i.empty c.new.ensures.items);
     }
+
+pub loop-n-init : goal.loop-n-init
+loop-n-init g c = grind arith

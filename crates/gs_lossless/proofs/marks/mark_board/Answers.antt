@@ -1,4 +1,5 @@
 use Rattle.std.proofs.Common.{◌<◌, ℕ, List, arith, get_or, length, subst, sym}
+use Rattle.std.proofs.lemmas.Grind.{common_steps}
 use Rattle.gs_lossless.specs.{Boards.{seat_signals}, declared.board.Seat.{Seat}}
 use Rattle.gs_lossless.proofs.{Marked.{MayMark, may_none, may_seat}, Seats.{none}, marks.mark_board.Goals.{in-Some, in_default}}
 use Rattle.gs_lossless.proofs.marks.mark_board.Goals as goal
@@ -31,3 +32,9 @@ returns-clause-each c = c.loop-place.invariant.each
 
 pub bounds-marks-seats : goal.bounds-marks-seats
 bounds-marks-seats c = grind arith
+
+pub bounds-seats-place : goal.bounds-seats-place
+bounds-seats-place c = grind (arith, common_steps)
+
+pub offset_bounds-marks-seats : goal.offset_bounds-marks-seats
+offset_bounds-marks-seats c = grind arith

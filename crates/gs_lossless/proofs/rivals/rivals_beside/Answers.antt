@@ -52,3 +52,6 @@ returns c =
 
 pub overflow_cast-signal-in-loop-signal-4 : goal.overflow_cast-signal-in-loop-signal-4
 overflow_cast-signal-in-loop-signal-4 c = grind arith
+
+pub offset_bounds-nexts-signal : goal.offset_bounds-nexts-signal
+offset_bounds-nexts-signal c = grind arith

@@ -1,3 +1,4 @@
+use Rattle.std.proofs.lemmas.Grind.{common_steps}
 use Rattle.std.proofs.{Common.{arith, ◌∙◌, List, ap, subst, sym}, lemmas.List.Elements.{All-push}}
 use Rattle.std.specs.{Global.{Vec}, List.{All}}
 use Rattle.gs_tree.specs.Trees.{rules_of}
@@ -18,3 +19,15 @@ loop-signal-preserved c =
 
 pub table_at-requires-clause-plain : goal.table_at-requires-clause-plain
 table_at-requires-clause-plain c = grind arith
+
+pub table_at-requires-clause-once : goal.table_at-requires-clause-once
+table_at-requires-clause-once c = grind (arith, common_steps)
+
+pub returns : goal.returns
+returns c = grind (arith, common_steps)
+
+pub table_at-requires-clause-first_in : goal.table_at-requires-clause-first_in
+table_at-requires-clause-first_in c = grind arith
+
+pub table_at-requires-clause-keys : goal.table_at-requires-clause-keys
+table_at-requires-clause-keys c = grind arith

@@ -42,3 +42,6 @@ returns-clause-value c =
     let here : c.loop-at.at ≡ c.args.round = omega arith in
     sym ((tabled g p).itself c.args.round c.loop-at.place) ∙ ap (λ k. ancestor (frame_of g) k c.args.round c.loop-at.place) (sym here)
     ∙ c.loop-at.invariant.same
+
+pub returns-clause-within : goal.returns-clause-within
+returns-clause-within c = grind arith

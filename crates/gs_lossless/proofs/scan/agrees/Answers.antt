@@ -44,3 +44,6 @@ returns c =
         (λ a. c.are_same.ensures.1 (left ∙ same_if_agree f lists at.side at.round first signal _ _ before here (subst P (sym is) a) ∙ sym right)),
       );
     }
+
+pub class_of-class-requires-clause-some : goal.class_of-class-requires-clause-some
+class_of-class-requires-clause-some c = grind arith

@@ -118,3 +118,9 @@ returns c = grind arith
 
 pub class_of-requires-clause-some : goal.class_of-requires-clause-some
 class_of-requires-clause-some c = grind arith
+
+pub classes-requires-clause-top : goal.classes-requires-clause-top
+classes-requires-clause-top c = grind arith
+
+pub classes-requires-clause-some : goal.classes-requires-clause-some
+classes-requires-clause-some c = grind arith

@@ -1,4 +1,5 @@
 use Rattle.std.proofs.Common.{true, true≢false, ◌≡◌, ◌≤◌, ◌<◌, ◌∙◌, ℕ, Option, None, Some, length, sym, arith}
+use Rattle.std.proofs.lemmas.Grind.{common_steps}
 use Rattle.std.specs.Prelude.{IfOk, is_some}
 use Rattle.gs_model.specs.{Classes.{ClassLists, list_of}, Frame.{Frame, frame_of}}
 use Rattle.gs_model.proofs.Walked.{last_round_of}
@@ -41,3 +42,9 @@ returns c =
 
 pub apart_before-requires-2 : goal.apart_before-requires-2
 apart_before-requires-2 c = grind arith
+
+pub apart_before-requires : goal.apart_before-requires
+apart_before-requires c = grind (arith, common_steps)
+
+pub are_alone-requires-clause-some : goal.are_alone-requires-clause-some
+are_alone-requires-clause-some c = grind arith

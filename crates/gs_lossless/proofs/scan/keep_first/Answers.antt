@@ -1,3 +1,4 @@
+use Rattle.std.proofs.lemmas.Grind.{common_steps}
 use Rattle.std.proofs.{Common.{◌≡◌, ◌==◌, ◌∙◌, ◌-◌, ℕ, List, Vec, Global, ap, arith, length, refl, sym, subst, true≢false, ⊎_elim}, lemmas.List.{length-set}}
 use Rattle.gs_model.specs.Frame.{frame_of}
 use Rattle.gs_tree.specs.Trees.{rules_of}
@@ -44,3 +45,9 @@ returns c =
       first = kept_here f lists at.side at.round class kept fit c.requires.class.0 c.requires.within here;
       long = length-set kept (class - 1) fit;
     }
+
+pub first-requires-clause-top : goal.first-requires-clause-top
+first-requires-clause-top c = grind (arith, common_steps)
+
+pub first-requires-clause-some : goal.first-requires-clause-some
+first-requires-clause-some c = grind (arith, common_steps)

@@ -1,4 +1,5 @@
-use Rattle.std.proofs.Common.{◌≡◌, ◌∙◌, ap}
+use Rattle.std.proofs.Common.{◌≡◌, ◌∙◌, ap, arith}
+use Rattle.std.proofs.lemmas.Grind.{common_steps}
 use Rattle.gs_model.specs.Game.{Game}
 use Rattle.gs_game.specs.{declared.game.Game.{Game as Described}, declared.valid.ValidGame.{ValidGame}}
 use Rattle.gs_tree.specs.Trees.{rules_of}
@@ -12,3 +13,9 @@ tables_of-requires-clause-once c =
     ∙ ap (λ (x : Described). x.bonus.items) (c.game-then-is_plain.ensures ∙ ap (λ (x : ValidGame). x.game) c.game.ensures) in
     once_is g c.deref.result.now c.args.signals.now.strengths.items read (c.are_ones.ensures c.if-are_ones.true)
     c.args.signals.now.game.now.dealable.bonuses c.args.signals.now.strong c.args.signals.now.ranked
+
+pub tables_of-requires-clause-keys : goal.tables_of-requires-clause-keys
+tables_of-requires-clause-keys c = grind (arith, common_steps)
+
+pub returns-then-are_ones-clause-last : goal.returns-then-are_ones-clause-last
+returns-then-are_ones-clause-last c = grind (arith, common_steps)

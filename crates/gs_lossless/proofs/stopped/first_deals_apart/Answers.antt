@@ -1,4 +1,5 @@
 use Rattle.std.proofs.Common.{◌≡◌, ◌<◌, ◌≤◌, ℕ, List, Option, length, sym, ap, ◌∙◌, subst, arith}
+use Rattle.std.proofs.lemmas.Grind.{common_steps}
 use Rattle.std.specs.Prelude.{IfOk, IfSome}
 use Rattle.gs_filter.specs.Filter.{Filter}
 use Rattle.gs_game.specs.{Games.{game_of}, GoingOn.{StopsAfter}, declared.valid.ValidGame.{ValidGame}}
@@ -77,3 +78,9 @@ invariant_of-stopped c = grind arith
 
 pub stopped_classes-requires-clause-top : goal.stopped_classes-requires-clause-top
 stopped_classes-requires-clause-top c = grind arith
+
+pub invariant_of-seen : goal.invariant_of-seen
+invariant_of-seen c = grind (arith, common_steps)
+
+pub stopped-requires : goal.stopped-requires
+stopped-requires c = grind arith

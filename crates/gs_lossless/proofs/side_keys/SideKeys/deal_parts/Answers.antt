@@ -64,3 +64,6 @@ returns c =
     IfOk-weaker c.run_parts.result _ (λ v. ArePartsOf (frame_of g) lists at.side at.round c.args.signal v.items)
     (λ v e. of_deals at.signals.now lists at.side at.round c.args.signal keys v.items _ _ _ c.requires.side (c.deref-2.ensures.value ∙ at.are) by
     c.descendants-run.ensures e) c.run_parts.ensures
+
+pub descendants-run-requires-clause-some : goal.descendants-run-requires-clause-some
+descendants-run-requires-clause-some c = grind arith
