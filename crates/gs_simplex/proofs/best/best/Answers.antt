@@ -1,4 +1,5 @@
 use Rattle.std.proofs.Common.{◌≡◌, inl, inr, ℕ, ◌+◌, ◌<◌, List, slice_index, slice_index_or, ℤ, pos, neg_ℤ, ◌*ℤ◌, ◌<ℤ◌, refl, sym, ap, subst, ◌∙◌, arith}
+use Rattle.std.proofs.lemmas.Grind.{common_steps}
 use Rattle.std.specs.List.{HoldsAt}
 use Rattle.gs_frac.specs.declared.value.Fraction.{Fraction}
 use Rattle.gs_simplex.specs.{declared.program.Program.{Program}, Program.{Listing, IsPairList, IsRowsOf}, Table.{grid_of, table_aim, IsKept, IsTableOf}}
@@ -85,3 +86,6 @@ returns c =
             c.in_ok-value.value.items c.in_ok-price.price.items c.in_ok-value.ensures.values c.in_ok-price.ensures.prices,
       );
     }
+
+pub listed_rows-requires-clause-pairs : goal.listed_rows-requires-clause-pairs
+listed_rows-requires-clause-pairs c = grind (arith, common_steps)

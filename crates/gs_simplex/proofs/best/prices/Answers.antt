@@ -1,3 +1,4 @@
+use Rattle.std.proofs.Common.{arith}
 use Rattle.std.proofs.{Common.{◌≡◌, ◌+◌, length, neg_ℤ, ◌*ℤ◌, ap, ◌∙◌}, lemmas.List.{length_push}}
 use Rattle.gs_frac.specs.declared.value.Fraction.{Fraction}
 use Rattle.gs_simplex.specs.Table.{grid_of, table_aim}
@@ -12,3 +13,9 @@ loop-j-preserved c =
       done = pushed_all (λ k (f : Fraction). f.num *ℤ table_aim p grid (p.cols + 1) ≡ neg_ℤ (table_aim p grid k) *ℤ f.den) c.loop-j.price.items
           c.push.new.self.items c.price_at.result c.loop-j.j c.in_ok-push.ensures.items v.long v.done c.price_at.ensures;
     }
+
+pub price_at-requires-clause-column : goal.price_at-requires-clause-column
+price_at-requires-clause-column c = grind arith
+
+pub returns-clause-prices : goal.returns-clause-prices
+returns-clause-prices c = grind arith

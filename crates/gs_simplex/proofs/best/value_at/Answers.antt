@@ -29,3 +29,6 @@ new-requires-2-clause-positive c =
     let own : to_z w128 (of_z w128 c.from-2.result) ≡ grid i c.args.j = widened x c.from-2.result c.number_at-own.ensures.narrow c.from-2.ensures
     ∙ c.number_at-own.ensures.value in
     let P : ℤ → Type 0 = λ z. pos 0 <ℤ z in subst P (sym own) (c.requires.row.inside i e).1
+
+pub number_at-own-requires-clause-row : goal.number_at-own-requires-clause-row
+number_at-own-requires-clause-row c = grind arith

@@ -1,3 +1,4 @@
+use Rattle.std.proofs.Common.{arith}
 use Rattle.std.proofs.{Common.{◌+◌, length, slice_index, ap, ◌∙◌}, lemmas.List.{length_push}}
 use Rattle.gs_frac.specs.declared.value.Fraction.{Fraction}
 use Rattle.gs_simplex.specs.{Table.{grid_of}, Values.{IsColumnValue}}
@@ -13,3 +14,6 @@ loop-j-preserved c =
       done = pushed_all (λ k (f : Fraction). IsColumnValue p grid (slice_index c.args.rows.now k) k f) xs c.push.new.self.items c.value_at.result c.loop-j.j
           items v.long v.done c.value_at.ensures;
     }
+
+pub returns-clause-values : goal.returns-clause-values
+returns-clause-values c = grind arith

@@ -28,3 +28,12 @@ returns c =
 
 pub ratio_at-requires-clause-shaped : goal.ratio_at-requires-clause-shaped
 ratio_at-requires-clause-shaped c = c.requires.shaped
+
+pub better-best-requires-clause-best : goal.better-best-requires-clause-best
+better-best-requires-clause-best c = grind arith
+
+pub loop-place-init : goal.loop-place-init
+loop-place-init c = grind arith
+
+pub better-best-requires-clause-next : goal.better-best-requires-clause-next
+better-best-requires-clause-next c = grind arith

@@ -1,3 +1,4 @@
+use Rattle.std.proofs.lemmas.Grind.{common_steps}
 use Rattle.std.proofs.{Common.{◌≡◌, ℕ, ◌+◌, ◌-◌, ◌*◌, ◌<◌, slice_index, get_or, vec_len, ℤ, pos, sym, ap, subst, ◌∙◌, arith}, lemmas.List.{get_or_read}}
 use Rattle.gs_simplex.specs.{declared.program.Program.{Program}, declared.table.Table.{Table}, Rows.{IsNarrow}}
 use Rattle.gs_simplex.specs.{Numbers.{at, cell}, Columns.{place_in, at_place}, Table.{grid_of, IsHeld}}
@@ -80,3 +81,12 @@ returns-then-stand-i-clause-value c =
     ∙ place_own p.rows w c.index.result.now c.args.i c.if-stand-rows.false c.if-stand-i.true in
     kept_64 x (read_narrow p t c.requires.table c.args.i 0 (c.args.i * c.len.result) x c.requires.row some is c.index-then-stand-i.ensures)
     ∙ read_grid p t c.requires.table c.args.i 0 (c.args.i * c.len.result) x c.requires.row some is c.index-then-stand-i.ensures c.args.j e
+
+pub index-requires-then-stand-i : goal.index-requires-then-stand-i
+index-requires-then-stand-i c = grind (arith, common_steps)
+
+pub overflow_mul-start : goal.overflow_mul-start
+overflow_mul-start c = grind arith
+
+pub overflow_add-start : goal.overflow_add-start
+overflow_add-start c = grind arith

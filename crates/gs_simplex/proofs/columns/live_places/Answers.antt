@@ -23,3 +23,6 @@ loop-j-preserved c =
 
 pub loop-j-init : goal.loop-j-init
 loop-j-init c = grind (arith, common_steps)
+
+pub returns : goal.returns
+returns c = grind (arith, common_steps)

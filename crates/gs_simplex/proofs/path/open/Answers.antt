@@ -48,3 +48,6 @@ loop-step-preserved c =
 
 pub returns : goal.returns
 returns c = grind (arith, elements)
+
+pub list-requires-clause-table : goal.list-requires-clause-table
+list-requires-clause-table c = grind arith

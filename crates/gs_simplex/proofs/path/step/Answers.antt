@@ -63,3 +63,15 @@ choose-requires-clause-shaped c = c.requires.shaped
 
 pub pivot-requires-clause-table : goal.pivot-requires-clause-table
 pivot-requires-clause-table c = c.requires.state.table
+
+pub wide_stop-requires-clause-row : goal.wide_stop-requires-clause-row
+wide_stop-requires-clause-row c = grind arith
+
+pub wide_stop-requires-clause-small_rows : goal.wide_stop-requires-clause-small_rows
+wide_stop-requires-clause-small_rows c = grind arith
+
+pub wide_stop-requires-clause-small_cols : goal.wide_stop-requires-clause-small_cols
+wide_stop-requires-clause-small_cols c = grind arith
+
+pub wide_stop-requires-clause-column : goal.wide_stop-requires-clause-column
+wide_stop-requires-clause-column c = grind arith

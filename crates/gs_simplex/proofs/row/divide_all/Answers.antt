@@ -57,3 +57,9 @@ guessed_quotient-requires-clause-narrow c = grind (arith, common_steps)
 
 pub bounds-row-j : goal.bounds-row-j
 bounds-row-j c = grind (arith, common_steps)
+
+pub slice_copy_out-guessed_quotient : goal.slice_copy_out-guessed_quotient
+slice_copy_out-guessed_quotient c = grind arith
+
+pub guessed_quotient-requires-clause-same : goal.guessed_quotient-requires-clause-same
+guessed_quotient-requires-clause-same c = grind arith

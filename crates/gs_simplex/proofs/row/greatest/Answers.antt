@@ -11,3 +11,6 @@ returns c =
 
 pub loop-k-preserved : goal.loop-k-preserved
 loop-k-preserved c = grind arith
+
+pub bounds-row-places : goal.bounds-row-places
+bounds-row-places c = grind arith

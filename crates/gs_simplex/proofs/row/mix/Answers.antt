@@ -43,3 +43,9 @@ mixed_number-requires-clause-narrow_y c = grind (arith, common_steps)
 
 pub mixed_number-requires-clause-narrow_x : goal.mixed_number-requires-clause-narrow_x
 mixed_number-requires-clause-narrow_x c = grind (arith, common_steps)
+
+pub mixed_number-requires-clause-narrow_far : goal.mixed_number-requires-clause-narrow_far
+mixed_number-requires-clause-narrow_far c = grind arith
+
+pub mixed_number-requires-clause-narrow_own : goal.mixed_number-requires-clause-narrow_own
+mixed_number-requires-clause-narrow_own c = grind arith

@@ -75,3 +75,9 @@ returns-clause-narrow c =
 
 pub bounds-row-j : goal.bounds-row-j
 bounds-row-j c = grind (arith, common_steps)
+
+pub slice_copy_out-narrow_mixed_number : goal.slice_copy_out-narrow_mixed_number
+slice_copy_out-narrow_mixed_number c = grind arith
+
+pub bounds-lead-j : goal.bounds-lead-j
+bounds-lead-j c = grind arith

@@ -78,3 +78,6 @@ returns c =
 
 pub narrow_common_divisor-common-requires-clause-narrow : goal.narrow_common_divisor-common-requires-clause-narrow
 narrow_common_divisor-common-requires-clause-narrow c = grind (arith, common_steps)
+
+pub bounds-row-places : goal.bounds-row-places
+bounds-row-places c = grind arith

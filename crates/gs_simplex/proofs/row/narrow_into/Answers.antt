@@ -55,3 +55,12 @@ loop-j-preserved c =
     (quotient_at c.args.by c.args.mixed.now c.loop-j.j c.quotient-number.result (c.requires.within c.loop-j.j c.loop-j-test.true)
     c.quotient-number.ensures.value) c.quotient-number.ensures.small_result
     c.unsigned_abs.ensures.value (omega arith) c.loop-j.invariant
+
+pub returns : goal.returns
+returns c = grind arith
+
+pub overflow_cast-row : goal.overflow_cast-row
+overflow_cast-row c = grind arith
+
+pub quotient-number-requires-clause-within : goal.quotient-number-requires-clause-within
+quotient-number-requires-clause-within c = grind arith

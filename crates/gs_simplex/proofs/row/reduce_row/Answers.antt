@@ -208,3 +208,9 @@ mix-requires-clause-same_length c = grind (arith, common_steps)
 
 pub narrow_into-requires-clause-room : goal.narrow_into-requires-clause-room
 narrow_into-requires-clause-room c = grind (arith, common_steps)
+
+pub lessen-requires-clause-some : goal.lessen-requires-clause-some
+lessen-requires-clause-some c = grind (arith, common_steps)
+
+pub narrow_into-requires-clause-some : goal.narrow_into-requires-clause-some
+narrow_into-requires-clause-some c = grind arith

@@ -6,3 +6,6 @@ overflow_add-result c = grind (arith, common_steps)
 
 pub returns : goal.returns
 returns c = grind (arith, common_steps)
+
+pub overflow_mul-second : goal.overflow_mul-second
+overflow_mul-second c = grind arith

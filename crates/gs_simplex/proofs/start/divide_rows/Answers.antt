@@ -21,3 +21,18 @@ loop-i-preserved c =
       left = rows_left old now new c.args.width c.loop-i.i c.divide_at.ensures.others v.left;
       narrow = c.divide_at.ensures.narrow;
     }
+
+pub divide_at-requires-clause-narrow : goal.divide_at-requires-clause-narrow
+divide_at-requires-clause-narrow c = grind arith
+
+pub divide_at-requires-clause-inside : goal.divide_at-requires-clause-inside
+divide_at-requires-clause-inside c = grind arith
+
+pub loop-i-init : goal.loop-i-init
+loop-i-init c = grind arith
+
+pub overflow_mul-i : goal.overflow_mul-i
+overflow_mul-i c = grind arith
+
+pub returns-clause-narrow : goal.returns-clause-narrow
+returns-clause-narrow c = grind arith

@@ -1,3 +1,4 @@
+use Rattle.std.proofs.lemmas.Grind.{common_steps}
 use Rattle.std.proofs.{Common.{◌≡◌, ℕ, ◌+◌, ◌<◌, List, length, drop, slice_index, ℤ, sym, ap, subst, ◌∙◌, arith}, lemmas.List.{take_at}}
 use Rattle.gs_simplex.specs.{Numbers.{at}, Columns.{IsNoted}, State.{AreOnly}}
 use Rattle.gs_simplex.proofs.Slots.{only_more}
@@ -24,3 +25,9 @@ loop-i-preserved c =
 
 pub full_row-requires-clause-shaped : goal.full_row-requires-clause-shaped
 full_row-requires-clause-shaped c = c.requires.shaped
+
+pub loop-i-init : goal.loop-i-init
+loop-i-init c = grind (arith, common_steps)
+
+pub full_row-requires-clause-row : goal.full_row-requires-clause-row
+full_row-requires-clause-row c = grind arith

@@ -24,3 +24,9 @@ loop-j-preserved c =
           subst P (sym x.part-is) (set_none m n s i j (at row) part k c.place_of-place.ensures c.loop-j.invariant x.if-place-part.false
           (c.requires.apart j jn (subst B c.loop-j.auto.part out))))
     ])
+
+pub returns : goal.returns
+returns c = grind arith
+
+pub loop-j-init : goal.loop-j-init
+loop-j-init c = grind arith

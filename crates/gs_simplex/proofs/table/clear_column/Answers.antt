@@ -117,3 +117,12 @@ loop-i-init c = grind (arith, common_steps)
 
 pub reduce_at-requires-clause-narrow : goal.reduce_at-requires-clause-narrow
 reduce_at-requires-clause-narrow c = grind (arith, common_steps)
+
+pub bounds-tops-i-in-Ok : goal.bounds-tops-i-in-Ok
+bounds-tops-i-in-Ok c = grind (arith, common_steps)
+
+pub reduce_at-requires-clause-room : goal.reduce_at-requires-clause-room
+reduce_at-requires-clause-room c = grind arith
+
+pub bounds-tops-i-in-loop-i : goal.bounds-tops-i-in-loop-i
+bounds-tops-i-in-loop-i c = grind arith

@@ -93,3 +93,12 @@ returns-clause-answer c =
 
 pub free_slot-requires-clause-narrow : goal.free_slot-requires-clause-narrow
 free_slot-requires-clause-narrow c = grind (arith, common_steps)
+
+pub reduce_row-requires-clause-room : goal.reduce_row-requires-clause-room
+reduce_row-requires-clause-room c = grind arith
+
+pub reduce_row-requires-clause-narrow : goal.reduce_row-requires-clause-narrow
+reduce_row-requires-clause-narrow c = grind arith
+
+pub reduce_row-requires-clause-long : goal.reduce_row-requires-clause-long
+reduce_row-requires-clause-long c = grind arith

@@ -67,3 +67,9 @@ returns-clause-narrow c = λ k h.
 
 pub free_own-requires-clause-narrow : goal.free_own-requires-clause-narrow
 free_own-requires-clause-narrow c = grind (arith, common_steps)
+
+pub take_row-requires-clause-room : goal.take_row-requires-clause-room
+take_row-requires-clause-room c = grind arith
+
+pub take_row-requires-clause-long : goal.take_row-requires-clause-long
+take_row-requires-clause-long c = grind arith

@@ -1,4 +1,4 @@
-use Rattle.std.proofs.Common.{ℕ, length, subst}
+use Rattle.std.proofs.Common.{ℕ, length, subst, arith}
 use Rattle.gs_simplex.specs.{Support.{IsSupport}, Numbers.{at, IsDivided}}
 use Rattle.gs_simplex.proofs.{Supports.{support_divided}, Places.{lead_of}, table.take_row.Goals.{After-divide_row}}
 use Rattle.gs_simplex.proofs.table.take_row.Goals as goal
@@ -18,3 +18,15 @@ returns-clause-support c =
     let P : ℕ → Type 0 = λ w. IsSupport c.fill-count.new.filled c.fill-count.result w mid mid in
     support_divided c.fill-count.new.filled c.fill-count.result (length c.args.row.now) mid (at c.divide_row.new.row)
     (subst P c.turn_row.auto.row c.fill-count.ensures) (divided (goal.at.returns-clause-support c).After-divide_row)
+
+pub copy_from_slice-requires : goal.copy_from_slice-requires
+copy_from_slice-requires c = grind arith
+
+pub fill-count-requires-clause-narrow : goal.fill-count-requires-clause-narrow
+fill-count-requires-clause-narrow c = grind arith
+
+pub divide_row-requires-clause-narrow : goal.divide_row-requires-clause-narrow
+divide_row-requires-clause-narrow c = grind arith
+
+pub returns-clause-narrow : goal.returns-clause-narrow
+returns-clause-narrow c = grind arith

@@ -64,3 +64,9 @@ returns c = grind arith
 
 pub replace-requires : goal.replace-requires
 replace-requires c = grind arith
+
+pub bounds-turns-place : goal.bounds-turns-place
+bounds-turns-place c = grind arith
+
+pub offset_bounds-turns-place : goal.offset_bounds-turns-place
+offset_bounds-turns-place c = grind arith

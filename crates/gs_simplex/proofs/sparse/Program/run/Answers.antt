@@ -53,3 +53,9 @@ best-requires-clause-pairs c = grind (arith, common_steps)
 
 pub follow-requires : goal.follow-requires
 follow-requires c = grind arith
+
+pub begin-requires-clause-shaped : goal.begin-requires-clause-shaped
+begin-requires-clause-shaped c = grind arith
+
+pub best-requires-clause-small_rows : goal.best-requires-clause-small_rows
+best-requires-clause-small_rows c = grind arith

@@ -264,3 +264,15 @@ slice_bounds-live-end c =
     let g = goal.at.slice_bounds-live-end c in
     sym (length-take-le c.live_places-found.result c.deref-2.result.now
     (omega (arith, c.deref-2.ensures.len, live_len g.After-live_places-found, c.live_places-found.ensures.few)))
+
+pub clear-requires-clause-small : goal.clear-requires-clause-small
+clear-requires-clause-small c = grind arith
+
+pub first_wide-requires-clause-some : goal.first_wide-requires-clause-some
+first_wide-requires-clause-some c = grind arith
+
+pub first_wide-requires-clause-small : goal.first_wide-requires-clause-small
+first_wide-requires-clause-small c = grind arith
+
+pub clear-requires-clause-room : goal.clear-requires-clause-room
+clear-requires-clause-room c = grind arith

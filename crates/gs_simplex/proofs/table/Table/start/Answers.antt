@@ -1,4 +1,5 @@
 use Rattle.std.proofs.Common.{◌≡◌, ℕ, ◌+◌, ◌*◌, ◌<◌, ◌≤◌, List, ◌^◌, ℤ, pos, length, slice_index, drop, sym, ap, subst, ◌∙◌, arith}
+use Rattle.std.proofs.lemmas.Grind.{common_steps}
 use Rattle.std.proofs.{lemmas.List.{take_at, get_or-replicate, length-replicate}, Math.Nat.{le-mul_of_pos_right, mul-le-mul_left}}
 use Rattle.std.specs.Vec.{with_items}
 use Rattle.gs_simplex.specs.{Numbers.{AreNarrowNumbers}, State.{raw, AreRaw}, Columns.{place_in, AreStands, AreSlots}}
@@ -107,3 +108,12 @@ divide_rows-requires-clause-room c = c.deref_mut-3.ensures.len ∙ c.in_ok-vec-3
 
 pub only_rows-requires-clause-shaped : goal.only_rows-requires-clause-shaped
 only_rows-requires-clause-shaped c = c.requires.shaped
+
+pub overflow_add-p : goal.overflow_add-p
+overflow_add-p c = grind (arith, common_steps)
+
+pub divide_rows-requires-clause-some : goal.divide_rows-requires-clause-some
+divide_rows-requires-clause-some c = grind arith
+
+pub overflow_add-width : goal.overflow_add-width
+overflow_add-width c = grind arith
