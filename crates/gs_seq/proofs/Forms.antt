@@ -67,6 +67,12 @@ pub form_reads : (a : Abstract) (game : ValidGame) (ps : List StoredPoint) (q : 
     → q < point_count (abstract_frame a) → p ≡ get_or ps q p → Reads (abstract_frame a) q p
 form_reads a game ps q p e points l is = point_reads (game_in a) ps q p (points ∙ ap (λ (v : ValidGame). map own_point (frame_in v).points) e) l is
 
+-- the points of the game are as many as the frame's
+pub form_inside : (a : Abstract) (game : ValidGame) (ps : List StoredPoint) (q : ℕ) → game ≡ game_in a → map point_of ps ≡ map own_point (frame_in game).points
+    → q < point_count (abstract_frame a) → q < length ps
+form_inside a game ps q e points l =
+    omega (arith, length-points (game_in a) ps (points ∙ ap (λ (v : ValidGame). map own_point (frame_in v).points) e), l)
+
 -- where a stored move leads
 leads_is : (a : Abstract) (q : ℕ) (p : StoredPoint) (m : ℕ) (x : StoredArrow) → point_of p ≡ own_point (point (abstract_frame a) q) → m < length p.moves.items
     → x ≡ get_or p.moves.items m x

@@ -54,13 +54,18 @@ rows_slim g c e rows are i d l j b m =
         }
 
 -- those of a round are those of its classes
+pub wholes_long : (rows : List (Vec (Vec Pair Global) Global)) (wholes : List (Vec Pair Global)) → AreWholes rows wholes → length wholes ≡ length rows
+wholes_long rows wholes is =
+    sym (length-map wholes (λ (v : Vec Pair Global). v.items)) ∙ ap length is
+    ∙ length-map rows (λ (v : Vec (Vec Pair Global) Global). map (λ (r : Vec Pair Global). whole_row r.items) v.items)
+
 pub wholes_in_round : (f : Frame) (lists : ClassLists) (rows : List (Vec (Vec Pair Global) Global)) (wholes : List (Vec Pair Global)) → AreRows f lists rows
     → AreWholes rows wholes → (round : ℕ) (d : Vec Pair Global) → 0 < round → round ≤ length rows
     → AreWholesIn f lists round (get_or wholes (round - 1) d).items
 wholes_in_round f lists rows wholes are is round d some top =
     let items : Vec Pair Global → List Pair = λ v. v.items in
     let wholes_of : Vec (Vec Pair Global) Global → List Pair = λ v. map (λ (r : Vec Pair Global). whole_row r.items) v.items in
-    let long : length wholes ≡ length rows = sym (length-map wholes items) ∙ ap length is ∙ length-map rows wholes_of in
+    let long : length wholes ≡ length rows = wholes_long rows wholes is in
     let b : Vec (Vec Pair Global) Global = some_item rows (omega (arith, long, some, top)) in
     let own : List (Vec Pair Global) = (get_or rows (round - 1) b).items in
     let here : (get_or wholes (round - 1) d).items ≡ map (λ (r : Vec Pair Global). whole_row r.items) own =

@@ -34,3 +34,6 @@ invariant_of-at c = grind arith
 
 pub rows_in-requires-clause-lossless : goal.rows_in-requires-clause-lossless
 rows_in-requires-clause-lossless c = grind arith
+
+pub returns-in-Some-2 : goal.returns-in-Some-2
+returns-in-Some-2 c = grind arith

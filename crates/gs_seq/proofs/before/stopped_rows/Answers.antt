@@ -27,3 +27,6 @@ loop-before-preserved c =
 
 pub row_by-requires-clause-signals : goal.row_by-requires-clause-signals
 row_by-requires-clause-signals c = c.requires.signals
+
+pub returns : goal.returns
+returns c = grind arith

@@ -15,3 +15,6 @@ loop-before-preserved c =
     below_more f c.args.round n c.loop-before.below.items c.index_mut.result.now c.push.new.self above c.loop-before.invariant own
     (up_is f c.args.round (n + 1) above c.requires.some c.requires.before_last h c.parent_class-above.ensures.value)
     c.index_mut.ensures.value c.in_ok-push.ensures.items
+
+pub index_mut-requires : goal.index_mut-requires
+index_mut-requires c = grind arith

@@ -1,4 +1,7 @@
-use Rattle.std.proofs.{Common.{arith}, lemmas.Grind.{common_steps}}
+use Rattle.std.proofs.{Common.{◌≡◌, ◌+◌, ◌-◌, ◌∙◌, Vec, [], ap, arith, get_or, subst, sym}, lemmas.{Grind.{common_steps}, List.{get_or-map}}}
+use Rattle.std.specs.{declared.alloc.Global.{Global}, Prelude.{All}}
+use Rattle.gs_model.specs.Classes.{IsClass}
+use Rattle.gs_seq.specs.{Rows.{row_at}, declared.pair.Pair.{Pair}}
 use Rattle.gs_seq.proofs.earlier.parts_above.Goals as goal
 
 pub loop-class-preserved : goal.loop-class-preserved
@@ -6,3 +9,18 @@ loop-class-preserved c = grind (arith, common_steps)
 
 pub returns : goal.returns
 returns c = grind (arith, common_steps)
+
+pub overflow_sub-class : goal.overflow_sub-class
+overflow_sub-class c = grind arith
+
+pub bounds-rows-class : goal.bounds-rows-class
+bounds-rows-class c = grind arith
+
+pub push_above-requires-clause-classes : goal.push_above-requires-clause-classes
+push_above-requires-clause-classes c =
+    let k = get_or c.args.below.now c.loop-class.class-index 0 in
+    let pairs = c.requires.below c.loop-class.class-index 0 c.loop-class-test.true in
+    let here : row_at c.args.rows.now k ≡ c.deref.result.now =
+    get_or-map (λ (v : Vec Pair Global). v.items) c.args.rows.now (k - 1) c.index-rows-class.result [] (omega (arith, pairs.some, pairs.top))
+    ∙ ap (λ (v : Vec Pair Global). v.items) (sym c.index-rows-class.is) ∙ sym c.deref.ensures.value in
+    subst (All (λ (p : Pair). IsClass c.args.classes.now.lists (c.args.round + 1) p.two)) here pairs.classes

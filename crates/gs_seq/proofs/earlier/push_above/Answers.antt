@@ -18,3 +18,6 @@ loop-pair-preserved c =
 pub returns : goal.returns
 returns c = c.loop-pair.invariant ∙ ap (λ xs. c.args.parts.now.items ++ map (part_up c.args.classes.now c.args.round) xs)
     (take_all c.loop-pair.pair-index c.args.row.now (omega (arith, c.loop-pair-test.false)))
+
+pub part_above-requires-clause-class : goal.part_above-requires-clause-class
+part_above-requires-clause-class c = grind arith

@@ -63,3 +63,6 @@ returns c =
     (IsNonDecreasingBy-from_sort_by_key (λ (p : Part). p.class) _ c.sort_unstable_by_key.ensures.sorted (λ a r q k. search rules)) in
     if_ok c.row_of.result (λ v. v.items ≡ gathered 1 c.deref.result.now) (λ v. IsRow (frame_in g) f.lists c.args.round c.args.class v.items)
     (λ v e. subst (IsRow (frame_in g) f.lists c.args.round c.args.class) (sym (e ∙ ap (gathered 1) c.deref.ensures.value)) row) c.row_of.ensures
+
+pub parts_above-requires-clause-before_last : goal.parts_above-requires-clause-before_last
+parts_above-requires-clause-before_last c = grind arith

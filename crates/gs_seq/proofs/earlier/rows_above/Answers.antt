@@ -26,3 +26,21 @@ loop-before-preserved c =
           c.in_ok-row.row c.loop-before.before c.in_ok-push.ensures.items
           (sym above.ok.0 ∙ c.loop-before.invariant.long) c.loop-before.invariant.row c.in_ok-row.ensures;
     }
+
+pub classes-count-requires-clause-top : goal.classes-count-requires-clause-top
+classes-count-requires-clause-top c = grind arith
+
+pub classes_below-requires-clause-before_last : goal.classes_below-requires-clause-before_last
+classes_below-requires-clause-before_last c = grind arith
+
+pub row_above-requires-clause-rows : goal.row_above-requires-clause-rows
+row_above-requires-clause-rows c = grind arith
+
+pub row_above-requires-clause-some : goal.row_above-requires-clause-some
+row_above-requires-clause-some c = grind arith
+
+pub row_above-requires-clause-class : goal.row_above-requires-clause-class
+row_above-requires-clause-class c = grind arith
+
+pub returns : goal.returns
+returns c = grind arith

@@ -79,3 +79,9 @@ bounds-points-point c = grind (arith, common_steps)
 
 pub put_first-requires-clause-clear : goal.put_first-requires-clause-clear
 put_first-requires-clause-clear c = grind arith
+
+pub put_first-requires-clause-offsets : goal.put_first-requires-clause-offsets
+put_first-requires-clause-offsets c = grind arith
+
+pub put_first-requires-clause-in_range : goal.put_first-requires-clause-in_range
+put_first-requires-clause-in_range c = grind arith

@@ -156,3 +156,9 @@ returns-clause-clear c =
 
 pub bounds-points-point : goal.bounds-points-point
 bounds-points-point c = omega (arith, c.requires.in_range, length-points c.args.game.now c.points.result.now c.points.ensures)
+
+pub loop-before-init : goal.loop-before-init
+loop-before-init c = grind arith
+
+pub returns-clause-kept : goal.returns-clause-kept
+returns-clause-kept c = grind arith

@@ -62,3 +62,6 @@ bounds-points-point-in-loop-point c = grind (arith, common_steps)
 
 pub bounds-points-point : goal.bounds-points-point
 bounds-points-point c = grind (arith, common_steps)
+
+pub returns : goal.returns
+returns c = grind arith

@@ -116,3 +116,6 @@ returns c =
 
 pub bounds-points-point : goal.bounds-points-point
 bounds-points-point c = grind (arith, common_steps)
+
+pub overflow_add-result : goal.overflow_add-result
+overflow_add-result c = grind arith

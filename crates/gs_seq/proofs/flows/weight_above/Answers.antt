@@ -10,3 +10,15 @@ overflow_mul-slot c = omega (arith, few (goal.at.overflow_mul-slot c).After-from
 
 pub overflow_add-slot : goal.overflow_add-slot
 overflow_add-slot c = omega (arith, few (goal.at.overflow_add-slot c).After-from)
+
+pub bounds-weights-slot : goal.bounds-weights-slot
+bounds-weights-slot c = grind arith
+
+pub overflow_add-slot-2 : goal.overflow_add-slot-2
+overflow_add-slot-2 c = grind arith
+
+pub returns : goal.returns
+returns c = grind arith
+
+pub offset_bounds-weights-slot : goal.offset_bounds-weights-slot
+offset_bounds-weights-slot c = grind arith

@@ -9,3 +9,9 @@ swapped n w o = nat_scale w n o ∙ ap (λ k. pos k *ℤ o) (omega arith) ∙ sy
 
 pub returns-in-Show : goal.returns-in-Show
 returns-in-Show c = λ (d : Deal). let is = c.in-Show.is in rw is (swapped c.args.end.put d.weight d.outcome)
+
+pub overflow_sub-result : goal.overflow_sub-result
+overflow_sub-result c = grind arith
+
+pub returns-else-player-folder : goal.returns-else-player-folder
+returns-else-player-folder c = grind arith

@@ -9,3 +9,6 @@ returns-in-Show c = grind (arith, common_steps)
 
 pub overflow_mul-result : goal.overflow_mul-result
 overflow_mul-result c = grind (arith, common_steps)
+
+pub overflow_sub-stake : goal.overflow_sub-stake
+overflow_sub-stake c = grind arith

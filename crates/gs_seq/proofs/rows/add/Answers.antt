@@ -35,3 +35,6 @@ returns-then-last-pair-clause-moderate c = grind (arith, common_steps)
 
 pub returns-clause-moderate : goal.returns-clause-moderate
 returns-clause-moderate c = grind arith
+
+pub joined-requires-clause-pair : goal.joined-requires-clause-pair
+joined-requires-clause-pair c = grind arith

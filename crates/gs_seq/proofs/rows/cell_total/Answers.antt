@@ -1,4 +1,4 @@
-use Rattle.std.proofs.Common.{◌≡◌, ap, sym, ◌∙◌, subst}
+use Rattle.std.proofs.Common.{◌≡◌, ap, sym, ◌∙◌, subst, arith}
 use Rattle.std.specs.Prelude.{IfOk}
 use Rattle.gs_game.specs.declared.valid.ValidGame.{ValidGame}
 use Rattle.gs_model.specs.Frame.{last_round}
@@ -27,3 +27,6 @@ cells-requires-clause-rows c =
 
 pub returns : goal.returns
 returns c = subst (λ (x : ValidGame). IfOk c.cells.result (λ n. n ≡ cell_count (frame_in x) c.args.classes.now.lists)) c.game.ensures c.cells.ensures
+
+pub known-lossless-requires-clause-lossless : goal.known-lossless-requires-clause-lossless
+known-lossless-requires-clause-lossless c = grind arith

@@ -42,3 +42,9 @@ returns c =
     (c.from.ensures ∙ c.size-members.ensures) sums (amounts (goal.at.returns c).After-deref) c.first-first.ensures.within c.first-first.ensures.member in
     if_ok c.row_of.result (λ v. v.items ≡ gathered c.from.result sums) (λ v. IsRow f lists at.round c.args.class v.items)
     (λ v e. subst (IsRow f lists at.round c.args.class) (sym e) row) c.row_of.ensures
+
+pub size-members-requires-clause-some : goal.size-members-requires-clause-some
+size-members-requires-clause-some c = grind arith
+
+pub size-members-requires-clause-top : goal.size-members-requires-clause-top
+size-members-requires-clause-top c = grind arith

@@ -20,3 +20,6 @@ loop-before-preserved c =
 
 pub class_row-requires-clause-lossless : goal.class_row-requires-clause-lossless
 class_row-requires-clause-lossless c = grind arith
+
+pub returns : goal.returns
+returns c = grind arith

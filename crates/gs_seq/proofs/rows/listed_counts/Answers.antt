@@ -6,3 +6,6 @@ loop-in_round-preserved c = grind (arith, common_steps)
 
 pub returns : goal.returns
 returns c = grind (arith, common_steps)
+
+pub pairs_in-requires : goal.pairs_in-requires
+pairs_in-requires c = grind arith

@@ -31,3 +31,6 @@ pair_from-requires c =
 
 pub returns : goal.returns
 returns c = grind (arith, common_steps)
+
+pub add-requires-clause-moderate : goal.add-requires-clause-moderate
+add-requires-clause-moderate c = grind arith

@@ -86,3 +86,9 @@ returns-clause-rows c =
 
 pub rows_in-requires-clause-parents : goal.rows_in-requires-clause-parents
 rows_in-requires-clause-parents c = grind (arith, common_steps)
+
+pub rows_above-requires-clause-some : goal.rows_above-requires-clause-some
+rows_above-requires-clause-some c = grind arith
+
+pub overflow_step-round : goal.overflow_step-round
+overflow_step-round c = grind arith

@@ -15,3 +15,9 @@ returns-then-made-clause-rows c =
           subst (λ j. AreRowsIn (frame_in s.signals.now.game.now) s.classes.now.lists j (get_or rows (round - 1) d).items) back
           (c.in_ok-rows.ensures.rows (round - 1) d (omega (arith, some, within))));
     }
+
+pub returns-then-made-clause-all : goal.returns-then-made-clause-all
+returns-then-made-clause-all c = grind arith
+
+pub returns-clause-all : goal.returns-clause-all
+returns-clause-all c = grind arith

@@ -6,3 +6,6 @@ loop-row-preserved c = grind (arith, common_steps)
 
 pub returns : goal.returns
 returns c = grind (arith, common_steps)
+
+pub whole_of-requires : goal.whole_of-requires
+whole_of-requires c = grind arith

@@ -6,3 +6,6 @@ loop-in_round-preserved c = grind (arith, common_steps)
 
 pub returns : goal.returns
 returns c = grind (arith, common_steps)
+
+pub wholes_in-requires : goal.wholes_in-requires
+wholes_in-requires c = grind arith

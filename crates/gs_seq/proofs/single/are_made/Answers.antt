@@ -16,3 +16,6 @@ returns-then-is_large c =
     let last : c.rounds.result ≡ last_round (frame_in c.args.signals.now.game.now) = c.rounds.ensures.value
     ∙ sym (last_round_of (rules_of c.args.signals.now)) in
     λ t. subst (IsSingleIn c.args.classes.now.lists) last (c.is_single.ensures t)
+
+pub returns-else-is_large : goal.returns-else-is_large
+returns-else-is_large c = grind arith

@@ -91,3 +91,9 @@ bounds-points-point-in-loop-point c = grind (arith, common_steps)
 
 pub bounds-points-point : goal.bounds-points-point
 bounds-points-point c = grind (arith, common_steps)
+
+pub slots_at-requires-clause-in_range : goal.slots_at-requires-clause-in_range
+slots_at-requires-clause-in_range c = grind arith
+
+pub returns : goal.returns
+returns c = grind arith

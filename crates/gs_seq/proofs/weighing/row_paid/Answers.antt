@@ -1,4 +1,4 @@
-use Rattle.std.proofs.Common.{rules, ◌≡◌, ◌∙◌, ap, of_z, pos, sym, to_z}
+use Rattle.std.proofs.Common.{rules, ◌≡◌, ◌∙◌, ap, of_z, pos, sym, to_z, arith}
 use Rattle.std.specs.{Int.{w128}, Prelude.{◌*ℤ◌}}
 use Rattle.gs_game.specs.Seen.{end_of}
 use Rattle.gs_model.specs.Sums.{sum_z}
@@ -37,3 +37,39 @@ returns-in-Show c =
     read_back c.chips_times-in-Show.result _ (search rules) (c.chips_times-in-Show.ensures
     ∙ ap (λ z. z *ℤ to_z w128 (of_z w128 c.signed_along.result)) (read_back c.from.result _ (search rules) c.from.ensures)
     ∙ ap (λ z. pos c.args.end.put *ℤ z) (read_back c.signed_along.result _ (search rules) c.signed_along.ensures.value) ∙ sym all)
+
+pub weights_along-requires-clause-slim : goal.weights_along-requires-clause-slim
+weights_along-requires-clause-slim c = grind arith
+
+pub chips_times-requires-in-Folded2-clause-chips : goal.chips_times-requires-in-Folded2-clause-chips
+chips_times-requires-in-Folded2-clause-chips c = grind arith
+
+pub signed_along-requires-clause-slim : goal.signed_along-requires-clause-slim
+signed_along-requires-clause-slim c = grind arith
+
+pub chips_times-requires-clause-sum : goal.chips_times-requires-clause-sum
+chips_times-requires-clause-sum c = grind arith
+
+pub weights_along-requires-clause-numbers : goal.weights_along-requires-clause-numbers
+weights_along-requires-clause-numbers c = grind arith
+
+pub chips_times-requires-clause-chips : goal.chips_times-requires-clause-chips
+chips_times-requires-clause-chips c = grind arith
+
+pub weights_along-requires-in-Folded2-clause-slim : goal.weights_along-requires-in-Folded2-clause-slim
+weights_along-requires-in-Folded2-clause-slim c = grind arith
+
+pub chips_times-requires-in-Show-clause-sum : goal.chips_times-requires-in-Show-clause-sum
+chips_times-requires-in-Show-clause-sum c = grind arith
+
+pub weights_along-requires-in-Folded2-clause-numbers : goal.weights_along-requires-in-Folded2-clause-numbers
+weights_along-requires-in-Folded2-clause-numbers c = grind arith
+
+pub chips_times-requires-in-Folded2-clause-sum : goal.chips_times-requires-in-Folded2-clause-sum
+chips_times-requires-in-Folded2-clause-sum c = grind arith
+
+pub signed_along-requires-clause-numbers : goal.signed_along-requires-clause-numbers
+signed_along-requires-clause-numbers c = grind arith
+
+pub chips_times-requires-in-Show-clause-chips : goal.chips_times-requires-in-Show-clause-chips
+chips_times-requires-in-Show-clause-chips c = grind arith

@@ -11,3 +11,9 @@ returns-clause-few c =
     let few = form_class_few a c.args.round c.requires.some c.requires.top in
     let held : c.classes.result.now ≡ a.lossless.now.classes.now = c.classes.ensures.held ∙ ap (λ (l : Lossless). l.classes.now) c.lossless.ensures in
     omega (arith, c.classes-2.ensures, ap (λ (k : Filter). class_count k.lists c.args.round) held, few)
+
+pub returns-clause-value : goal.returns-clause-value
+returns-clause-value c = grind arith
+
+pub classes-requires-2-clause-top : goal.classes-requires-2-clause-top
+classes-requires-2-clause-top c = grind arith

@@ -1,5 +1,6 @@
-use Rattle.std.proofs.Common.{◌≤◌, length, sym, ap}
-use Rattle.gs_model.specs.Frame.{player_at}
+use Rattle.std.proofs.Common.{◌≤◌, ◌∙◌, length, sym, ap, arith}
+use Rattle.gs_game.specs.declared.valid.ValidGame.{ValidGame}
+use Rattle.gs_model.specs.{Classes.{IsClass}, Frame.{player_at, round_of}, Positions.{at_point}}
 use Rattle.gs_seq.specs.{Firsts.{IsComing}, Games.{frame_in}, Slots.{AreOffsets, slots_before}}
 use Rattle.gs_seq.proofs.Forms.{carried}
 use Rattle.gs_seq.proofs.form.Abstract.coming.Goals as goal
@@ -17,3 +18,20 @@ coming-requires-clause-long c =
 pub returns : goal.returns
 returns c = carried (λ f ls. IsComing f ls c.args.total c.args.weights.now c.args.point c.args.class c.coming.result)
     (ap frame_in c.game-game.ensures) c.classes.ensures.lists c.coming.ensures
+
+pub point_source-source-requires-clause-long : goal.point_source-source-requires-clause-long
+point_source-source-requires-clause-long c = grind arith
+
+pub point_source-source-requires-clause-point : goal.point_source-source-requires-clause-point
+point_source-source-requires-clause-point c = grind arith
+
+pub coming-requires-clause-in_range : goal.coming-requires-clause-in_range
+coming-requires-clause-in_range c = grind arith
+
+pub coming-requires-clause-class : goal.coming-requires-clause-class
+coming-requires-clause-class c =
+    carried (λ f ls. IsClass ls (round_of f (at_point c.args.point)) c.args.class) (sym (ap frame_in c.game-game.ensures)) (sym c.classes.ensures.lists)
+    c.requires.class
+
+pub coming-requires-clause-parents : goal.coming-requires-clause-parents
+coming-requires-clause-parents c = c.classes.ensures.parents ∙ ap (λ (g : ValidGame). (frame_in g).parents) (sym c.game-game.ensures)

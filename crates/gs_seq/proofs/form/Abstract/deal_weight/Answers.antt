@@ -7,3 +7,6 @@ use Rattle.gs_seq.proofs.form.Abstract.deal_weight.Goals as goal
 
 pub returns-clause-some : goal.returns-clause-some
 returns-clause-some c = omega (arith, c.weight.ensures, ap (λ (g : ValidGame). total_weight (frame_in g)) c.game.ensures, some_deal (game_in c.args.self.now))
+
+pub returns-clause-value : goal.returns-clause-value
+returns-clause-value c = grind arith

@@ -32,3 +32,15 @@ pay_along-requires-clause-single c = grind arith
 
 pub pay_all-requires-clause-few : goal.pay_all-requires-clause-few
 pay_all-requires-clause-few c = grind arith
+
+pub returns-in-None-clause-behind : goal.returns-in-None-clause-behind
+returns-in-None-clause-behind c = grind arith
+
+pub read_numbers-requires-clause-plan : goal.read_numbers-requires-clause-plan
+read_numbers-requires-clause-plan c = grind arith
+
+pub returns-in-Some-clause-behind : goal.returns-in-Some-clause-behind
+returns-in-Some-clause-behind c = grind arith
+
+pub pay_all-requires-clause-listed : goal.pay_all-requires-clause-listed
+pay_all-requires-clause-listed c = grind arith

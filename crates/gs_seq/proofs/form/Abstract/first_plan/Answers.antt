@@ -1,4 +1,5 @@
-use Rattle.std.proofs.{Common.{◌≡◌, refl, arith, ap, sym}, lemmas.Grind.{common_steps}}
+use Rattle.std.proofs.Common.{◌≡◌, ◌∙◌, refl, arith, ap, sym}
+use Rattle.gs_game.specs.declared.valid.ValidGame.{ValidGame}
 use Rattle.gs_model.specs.{Frame.{point_count}, Plans.{IsClassPlan}}
 use Rattle.gs_seq.specs.{Abstracts.{abstract_frame, lists_of}, Firsts.{AreFirstBefore}, Games.{frame_in}, Slots.{AreOffsets, plan_of, slot_count}}
 use Rattle.gs_seq.proofs.{Firsts.{first_plan_is}, Forms.{carried}, Choices.{some_move}}
@@ -42,4 +43,4 @@ first_weights-requires-clause-count c =
     omega (arith, same, c.sequences-count.ensures)
 
 pub first_weights-requires-clause-parents : goal.first_weights-requires-clause-parents
-first_weights-requires-clause-parents c = grind (arith, common_steps)
+first_weights-requires-clause-parents c = c.classes.ensures.parents ∙ ap (λ (g : ValidGame). (frame_in g).parents) (sym c.game.ensures)

@@ -1,8 +1,8 @@
-use Rattle.std.proofs.{Common.{◌≡◌, ap, arith, vec_len}, lemmas.Grind.{common_steps}}
+use Rattle.std.proofs.Common.{◌≡◌, ap, arith, vec_len}
 use Rattle.gs_game.specs.declared.positions.Point.{Point}
 use Rattle.gs_model.specs.Frame.{move_count}
 use Rattle.gs_seq.specs.Abstracts.{abstract_frame}
-use Rattle.gs_seq.proofs.{Forms.{form_moves, form_reads}, form.Abstract.move_total.Goals.{After-len}}
+use Rattle.gs_seq.proofs.{Forms.{form_moves, form_inside, form_reads}, form.Abstract.move_total.Goals.{After-len}}
 use Rattle.gs_seq.proofs.form.Abstract.move_total.Goals as goal
 
 counted : (c : After-len) → c.len.result ≡ move_count (abstract_frame c.args.self.now) c.args.point
@@ -30,4 +30,4 @@ pub returns-clause-few : goal.returns-clause-few
 returns-clause-few c = omega (arith, counted (goal.at.returns-clause-few c).After-len, (form_moves c.args.self.now c.args.point c.requires).few)
 
 pub bounds-points-point : goal.bounds-points-point
-bounds-points-point c = grind (arith, common_steps)
+bounds-points-point c = form_inside c.args.self.now c.game.result.now c.points.result.now c.args.point c.game.ensures c.points.ensures c.requires

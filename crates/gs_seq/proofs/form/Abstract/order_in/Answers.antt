@@ -37,3 +37,9 @@ returns-in_default-clause-listed c =
       )
       | in_default-via-in_default w ↦ omega (arith, c.requires, a.listed w.in_default.is)
     ]
+
+pub returns-in-Some-clause-listed : goal.returns-in-Some-clause-listed
+returns-in-Some-clause-listed c = grind arith
+
+pub returns-in-Some-clause-signals : goal.returns-in-Some-clause-signals
+returns-in-Some-clause-signals c = grind arith

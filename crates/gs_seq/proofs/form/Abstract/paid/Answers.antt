@@ -93,3 +93,6 @@ returns-in-Some c =
     ∙ ap (λ e. pos number *ℤ pair_pays player e (get_or c.in-Some.wholes.now (c.args.class - 1) no_pair)) c.end_in-at.ensures.value
     ∙ ap (λ p. pos number *ℤ pair_pays player (end_at (abstract_frame a) c.args.end) p) row.2
     ∙ all)
+
+pub bounds-wholes-class : goal.bounds-wholes-class
+bounds-wholes-class c = grind arith

@@ -6,3 +6,6 @@ returns-clause-behind c = grind arith
 
 pub returns-clause-here : goal.returns-clause-here
 returns-clause-here c = grind arith
+
+pub paid-requires-clause-few : goal.paid-requires-clause-few
+paid-requires-clause-few c = grind arith

@@ -39,3 +39,12 @@ loop-before-preserved c =
     ∙ next_put _ _ (given_in c.args.self.now) _ _ c.requires.x.plan.plan c.requires.y.plan.plan c.args.end _ _ _ c.requires.end
     (next (goal.at.loop-before-preserved c).After-end_sum-worth) _ _ c.loop-before.invariant
     (read_back c.scaled.result _ (search rules) c.scaled.ensures))
+
+pub end_sum-worth-requires-clause-other : goal.end_sum-worth-requires-clause-other
+end_sum-worth-requires-clause-other c = grind arith
+
+pub returns : goal.returns
+returns c = grind arith
+
+pub number_at_end-number-requires-clause-plan : goal.number_at_end-number-requires-clause-plan
+number_at_end-number-requires-clause-plan c = grind arith

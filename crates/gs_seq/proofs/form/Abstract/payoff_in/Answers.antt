@@ -31,3 +31,9 @@ returns c =
     ends_are_all _ _ (given_in c.args.self.now) _ _ c.requires.x.plan.plan c.requires.y.plan.plan c.loop-end.end
     (omega (arith, c.end_total-end-end.ensures, c.loop-end-test.false, c.loop-end.auto.end-end)) _
     c.loop-end.invariant
+
+pub payoff_read-requires-clause-y : goal.payoff_read-requires-clause-y
+payoff_read-requires-clause-y c = grind arith
+
+pub payoff_read-requires-clause-x : goal.payoff_read-requires-clause-x
+payoff_read-requires-clause-x c = grind arith

@@ -61,3 +61,6 @@ returns c = grind arith
 
 pub plan_at-own-requires-clause-plan : goal.plan_at-own-requires-clause-plan
 plan_at-own-requires-clause-plan c = grind arith
+
+pub end_sums-requires-clause-other : goal.end_sums-requires-clause-other
+end_sums-requires-clause-other c = grind arith

@@ -1,4 +1,5 @@
-use Rattle.std.proofs.{Common.{ap, refl, subst, arith}, lemmas.Grind.{common_steps}}
+use Rattle.std.proofs.Common.{◌∙◌, ap, refl, sym, subst}
+use Rattle.gs_game.specs.declared.valid.ValidGame.{ValidGame}
 use Rattle.gs_seq.specs.{Abstracts.{abstract_frame, lists_of}, Faults.{IsFaultOf}, Games.{frame_in}, Slots.{IsPlan}}
 use Rattle.gs_seq.proofs.Forms.{carried}
 use Rattle.gs_seq.proofs.form.Abstract.plan.Goals as goal
@@ -20,4 +21,4 @@ pub returns-in-None-clause-own : goal.returns-in-None-clause-own
 returns-in-None-clause-own c = record { player_is = refl; plan = returns-in-None-clause-plan c }
 
 pub plan_fault-requires-clause-parents : goal.plan_fault-requires-clause-parents
-plan_fault-requires-clause-parents c = grind (arith, common_steps)
+plan_fault-requires-clause-parents c = c.classes.ensures.parents ∙ ap (λ (g : ValidGame). (frame_in g).parents) (sym c.game.ensures)

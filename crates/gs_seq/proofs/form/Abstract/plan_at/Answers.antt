@@ -1,4 +1,4 @@
-use Rattle.std.proofs.Common.{◌<◌, ap, sym, ◌∙◌, subst}
+use Rattle.std.proofs.Common.{◌<◌, ap, sym, ◌∙◌, subst, arith}
 use Rattle.gs_game.specs.declared.valid.ValidGame.{ValidGame}
 use Rattle.gs_model.specs.Frame.{end_count}
 use Rattle.gs_seq.specs.{Games.{frame_in}, Plans.{IsPlanOf}, Slots.{AreOffsets}}
@@ -25,3 +25,9 @@ returns-clause-form c = record {
   made = c.end_source-source.ensures c.classes-classes.result.now.lists
       (carried (λ f ls. AreOffsets f ls c.offsets.result.now) (sym (ap frame_in c.game-game.ensures)) (sym c.classes-classes.ensures.lists) c.offsets.ensures);
 }
+
+pub end_source-source-requires-clause-end : goal.end_source-source-requires-clause-end
+end_source-source-requires-clause-end c = grind arith
+
+pub end_source-source-requires-clause-long : goal.end_source-source-requires-clause-long
+end_source-source-requires-clause-long c = grind arith

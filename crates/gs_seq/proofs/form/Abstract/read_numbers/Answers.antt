@@ -46,3 +46,12 @@ loop-before-preserved c =
           c.loop-before.invariant.read;
       few = put numbers n c.number_at.result (λ k v. v ≤ 2 ^ 36) inside few c.loop-before.invariant.few;
     }
+
+pub plan_at-at-requires-clause-plan : goal.plan_at-at-requires-clause-plan
+plan_at-at-requires-clause-plan c = grind arith
+
+pub returns-clause-numbers : goal.returns-clause-numbers
+returns-clause-numbers c = grind arith
+
+pub returns-clause-few : goal.returns-clause-few
+returns-clause-few c = grind arith

@@ -1,6 +1,6 @@
-use Rattle.std.proofs.{Common.{ap, sym, ◌∙◌, arith}, lemmas.Grind.{common_steps}}
+use Rattle.std.proofs.Common.{ap, sym, ◌∙◌, arith}
 use Rattle.gs_game.specs.declared.positions.Point.{Point}
-use Rattle.gs_seq.proofs.Forms.{form_reads, form_walked}
+use Rattle.gs_seq.proofs.Forms.{form_inside, form_reads, form_walked}
 use Rattle.gs_seq.proofs.form.Abstract.round_at.Goals as goal
 
 pub returns-clause-value : goal.returns-clause-value
@@ -34,7 +34,7 @@ returns-clause-top c =
     )
 
 pub bounds-points-point-2 : goal.bounds-points-point-2
-bounds-points-point-2 c = grind (arith, common_steps)
+bounds-points-point-2 c = form_inside c.args.self.now c.game.result.now c.points.result.now c.args.point c.game.ensures c.points.ensures c.requires
 
 pub bounds-points-point : goal.bounds-points-point
-bounds-points-point c = grind (arith, common_steps)
+bounds-points-point c = form_inside c.args.self.now c.game.result.now c.points.result.now c.args.point c.game.ensures c.points.ensures c.requires

@@ -1,6 +1,6 @@
-use Rattle.std.proofs.{Common.{ap, sym, ◌∙◌, arith, get_or, vec_len}, lemmas.Grind.{common_steps}}
+use Rattle.std.proofs.Common.{ap, sym, ◌∙◌, arith, get_or, vec_len}
 use Rattle.gs_game.specs.declared.positions.Point.{Point}
-use Rattle.gs_seq.proofs.Forms.{form_leads, form_reads}
+use Rattle.gs_seq.proofs.Forms.{form_leads, form_inside, form_reads}
 use Rattle.gs_seq.proofs.form.Abstract.target_at.Goals as goal
 
 pub index-requires : goal.index-requires
@@ -19,4 +19,4 @@ returns c =
     (c.index.ensures ∙ i ∙ e)
 
 pub bounds-points-point : goal.bounds-points-point
-bounds-points-point c = grind (arith, common_steps)
+bounds-points-point c = form_inside c.args.self.now c.game.result.now c.points.result.now c.args.point c.game.ensures c.points.ensures c.requires.point

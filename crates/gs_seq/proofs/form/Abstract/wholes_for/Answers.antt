@@ -1,8 +1,8 @@
-use Rattle.std.proofs.{Common.{◌≡◌, ◌-◌, ◌∙◌, Vec, ap, arith, get_or, subst, sym}, lemmas.Grind.{common_steps}}
+use Rattle.std.proofs.Common.{◌≡◌, ◌-◌, ◌∙◌, Vec, ap, arith, get_or, subst, sym}
 use Rattle.std.specs.declared.alloc.Global.{Global}
 use Rattle.gs_model.specs.{Frame.{round_of}, Positions.{at_end}}
 use Rattle.gs_seq.specs.{Abstracts.{abstract_frame, lists_of}, Rows.{AreWholesIn}, declared.pair.Pair.{Pair}}
-use Rattle.gs_seq.proofs.Wholed.{wholes_in_round}
+use Rattle.gs_seq.proofs.Wholed.{wholes_in_round, wholes_long}
 use Rattle.gs_seq.proofs.form.Abstract.wholes_for.Goals as goal
 
 pub returns : goal.returns
@@ -21,4 +21,6 @@ returns c =
     }
 
 pub index-requires : goal.index-requires
-index-requires c = grind (arith, common_steps)
+index-requires c =
+    let a = c.args.self.now in
+    omega (arith, wholes_long a.rows.items a.wholes.items a.wholed, c.from-round.ensures, c.end_in.ensures.round, c.requires.listed)

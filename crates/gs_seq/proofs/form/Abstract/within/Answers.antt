@@ -1,6 +1,7 @@
-use Rattle.std.proofs.lemmas.Grind.{common_steps}
 use Rattle.std.proofs.{Common.{◌≡◌, List, Vec, ap, refl, sym, true, ◌∙◌, subst, arith, ⊎_elim}, lemmas.Result.{err_from_is_err_and}}
 use Rattle.std.specs.{declared.alloc.Global.{Global}, Prelude.{All, IfErr, None, Option, Some, is_some}}
+use Rattle.gs_filter.specs.Filter.{Filter}
+use Rattle.gs_game.specs.declared.valid.ValidGame.{ValidGame}
 use Rattle.gs_model.specs.{Classes.{ClassLists}, Frame.{Frame}}
 use Rattle.gs_tree.specs.declared.signals.Signals.{Signals}
 use Rattle.gs_seq.specs.{Cells.{cell_count}, Games.{frame_in}, Rows.{AreRows, AreWholes, IsSlim}, Slots.{AreOffsets, slot_count}}
@@ -19,6 +20,12 @@ moved : (c : After-game-game) (P : Frame → ClassLists → Type 0) → P (frame
     → P (frame_in c.args.lossless.now.signals.now.game.now) c.args.lossless.now.classes.now.lists
 moved c P = carried c.game-game.result.now c.args.lossless.now.signals.now.game.now c.classes-classes.result.now c.args.lossless.now.classes.now P
     (c.game-game.ensures ∙ ap (λ (x : Signals). x.game.now) c.signals-signals.ensures.held) c.classes-classes.ensures.held
+
+-- the classes stand over the game
+over : (c : After-game-game) → c.classes-classes.result.now.parents ≡ (frame_in c.game-game.result.now).parents
+over c =
+    let same = c.game-game.ensures ∙ ap (λ (x : Signals). x.game.now) c.signals-signals.ensures.held in
+    ap (λ (x : Filter). x.parents) c.classes-classes.ensures.held ∙ c.args.lossless.now.parents ∙ ap (λ (g : ValidGame). (frame_in g).parents) (sym same)
 
 -- how many sequences and cells there are
 few : (c : In_ok-count) → HasSequencesWithin c.args.most.sequences (frame_in c.args.lossless.now.signals.now.game.now) c.args.lossless.now.classes.now.lists
@@ -85,10 +92,10 @@ returns-clause-small c = let at = (goal.at.returns-clause-small c).In_ok-count i
     { sequences = few at; cells = omega (arith, count at, c.if-count-most.false) }
 
 pub offsets_of-requires-clause-parents : goal.offsets_of-requires-clause-parents
-offsets_of-requires-clause-parents c = grind (arith, common_steps)
+offsets_of-requires-clause-parents c = over (goal.at.offsets_of-requires-clause-parents c).After-game-game
 
 pub few_slots-requires : goal.few_slots-requires
-few_slots-requires c = grind (arith, common_steps)
+few_slots-requires c = over (goal.at.few_slots-requires c).After-game-game
 
 pub cells-requires-clause-parents : goal.cells-requires-clause-parents
-cells-requires-clause-parents c = grind (arith, common_steps)
+cells-requires-clause-parents c = over (goal.at.cells-requires-clause-parents c).After-game-game

@@ -21,3 +21,12 @@ returns-in_err-deal-clause-goes c = grind arith
 
 pub returns-in_err-deal-clause-steps : goal.returns-in_err-deal-clause-steps
 returns-in_err-deal-clause-steps c = grind (arith, common_steps)
+
+pub pair_of-requires : goal.pair_of-requires
+pair_of-requires c = grind arith
+
+pub invariant_of-self : goal.invariant_of-self
+invariant_of-self c = grind arith
+
+pub invariant_of-self-in_err-deal : goal.invariant_of-self-in_err-deal
+invariant_of-self-in_err-deal c = grind arith
