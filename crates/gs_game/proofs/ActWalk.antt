@@ -4,7 +4,7 @@ use Rattle.std.proofs.lemmas.List.{length-map, map-append}
 use Rattle.std.specs.{Prelude.{◌==◌, slice_set, option_map, if◌then◌else◌, IfOk, Result, Ok, Err}, Global.{Vec}}
 use Rattle.gs_model.specs.{Betting.{Bet, Moves, act, none, move}, Positions.{at_point, at_end, Arrow, End}}
 use Rattle.gs_model.specs.Walk.{Place, Walked, WalkedMoves, after_move, walk_tree, walk_moves, walk_rounds}
-use Rattle.gs_bet.specs.{TreeView.{plain_moves}, MoveLists.{count}, declared.shape.Move.{Move}}
+use Rattle.gs_bet.specs.{TreeView.{plain_moves}, declared.shape.Move.{Move}}
 use Rattle.gs_bet.proofs.{Letters.{at_most_26}, ReadingLaws.{count_plain}}
 use Rattle.gs_game.specs.{Seen.{step_of, arrow_of, target_of, own_point, OwnPoint, point_of, end_of}, Walks.{Grows, IsWalkable, place_of}}
 use Rattle.gs_game.specs.{declared.place.Place.{Place as StoredPlace}, declared.positions.Arrow.{Arrow as StoredArrow}}

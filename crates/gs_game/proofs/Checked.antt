@@ -12,7 +12,7 @@ use Rattle.gs_game.specs.{Games.{HasFewCards, game_of, round_rules, plain_trees}
 use Rattle.gs_game.specs.Refusals.{put_too_large, too_many_lines, too_heavy, too_many_signals, too_many_deals, card_refusal, betting_refusal, even_refusal}
 use Rattle.gs_game.specs.Refusals.{uneven_refusal, put_refusal, lines_refusal, deal_refusal, weight_refusal, signals_from, signals_refusal, deals_refusal}
 use Rattle.gs_game.specs.{Refusals.{first_refusal}, Valid.{IsWalkOf}, Walks.{Grows, RoundsWalkable}}
-use Rattle.gs_model.proofs.Basics.{some, some-none}
+use Rattle.gs_model.proofs.Basics.{some-none}
 use Rattle.gs_game.proofs.{DealChecks.{cards_pass}, Deciding.{fault_first, fault_second, trees_are, ends_are}, Evenly.{neither}, PointBound.{few_points}}
 
 -- a test that found nothing

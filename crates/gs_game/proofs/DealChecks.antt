@@ -7,7 +7,7 @@ use Rattle.std.specs.{Prelude.{Some, None, All, ◌==◌, ◌&&◌, nat_le}, Lis
 use Rattle.gs_model.specs.{Frame.{frame_of, total_weight}, Deals.{deals}}
 use Rattle.gs_model.specs.{Game.{Game as Rules, Round as RoundRules, Ranking, High, Pair, Three, round_count, round_at}, Signals.{signals}}
 use Rattle.gs_card.specs.Rankings.{ranking_of}
-use Rattle.gs_model.proofs.Basics.{every-append, some, some-none}
+use Rattle.gs_model.proofs.Basics.{every-append, some-none}
 use Rattle.gs_game.specs.{declared.game.Game.{Game}, declared.game.Round.{Round}, declared.faults.GameFault.{GameFault}, FaultOf.{IsFaultOf}}
 use Rattle.gs_game.specs.{Games.{HasFewCards, game_of, round_rules}, Money.{first_of}, Refusals.{signals_refusal, deals_refusal, deal_refusal}}
 use Rattle.gs_game.specs.Refusals.{rounds, no_private, ranking_cards, too_heavy, too_many_signals, too_many_deals, own_card_total, public_card_total, ranks}

@@ -1,5 +1,5 @@
 -- The ways to take cards where no kind has more than one copy.
-use Rattle.std.proofs.Common.{◌≡◌, ◌+◌, ◌-◌, ◌<◌, ◌≤◌, ℕ, zero, suc, List, [], ◌∷◌, length, get_or, arith, subst}
+use Rattle.std.proofs.Common.{◌≡◌, ◌+◌, ◌<◌, ◌≤◌, ℕ, zero, suc, List, [], ◌∷◌, length, get_or, arith, subst}
 use Rattle.std.specs.Prelude.{count_by, ◌==◌}
 use Rattle.gs_model.specs.Cards.{choose, left_after, ways, ways_from}
 use Rattle.gs_model.proofs.{Basics.{factors_positive, product_positive}, Fits.{choose-some}, Factorials.{choose_room}}

@@ -26,3 +26,6 @@ returns-in-len1-up-clause-most t c before =
 
 pub returns-in-empty-clause-most : goal.returns-in-empty-clause-most
 returns-in-empty-clause-most t c = grind (arith, common_steps)
+
+pub most_above-requires-clause-fits : goal.most_above-requires-clause-fits
+most_above-requires-clause-fits t c = grind arith

@@ -17,3 +17,7 @@ returns-then-not-ranks c = grind (arith, common_steps)
 pub all_copies-have-requires : goal.all_copies-have-requires
 unfolding card_refusal rounds_refusal private_refusal ranking_refusal copies_refusal
 all_copies-have-requires c = grind arith
+
+pub cards_over-own-requires-clause-cards : goal.cards_over-own-requires-clause-cards
+unfolding card_refusal rounds_refusal private_refusal ranking_refusal copies_refusal
+cards_over-own-requires-clause-cards c = grind arith

@@ -58,3 +58,6 @@ count_from-count_from-requires t c = grind (arith, common_steps)
 
 pub count_from-returns-in-empty-clause-count : goal.count_from-returns-in-empty-clause-count
 count_from-returns-in-empty-clause-count t c = grind (arith, common_steps)
+
+pub count_from-returns-clause-count : goal.count_from-returns-clause-count
+count_from-returns-clause-count t c = grind arith

@@ -1,3 +1,4 @@
+use Rattle.std.proofs.Common.{arith}
 use Rattle.std.proofs.{Common.{◌∙◌}, lemmas.Result.{err_from_is_err_and}}
 use Rattle.gs_game.proofs.DealChecks.{signals_fault, deals_over, deals_within}
 use Rattle.gs_game.proofs.deals.check_counts.Goals as goal
@@ -16,3 +17,6 @@ pub returns : goal.returns
 returns c =
     deals_within c.args.game.now _ c.args.sizes.now c.count_deals-count.result c.in_ok-check_signals.ensures.refusal
     (c.in_ok-check_signals.ensures.kept ∙ c.requires.left) c.requires.sizes c.count_deals-count.ensures.count c.if-count-gt8000000.false
+
+pub count_deals-count-requires : goal.count_deals-count-requires
+count_deals-count-requires c = grind arith

@@ -44,3 +44,12 @@ returns c =
 
 pub check_counts-requires-clause-weight : goal.check_counts-requires-clause-weight
 check_counts-requires-clause-weight c = grind (arith, common_steps)
+
+pub all_copies-requires : goal.all_copies-requires
+all_copies-requires c = grind arith
+
+pub check_counts-requires-clause-sizes : goal.check_counts-requires-clause-sizes
+check_counts-requires-clause-sizes c = grind arith
+
+pub check_counts-requires-clause-left : goal.check_counts-requires-clause-left
+check_counts-requires-clause-left c = grind arith

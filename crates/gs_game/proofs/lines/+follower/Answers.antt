@@ -73,3 +73,15 @@ follow_act-numbers_below-below-requires-clause-points t c = grind (arith, common
 
 pub follow_act-returns-then-next-letter : goal.follow_act-returns-then-next-letter
 follow_act-returns-then-next-letter t c = grind (arith, common_steps)
+
+pub follow_below-bounds-text-0 : goal.follow_below-bounds-text-0
+follow_below-bounds-text-0 t c = grind arith
+
+pub follow_from-slice_bounds-text-count : goal.follow_from-slice_bounds-text-count
+follow_from-slice_bounds-text-count t c = grind arith
+
+pub follow_from-slice_bounds-text-start : goal.follow_from-slice_bounds-text-start
+follow_from-slice_bounds-text-start t c = grind arith
+
+pub follow_from-bounds-text-0 : goal.follow_from-bounds-text-0
+follow_from-bounds-text-0 t c = grind arith

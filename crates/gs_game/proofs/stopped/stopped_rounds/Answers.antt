@@ -9,3 +9,18 @@ returns-clause-rounds c = grind (arith, common_steps)
 
 pub returns-clause-sizes : goal.returns-clause-sizes
 returns-clause-sizes c = grind (arith, common_steps)
+
+pub push_round-requires-clause-public : goal.push_round-requires-clause-public
+push_round-requires-clause-public c = grind arith
+
+pub push_round-requires-clause-private : goal.push_round-requires-clause-private
+push_round-requires-clause-private c = grind arith
+
+pub push_round-requires-clause-few : goal.push_round-requires-clause-few
+push_round-requires-clause-few c = grind arith
+
+pub loop-round-init : goal.loop-round-init
+loop-round-init c = grind arith
+
+pub returns-clause-few : goal.returns-clause-few
+returns-clause-few c = grind arith

@@ -99,3 +99,15 @@ walk_from-walk_below-requires t c = grind (arith, common_steps)
 
 pub walk_from-returns-in-len1-up : goal.walk_from-returns-in-len1-up
 walk_from-returns-in-len1-up t c = grind (arith, common_steps)
+
+pub walk_from-next_round-requires : goal.walk_from-next_round-requires
+walk_from-next_round-requires t c = grind arith
+
+pub walk_act-offset_bounds-next-items-next-index : goal.walk_act-offset_bounds-next-items-next-index
+walk_act-offset_bounds-next-items-next-index t c = grind arith
+
+pub walk_act-overflow_cast-choice : goal.walk_act-overflow_cast-choice
+walk_act-overflow_cast-choice t c = grind arith
+
+pub walk_act-overflow_cast-point-2 : goal.walk_act-overflow_cast-point-2
+walk_act-overflow_cast-point-2 t c = grind arith

@@ -1,3 +1,4 @@
+use Rattle.std.proofs.Common.{arith}
 use Rattle.std.proofs.{Common.{refl}, lemmas.Result.{err_from_is_err_and}}
 use Rattle.gs_card.specs.Rankings.{ranking_of}
 use Rattle.gs_game.specs.Games.{game_of}
@@ -47,3 +48,6 @@ invariant_of-result c =
 
 pub returns-clause-accepted : goal.returns-clause-accepted
 returns-clause-accepted c = (no_refusal (game_of c.args.self) c.in_ok-check_cards.ensures c.in_ok-check_betting.ensures c.in_ok-totals.ensures.0, refl)
+
+pub check_deals-requires-clause-cards : goal.check_deals-requires-clause-cards
+check_deals-requires-clause-cards c = grind arith
