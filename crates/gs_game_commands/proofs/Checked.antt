@@ -1,6 +1,5 @@
 -- What a check of a game's classes finds is what `check` says.
 use Rattle.std.proofs.Common.{◌≡◌, ◌⊎◌, ⊎_elim, inl, inr, ℕ, List, Bool, length, arith, refl, sym, ap, ◌∙◌, subst}
-use Rattle.gs_card.specs.Decks.{DeckValue}
 use Rattle.gs_file.specs.Reading.{FileGame, file_rules}
 use Rattle.gs_filter.specs.Filter.{single_classes}
 use Rattle.gs_filter.proofs.ClassLaws.{single_are_classes}
@@ -11,7 +10,7 @@ use Rattle.gs_model.proofs.Ranges.{length-parents}
 use Rattle.gs_reply.specs.{Replies.{Prints, Refuses, Reply}, Troubles.{SaysUnlike}}
 use Rattle.gs_text.specs.ClassText.{AreListsOf}
 use Rattle.gs_words.specs.{declared.request.Grouping.{Grouping}, declared.request.Grouping.TheVariants.{Isomorphism, Coarsest, Single}}
-use Rattle.gs_game_commands.specs.{Checking.{ChecksGame, IsChecked, IsGrouping, SaysNotLossless}, Shrinking.{told}}
+use Rattle.gs_game_commands.specs.Checking.{ChecksGame, IsGrouping, SaysNotLossless}
 
 -- classes over the parents of a game's signals have a number for each signal
 pub lists_of : (g : Game) (parents : List (List ℕ)) (lists : ClassLists) → parents ≡ all_parents g → IsClasses parents lists → AreListsOf g lists
@@ -26,16 +25,6 @@ lists_of g parents lists e h =
           let p = length-parents g round in
           omega (arith, l, at, p);
     }
-
-pub is_checked : (grouping : Grouping) (summary : Bool) (v : FileGame) (g : Game) (d : DeckValue) (lists : ClassLists) (text : List ℕ) → g ≡ file_rules v
-    → d ≡ v.deck → IsGrouping grouping g lists → IsLossless (frame_of g) lists
-    → text ≡ told summary d g lists → IsChecked grouping summary v text
-is_checked grouping summary v g d lists text of_game of_deck are lossless printed = record {
-  classes = lists;
-  are = subst (λ (x : Game). IsGrouping grouping x lists) of_game are;
-  lossless = subst (λ (x : Game). IsLossless (frame_of x) lists) of_game lossless;
-  printed = printed ∙ ap (λ x. told summary x g lists) of_deck ∙ ap (λ x. told summary v.deck x lists) of_game;
-}
 
 -- coarsest classes are lossless, and so are signals by themselves
 pub always_lossless : (grouping : Grouping) (g : Game) (lists : ClassLists) → (grouping ≡ Coarsest) ⊎ (grouping ≡ Single) → IsGrouping grouping g lists

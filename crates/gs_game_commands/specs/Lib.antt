@@ -6,3 +6,4 @@ pub mod Printed
 pub mod Playing
 pub mod Solving
 pub mod Paths
+pub mod Asked

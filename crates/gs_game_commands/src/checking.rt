@@ -1,16 +1,36 @@
 //! The command `check`.
 
+ghost use Rattle.std.specs.Prelude.{◌≡◌};
 ghost use Rattle.gs_file.specs.Views.{valid_view};
-ghost use Rattle.gs_game_commands.specs.Checking.{Checks, ChecksGame};
+ghost use Rattle.gs_game_commands.specs.Checking.{Checks, ChecksGame, IsGrouping};
+ghost use Rattle.gs_model.specs.Frame.{frame_of};
 ghost use Rattle.gs_reply.specs.Replies.{Answers};
+ghost use Rattle.gs_tree.specs.Trees.{rules_of};
 
 use crate::grouping::{classes_of, lossless_of};
 use crate::telling::told;
+use gs_filter::Classes;
 use gs_game::ValidGame;
 use gs_reply::{Stop, stated_game};
 use gs_tree::Signals;
 use gs_words::Grouping;
 use std::alloc::Global;
+
+// Returns the text or the summary of the classes of a grouping, if they are lossless; or the refusal.
+fn listed(
+    alloc: Global,
+    signals: &Signals,
+    classes: &Classes,
+    grouping: Grouping,
+    summary: bool,
+) -> Result<Vec<u8>, Stop>
+    requires parents { classes.now.parents ≡ (frame_of (rules_of signals.now)).parents }
+    requires grouping { IsGrouping grouping (rules_of signals.now) classes.now.lists }
+    ensures { Answers (ChecksGame grouping summary (valid_view signals.now.game.now)) result }
+{
+    lossless_of(alloc, signals, classes, grouping)?;
+    Ok(told(alloc, signals, classes, summary)?)
+}
 
 // Returns the answer of `check` for a game.
 fn checked(
@@ -23,8 +43,7 @@ fn checked(
 {
     let signals = Signals::of(alloc, game)?;
     let classes = classes_of(alloc, &signals, grouping)?;
-    lossless_of(alloc, &signals, &classes, grouping)?;
-    Ok(told(alloc, &signals, &classes, summary)?)
+    listed(alloc, &signals, &classes, grouping, summary)
 }
 
 /// Returns the answer of `check` to the bytes of a game file: the text or the summary of the classes of this grouping, if they are lossless; or the

@@ -4,12 +4,9 @@ ghost use Rattle.std.specs.Prelude.{◌≤◌};
 ghost use Rattle.gs_reply.specs.Replies.{Answers};
 ghost use Rattle.gs_game_commands.specs.{Paths.{ShowsPath}, Playing.{Plays}, Settling.{Settles}, Solving.{Solves}};
 
-use crate::grouping::{classes_of, lossless_of};
-use crate::paths::shown;
-use crate::playing::played;
-use crate::solving::solved;
-use gs_reply::{Stop, sequence_form, stated_game};
-use gs_tree::Signals;
+use crate::asked::{Asked, Turns};
+use crate::settling::settled;
+use gs_reply::Stop;
 use gs_words::Grouping;
 use std::alloc::Global;
 
@@ -24,12 +21,8 @@ pub fn play_answer(
     requires few { turns ≤ 1000000 }
     ensures { Answers (Settles (Plays turns) grouping bytes.now) result }
 {
-    let game = stated_game(alloc, bytes)?;
-    let signals = Signals::of(alloc, &game)?;
-    let classes = classes_of(alloc, &signals, grouping)?;
-    let lossless = lossless_of(alloc, &signals, &classes, grouping)?;
-    let form = sequence_form(alloc, &lossless)?;
-    Ok(played(alloc, &form, turns)?)
+    let asked = Asked::Play(Turns { count: turns });
+    settled(alloc, &asked, bytes, grouping)
 }
 
 /// Returns the answer of `solve` to the bytes of a game file: the text of a strategy over the classes of a grouping whose gaps are both 0, or the
@@ -37,22 +30,12 @@ pub fn play_answer(
 pub fn solve_answer(alloc: Global, bytes: &[u8], grouping: Grouping) -> Result<Vec<u8>, Stop>
     ensures { Answers (Settles Solves grouping bytes.now) result }
 {
-    let game = stated_game(alloc, bytes)?;
-    let signals = Signals::of(alloc, &game)?;
-    let classes = classes_of(alloc, &signals, grouping)?;
-    let lossless = lossless_of(alloc, &signals, &classes, grouping)?;
-    let form = sequence_form(alloc, &lossless)?;
-    solved(alloc, &form)
+    settled(alloc, &Asked::Solve, bytes, grouping)
 }
 
 /// Returns the answer of `path` to the bytes of a game file: the lines of the path on which `solve` finds its strategy, or the refusal.
 pub fn path_answer(alloc: Global, bytes: &[u8], grouping: Grouping) -> Result<Vec<u8>, Stop>
     ensures { Answers (Settles ShowsPath grouping bytes.now) result }
 {
-    let game = stated_game(alloc, bytes)?;
-    let signals = Signals::of(alloc, &game)?;
-    let classes = classes_of(alloc, &signals, grouping)?;
-    let lossless = lossless_of(alloc, &signals, &classes, grouping)?;
-    let form = sequence_form(alloc, &lossless)?;
-    shown(alloc, &form)
+    settled(alloc, &Asked::Path, bytes, grouping)
 }

@@ -1,6 +1,7 @@
 //! The classes of a game's signals, and the commands that read a game file: `shrink` and `check` print classes, `play`, `solve` and `path` go on over them.
 #![tactic(auto)]
 
+mod asked;
 mod checking;
 mod commands;
 mod grouping;
@@ -8,6 +9,7 @@ mod laws;
 mod lines;
 mod paths;
 mod playing;
+mod settling;
 mod shrinking;
 mod solving;
 mod telling;

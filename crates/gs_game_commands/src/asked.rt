@@ -1,0 +1,21 @@
+//! What is asked of a game over classes.
+
+ghost use Rattle.std.specs.Prelude.{◌≤◌};
+
+/// A number of turns of play.
+#[derive(Clone, Copy)]
+pub(crate) struct Turns {
+    pub count: u32,
+    pub ghost few: { count ≤ 1000000 },
+}
+
+/// What is asked of a game over classes.
+#[derive(Drop)]
+pub(crate) enum Asked {
+    /// The strategy after a number of turns of fictitious play.
+    Play(Turns),
+    /// A strategy whose gaps are both 0.
+    Solve,
+    /// The path on which that strategy is found.
+    Path,
+}
