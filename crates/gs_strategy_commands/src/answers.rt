@@ -1,5 +1,6 @@
 //! The answer to what is wanted of the strategy of a file, if it is confirmed.
 
+ghost use Rattle.std.specs.Prelude.{◌≡◌};
 ghost use Rattle.gs_strategy_commands.specs.{Commands.{OfConfirmed, OfStrategy}, Held.{HoldsStrategy}, Wanted.{says_wanted}};
 ghost use Rattle.gs_reply.specs.Replies.{Answers};
 ghost use Rattle.gs_strategy.specs.Views.{stored_view};
@@ -34,14 +35,27 @@ fn told(
     }
 }
 
+// Returns what is wanted of a strategy over the signals of its game, if it is confirmed; or the refusal.
+fn over(
+    alloc: Global,
+    wanted: &Wanted<'_>,
+    stored: &Stored,
+    signals: &Signals,
+) -> Result<Vec<u8>, Stop>
+    requires { signals.now.game.now ≡ stored.now.game }
+    ensures { Answers (OfConfirmed (says_wanted wanted.now) (stored_view stored.now)) result }
+{
+    let lossless = lossless_of(alloc, stored, signals)?;
+    let form = confirmed_form(alloc, stored, &lossless)?;
+    told(alloc, wanted, stored, &form)
+}
+
 // Returns what is wanted of a strategy, if it is confirmed; or the refusal.
 fn confirmed(alloc: Global, wanted: &Wanted<'_>, stored: &Stored) -> Result<Vec<u8>, Stop>
     ensures { Answers (OfConfirmed (says_wanted wanted.now) (stored_view stored.now)) result }
 {
     let signals = Signals::of(alloc, &stored.game)?;
-    let lossless = lossless_of(alloc, stored, &signals)?;
-    let form = confirmed_form(alloc, stored, &lossless)?;
-    told(alloc, wanted, stored, &form)
+    over(alloc, wanted, stored, &signals)
 }
 
 /// Returns what is wanted of the strategy that the bytes hold, if it is confirmed; or the refusal. The bytes are let go once they are read.

@@ -49,15 +49,25 @@ fn sound(alloc: Global, stored: &Stored, form: &Abstract, c: &Certificate) -> Re
     }
 }
 
-// Returns what `verify` says of a strategy and a certificate. Classes that are not lossless and a game that is too large are refused first.
+// Returns what `verify` says of a strategy over the signals of its game and of a certificate. Classes that are not lossless and a game that is too large are
+// refused first.
+fn over(alloc: Global, stored: &Stored, signals: &Signals, c: &Certificate) -> Result<Vec<u8>, Stop>
+    requires game { signals.now.game.now ≡ stored.now.game }
+    requires modest { AreSmall c.now }
+    ensures { Answers (SaysChecked (stored_view stored.now) c.now) result }
+{
+    let lossless = lossless_of(alloc, stored, signals)?;
+    let form = form_of(alloc, stored, &lossless)?;
+    sound(alloc, stored, &form, c)
+}
+
+// Returns what `verify` says of a strategy and a certificate.
 fn checked(alloc: Global, stored: &Stored, c: &Certificate) -> Result<Vec<u8>, Stop>
     requires { AreSmall c.now }
     ensures { Answers (SaysChecked (stored_view stored.now) c.now) result }
 {
     let signals = Signals::of(alloc, &stored.game)?;
-    let lossless = lossless_of(alloc, stored, &signals)?;
-    let form = form_of(alloc, stored, &lossless)?;
-    sound(alloc, stored, &form, c)
+    over(alloc, stored, &signals, c)
 }
 
 /// Returns what `verify` says of a strategy and the bytes of its certificate. Bytes that are not the text of a certificate are refused first.
