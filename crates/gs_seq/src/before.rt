@@ -1,6 +1,6 @@
 //! The rows of rounds before the last, from the games that stop after them: after a round all pairs of signals continue in equally many ways.
 
-ghost use Rattle.std.specs.{Prelude.{◌≡◌, ◌+◌, ◌-◌, ◌<◌, ℕ, IfOk, get_or, length, Vec}, declared.alloc.Global.{Global}};
+ghost use Rattle.std.specs.{Prelude.{◌≡◌, ◌+◌, ◌-◌, ◌<◌, ℕ, IfOk, IfSome, get_or, length, Vec}, declared.alloc.Global.{Global}};
 ghost use Rattle.gs_game.specs.GoingOn.{StopsAfter, ways_on as ways_after};
 ghost use Rattle.gs_model.specs.{Classes.{IsClass, list_of}, Frame.{last_round}, Game.{round_count}, Lossless.{IsLossless}};
 ghost use Rattle.gs_tree.specs.Trees.{rules_of};
@@ -91,7 +91,55 @@ fn rows_by(alloc: Global, at: &StoppedRound<'_>) -> Result<Vec<Vec<Pair>>, Alloc
     stopped_rows(alloc, at, &deals)
 }
 
-/// Returns the rows of a round before the last. Walks all deals if the rounds up to it deal a player more than one own card.
+/// Returns the rows of a round before the last from the signals of the game that stops after it, if it has the same classes of the round.
+fn rows_over(
+    alloc: Global,
+    signals: &Signals,
+    classes: &Classes,
+    round: u8,
+    stopped: &Signals,
+) -> Result<Option<Vec<Vec<Pair>>>, AllocError>
+    requires parents { classes.now.parents ≡ (frame_in signals.now.game.now).parents }
+    requires lossless { IsLossless (frame_in signals.now.game.now) classes.now.lists }
+    requires some { 0 < round }
+    requires before_last { round < round_count (rules_of signals.now) }
+    requires stops { StopsAfter (rules_of signals.now) round (rules_of stopped.now) }
+    ensures { IfOk result (λ o. IfSome o (λ v. AreRowsIn (frame_in signals.now.game.now) classes.now.lists round v.items)) }
+{
+    let Some(seen) = stopped_classes(alloc, stopped, classes, round)? else {
+        return Ok(None);
+    };
+    let at = StoppedRound {
+        signals,
+        classes,
+        round,
+        stopped,
+        seen: &seen,
+    };
+    Ok(Some(rows_by(alloc, &at)?))
+}
+
+/// Returns the rows of a round before the last from the game that stops after it, unless the rounds up to it deal a player more than one own card.
+fn rows_from(
+    alloc: Global,
+    signals: &Signals,
+    classes: &Classes,
+    round: u8,
+) -> Result<Option<Vec<Vec<Pair>>>, AllocError>
+    requires parents { classes.now.parents ≡ (frame_in signals.now.game.now).parents }
+    requires lossless { IsLossless (frame_in signals.now.game.now) classes.now.lists }
+    requires some { 0 < round }
+    requires before_last { round < round_count (rules_of signals.now) }
+    ensures { IfOk result (λ o. IfSome o (λ v. AreRowsIn (frame_in signals.now.game.now) classes.now.lists round v.items)) }
+{
+    let Some(game) = signals.game().stopped(alloc, round)? else {
+        return Ok(None);
+    };
+    let stopped = Signals::of(alloc, &game)?;
+    rows_over(alloc, signals, classes, round, &stopped)
+}
+
+/// Returns the rows of a round before the last. Walks all deals if no game stops after the round.
 fn rows_at(
     alloc: Global,
     signals: &Signals,
@@ -104,20 +152,10 @@ fn rows_at(
     requires before_last { round < round_count (rules_of signals.now) }
     ensures { IfOk result (λ v. AreRowsIn (frame_in signals.now.game.now) classes.now.lists round v.items) }
 {
-    if let Some(game) = signals.game().stopped(alloc, round)? {
-        let stopped = Signals::of(alloc, &game)?;
-        if let Some(seen) = stopped_classes(alloc, &stopped, classes, round)? {
-            let at = StoppedRound {
-                signals,
-                classes,
-                round,
-                stopped: &stopped,
-                seen: &seen,
-            };
-            return rows_by(alloc, &at);
-        }
+    match rows_from(alloc, signals, classes, round)? {
+        Some(rows) => Ok(rows),
+        None => rows_in(alloc, signals, classes, round),
     }
-    rows_in(alloc, signals, classes, round)
 }
 
 /// Returns the rows of all rounds before the last.
