@@ -3,7 +3,8 @@
 //! After a round all pairs of signals continue in equally many ways. So the deals of the game that stops there are compared in place of all deals.
 
 ghost use Rattle.std.specs.Prelude.{◌≡◌, ◌<◌, ◌≤◌, IfOk, IfSome, MatchOption, length};
-ghost use Rattle.gs_model.specs.{Rows.{rows}, Classes.{IsClasses, list_of}, Frame.{frame_of, signal_count}};
+ghost use Rattle.gs_game.specs.GoingOn.{StopsAfter};
+ghost use Rattle.gs_model.specs.{Rows.{rows}, Classes.{IsClasses, list_of}, Frame.{frame_of, signal_count}, Game.{round_count}};
 ghost use Rattle.gs_tree.specs.Trees.{rules_of};
 ghost use Rattle.gs_lossless.specs.{Amounts.{HasSide}, Scans.{IsFirstApart}, Stopped.{stopped_lists as lists_after}};
 ghost use Rattle.gs_lossless.specs.declared.sides.Side.TheVariants.{Deals};
@@ -56,6 +57,32 @@ pub fn stopped_classes(
     }
 }
 
+/// Returns the first signal of a round whose deals weigh differently from those of the first member of its class. `stopped` has the signals of the game that
+/// stops after the round; their deals are compared, unless its classes are others.
+fn first_apart_over(
+    alloc: Global,
+    grouped: &Grouped<'_>,
+    round: u8,
+    stopped: &Signals,
+) -> Result<Option<u32>, AllocError>
+    requires side { HasSide (frame_of (rules_of grouped.now.signals.now)) Deals round }
+    requires before_last { round < round_count (rules_of grouped.now.signals.now) }
+    requires stops { StopsAfter (rules_of grouped.now.signals.now) round (rules_of stopped.now) }
+    ensures { let f = frame_of (rules_of grouped.now.signals.now) in
+        IfOk result (IsFirstApart f grouped.now.classes.now.lists Deals round (signal_count f round)) }
+{
+    let Grouped { signals, classes } = *grouped;
+    let end = signals.count(round);
+    if let Some(seen) = stopped_classes(alloc, stopped, classes, round)? {
+        let seen = Grouped {
+            signals: stopped,
+            classes: &seen,
+        };
+        return first_apart(alloc, &seen, Side::Deals, round, end);
+    }
+    first_apart(alloc, grouped, Side::Deals, round, end)
+}
+
 /// Returns the first signal of a round whose deals weigh differently from those of the first member of its class.
 pub(crate) fn first_deals_apart(
     alloc: Global,
@@ -66,19 +93,12 @@ pub(crate) fn first_deals_apart(
     ensures { let f = frame_of (rules_of grouped.now.signals.now) in
         IfOk result (IsFirstApart f grouped.now.classes.now.lists Deals round (signal_count f round)) }
 {
-    let Grouped { signals, classes } = *grouped;
-    let end = signals.count(round);
+    let signals = grouped.signals;
     if round < signals.rounds() {
         if let Some(game) = signals.game().stopped(alloc, round)? {
             let stopped = Signals::of(alloc, &game)?;
-            if let Some(seen) = stopped_classes(alloc, &stopped, classes, round)? {
-                let seen = Grouped {
-                    signals: &stopped,
-                    classes: &seen,
-                };
-                return first_apart(alloc, &seen, Side::Deals, round, end);
-            }
+            return first_apart_over(alloc, grouped, round, &stopped);
         }
     }
-    first_apart(alloc, grouped, Side::Deals, round, end)
+    first_apart(alloc, grouped, Side::Deals, round, signals.count(round))
 }
