@@ -61,19 +61,19 @@ pub fn refusal_line(alloc: Global, refusal: &Refusal) -> Result<Vec<u8>, AllocEr
             round,
             first,
             second,
-        } => format!(in alloc; "unlike: round {round} {first} {second}\n")?,
-        Refusal::Overflows(at) => format!(in alloc; "overflow: {at}\n")?,
-        Refusal::ManyPivots => String::from_str(alloc, "more than 8192 pivots\n")?,
-        Refusal::TooLarge(limit) => format!(in alloc; "too large: {limit}\n")?,
+        } => format!(in alloc; "unlike: round {round} {first} {second}\n"),
+        Refusal::Overflows(at) => format!(in alloc; "overflow: {at}\n"),
+        Refusal::ManyPivots => String::from_str(alloc, "more than 8192 pivots\n"),
+        Refusal::TooLarge(limit) => format!(in alloc; "too large: {limit}\n"),
         Refusal::WrongNumber(wrong) => {
             let (name, stated, found) = (wrong.name, &wrong.stated, &wrong.found);
-            format!(in alloc; "wrong numbers: {name} {stated} found {found}\n")?
+            format!(in alloc; "wrong numbers: {name} {stated} found {found}\n")
         }
         Refusal::BadQuery(fault) => {
             let text = query_text(*fault);
-            format!(in alloc; "bad query: {text}\n")?
+            format!(in alloc; "bad query: {text}\n")
         }
-        Refusal::OtherGame => String::from_str(alloc, "other game\n")?,
+        Refusal::OtherGame => String::from_str(alloc, "other game\n"),
     };
-    Ok(line.into_bytes())
+    Ok(line?.into_bytes())
 }
