@@ -1,7 +1,7 @@
 //! Groups of cards, and all groups of a size.
 
-ghost use Rattle.std.specs.{Prelude.{◌≡◌, ◌≤◌, ◌++◌, All, IfOk, OnOk, length, map, vec_len}, List.Sorted.{IsNonDecreasing}};
-ghost use Rattle.gs_model.specs.Cards.{groups, groups_above};
+ghost use Rattle.std.specs.{Prelude.{◌≡◌, ◌<◌, ◌≤◌, ◌++◌, ◌∷◌, [], All, IfOk, OnOk, length, map, vec_len}, List.Sorted.{IsNonDecreasing}};
+ghost use Rattle.gs_model.specs.Cards.{groups, groups_above, groups_with};
 
 use crate::cards::Card;
 use std::alloc::{AllocError, Global};
@@ -42,7 +42,18 @@ impl Group {
     }
 }
 
+/// Adds to `out` the group of these cards.
+fn push_group(alloc: Global, cards: &[Card], out: &mut Vec<Group>) -> Result<(), AllocError>
+    requires { IsNonDecreasing cards.now }
+    ensures { OnOk result (out.new.items ≡ out.old.items ++ cards.now ∷ []) }
+{
+    let group = Group::of(alloc, cards)?;
+    out.push(group)?;
+    Ok(())
+}
+
 /// Adds to `out` the cards of `front` followed by each group of `size` cards of the kinds from `least` on that `left` allows, in order.
+#[cycle(lister)]
 fn push_groups(
     alloc: Global,
     left: &mut Vec<u8>,
@@ -61,19 +72,43 @@ fn push_groups(
     ensures same_len { vec_len left.new ≡ vec_len left.old }
 {
     if size == 0 {
-        let group = Group::of(alloc, front)?;
-        out.push(group)?;
-        return Ok(());
+        return push_group(alloc, front, out);
     }
     for card in least..left.len() {
-        if left[card] > 0 {
-            left[card] -= 1;
-            front.push(Card::new(card as u8))?;
-            push_groups(alloc, left, card, size - 1, front, out)?;
-            front.pop();
-            left[card] += 1;
-        }
+        push_with(alloc, left, card, size - 1, front, out)?;
     }
+    Ok(())
+}
+
+/// Adds to `out` the cards of `front` followed by this card and then each group of `size` cards of the kinds from it on that the rest of `left` allows, in
+/// order: none if no copy of the card is left.
+#[cycle(lister)]
+fn push_with(
+    alloc: Global,
+    left: &mut Vec<u8>,
+    card: usize,
+    size: u8,
+    front: &mut Vec<Card>,
+    out: &mut Vec<Group>,
+) -> Result<(), AllocError>
+    requires few { vec_len left.old ≤ 52 }
+    requires within { card < vec_len left.old }
+    requires ascending { IsNonDecreasing front.old.items }
+    requires below { All (λ other. other ≤ card) front.old.items }
+    ensures found { OnOk result (out.new.items ≡ out.old.items
+        ++ map (λ g. front.old.items ++ g) (groups_with (groups_above size) left.old.items card)) }
+    ensures kept { OnOk result (front.new.items ≡ front.old.items) }
+    ensures left_kept { OnOk result (left.new.items ≡ left.old.items) }
+    ensures same_len { vec_len left.new ≡ vec_len left.old }
+{
+    if left[card] == 0 {
+        return Ok(());
+    }
+    left[card] -= 1;
+    front.push(Card::new(card as u8))?;
+    push_groups(alloc, left, card, size, front, out)?;
+    front.pop();
+    left[card] += 1;
     Ok(())
 }
 

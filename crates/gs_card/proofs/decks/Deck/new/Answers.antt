@@ -1,5 +1,5 @@
 use Rattle.std.proofs.Common.{sym, ◌∙◌}
-use Rattle.gs_card.proofs.DeckLaws.{sound_at}
+use Rattle.gs_card.proofs.DeckLaws.{copied, sound_at}
 use Rattle.gs_card.proofs.decks.Deck.new.Goals as goal
 
 pub invariant_of-result : goal.invariant_of-result
@@ -9,3 +9,6 @@ invariant_of-result c = sound_at _ _ _ _ _ _ (sym c.fault.ensures ∙ c.in_defau
 pub returns-clause-deck : goal.returns-clause-deck
 returns-clause-deck c = sound_at _ _ _ _ _ _ (sym c.fault.ensures ∙ c.in_default.is) c.in_ok-ranks.ensures.items c.in_ok-suits.ensures.items
     c.in_ok-counts.ensures
+
+pub counts-requires : goal.counts-requires
+counts-requires c = copied c.as_bytes-ranks.result.now c.as_bytes-suits.result.now c.as_bytes-copies.result.now (sym c.fault.ensures ∙ c.in_default.is)
