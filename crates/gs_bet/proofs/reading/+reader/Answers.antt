@@ -57,3 +57,15 @@ moves_of-loop-moves-preserved t c =
 pub move_of-returns : goal.move_of-returns
 unfolding move_at
 move_of-returns t c = grind arith
+
+pub act_of-returns-in_err-player : goal.act_of-returns-in_err-player
+unfolding act_with
+act_of-returns-in_err-player t c = grind (arith, act_is)
+
+pub act_of-returns-in_err-rest : goal.act_of-returns-in_err-rest
+unfolding act_with
+act_of-returns-in_err-rest t c = grind (arith, act_is)
+
+pub act_of-returns-in_err-moves : goal.act_of-returns-in_err-moves
+unfolding act_with
+act_of-returns-in_err-moves t c = grind (arith, act_is)
