@@ -55,7 +55,8 @@ some_pair x y z h m l o e = either x y x y z z (λ (p : x ≢ y) (q : y ≢ z) (
 pair_some : (x y z : ℕ) (h m l : ℕ) → InOrder x y z h m l → (x ≡ y) ⊎ (y ≡ z) ⊎ (x ≡ z) → (h ≡ m) ⊎ (m ≡ l)
 pair_some x y z h m l o e =
     ⊎_elim inl
-    (λ (p : h ≢ m). ⊎_elim inr (λ (q : m ≢ l). absurd (grind (arith, o.top, o.bottom, o.between, e, p, q))) (cases_eq m l))
+    (λ (p : h ≢ m). ⊎_elim inr (λ (q : m ≢ l). absurd (⊎_elim (λ (k : x ≡ y). omega arith)
+    (λ (r : (y ≡ z) ⊎ (x ≡ z)). ⊎_elim (λ (k : y ≡ z). omega arith) (λ (k : x ≡ z). omega arith) r) e)) (cases_eq m l))
     (cases_eq h m)
 
 all_same : (x y z : ℕ) (h m l : ℕ) → InOrder x y z h m l → h ≡ l → (x ≡ y) × (y ≡ z)
