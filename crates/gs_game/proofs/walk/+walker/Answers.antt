@@ -1,10 +1,10 @@
-use Rattle.std.proofs.{Common.{◌≡◌, ◌∙◌, refl, ap, length, length-append, ◌+◌, arith, rules}, lemmas.Grind.{common_steps}}
-use Rattle.gs_model.specs.{Walk.{show_end, fold_end}, Betting.{act}}
+use Rattle.std.proofs.{Common.{◌≡◌, ◌∙◌, refl, ap, subst, length, length-append, ◌+◌, arith}, lemmas.Grind.{common_steps}}
+use Rattle.gs_model.specs.{Walk.{show_end, fold_end}, Betting.{Bet, act}}
 use Rattle.gs_bet.specs.{TreeView.{plain, plain_act, plain_moves}, declared.shape.Act.{out-Act}}
-use Rattle.gs_bet.proofs.TreeLaws.{plain-fold, plain_act-out}
-use Rattle.gs_game.specs.{Games.{plain_trees}, Walks.{place_of}}
+use Rattle.gs_bet.proofs.TreeLaws.{plain-act, plain-fold, plain_act-out}
+use Rattle.gs_game.specs.{Games.{plain_trees}, Walks.{IsWalkable, place_of}}
 use Rattle.gs_game.proofs.{ActWalk.{ended, empty_list, act_begins, act_goes_on, act_ends, few_moves}, WalkRoom.{move_fits, walkable_first, walkable_moves}}
-use Rattle.gs_game.proofs.TreeSteps.{moves_step, none_left}
+use Rattle.gs_game.proofs.{Sizes.{steps_in, steps_of}, TreeSteps.{moves_step, none_left}}
 use Rattle.gs_game.proofs.walk.+walker.Goals as goal
 
 pub walk_from-returns-in-empty : goal.walk_from-returns-in-empty
@@ -63,8 +63,8 @@ pub walk_act-loop-next-preserved : goal.walk_act-loop-next-preserved
 walk_act-loop-next-preserved t c =
     let step = moves_step c.deref-next-items.result.now c.loop-next.next-index c.next-item.result c.loop-next-test.true c.next-item.is in
     let fallen = rw step at c.loop-next.invariant.falls in
-    let number : c.len-point.result ≡ length c.args.walk.now.points.items = search rules in
-    let choice : c.len-choice.result ≡ length c.loop-next.arrows.items = search rules in
+    let number : c.len-point.result ≡ length c.args.walk.now.points.items = c.len-point.ensures ∙ c.args.walk.now.points.ok.0 in
+    let choice : c.len-choice.result ≡ length c.loop-next.arrows.items = c.len-choice.ensures ∙ c.loop-next.arrows.ok.0 in
     let here = c.after-here.ensures (length c.loop-next.walk.points.items) (length c.loop-next.walk.ends.items) in
     let longer : length c.push-in-loop-next.new.self.items ≡ length c.loop-next.arrows.items + 1 = ap length c.in_ok-push-2.ensures.items
     ∙ length-append c.loop-next.arrows.items _ in
@@ -84,7 +84,7 @@ pub walk_act-returns : goal.walk_act-returns
 walk_act-returns t c =
     let is_act : plain_act c.args.act.now ≡ act (out-Act c.args.act.now).player (plain_moves c.deref-next-items.result.now) =
     rw c.deref-next-items.ensures.value (plain_act-out c.args.act.now) in
-    let number : c.len-point.result ≡ length c.args.walk.now.points.items = search rules in
+    let number : c.len-point.result ≡ length c.args.walk.now.points.items = c.len-point.ensures ∙ c.args.walk.now.points.ok.0 in
     rw is_act (act_ends (plain_trees c.args.rest.now) (out-Act c.args.act.now).player c.len-point.result (plain_moves c.deref-next-items.result.now) _
     c.args.place c.args.walk.now.points.items c.loop-next.walk.points.items
     c.args.walk.now.ends.items c.loop-next.walk.ends.items c.loop-next.arrows c.index_mut.result.now c.loop-next.invariant.going
@@ -111,3 +111,14 @@ walk_act-overflow_cast-choice t c = grind arith
 
 pub walk_act-overflow_cast-point-2 : goal.walk_act-overflow_cast-point-2
 walk_act-overflow_cast-point-2 t c = grind arith
+
+pub walk_below-walk_act-requires : goal.walk_below-walk_act-requires
+walk_below-walk_act-requires t c =
+    let act = c.in-Act.act in
+    let more = steps_in (plain_trees c.args.rest.now) in
+    let same : plain c.args.tree.now ≡ plain_act act = ap plain c.in-Act.is ∙ plain-act act in
+    let some = ap (steps_of more) (plain_act-out act) in (
+      omega (arith, c.decreases, ap (steps_of more) same, some),
+      subst (λ (b : Bet). IsWalkable (plain_trees c.args.rest.now) b
+          (place_of c.args.place (length c.args.walk.now.points.items) (length c.args.walk.now.ends.items))) same c.requires,
+    )

@@ -1,9 +1,9 @@
-use Rattle.std.proofs.Common.{length, refl, ◌≡◌, ◌≤◌, ◌++◌, ◌∷◌, ℕ, [], List, length-take, map, take, ap, sym, ◌∙◌, subst, arith, rules}
+use Rattle.std.proofs.Common.{length, refl, ◌≡◌, ◌<◌, ◌≤◌, ◌++◌, ◌∷◌, ℕ, [], List, length-take, map, take, ap, sym, ◌∙◌, subst, arith, rules}
 use Rattle.std.proofs.{lemmas.Grind.{common_steps}, lemmas.List.{get_or-take, take-map}, lemmas.List.Elements.{All-from_recursion, recursion_from_All}}
-use Rattle.std.specs.{Prelude.{All, IfOk, MatchOption, Option, Result, None, ◌≢◌}, declared.alloc.AllocError.{AllocError}, List.{AllByRecursion}}
+use Rattle.std.specs.{Prelude.{All, IfOk, IfSome, MatchOption, Option, Result, None, ◌≢◌}, declared.alloc.AllocError.{AllocError}, List.{AllByRecursion}}
 use Rattle.gs_card.specs.Decks.{DeckValue}
-use Rattle.gs_model.specs.Game.{Game as Rules, Round as RoundRules, High}
-use Rattle.gs_game.specs.{FaultOf.{IsFaultOf}, Games.{HasFewCards, game_of, round_rules}, GoingOn.{stopped_game, unbet}, Refusals.{Refusal, first_refusal}}
+use Rattle.gs_model.specs.{Game.{Game as Rules, Round as RoundRules, High}, Outcome.{IsBonus}}
+use Rattle.gs_game.specs.{FaultOf.{IsFaultOf}, Games.{HasFewCards, game_of, round_rules}, GoingOn.{StopsAfter, stopped_game, unbet}, Refusals.{Refusal, first_refusal}}
 use Rattle.gs_game.specs.{Sequences.{seen_sizes}, declared.faults.GameFault.{GameFault}, declared.game.Game.{Game}, declared.game.Round.{Round}}
 use Rattle.gs_game.specs.declared.valid.ValidGame.{ValidGame}
 use Rattle.gs_game.specs.declared.faults.GameFault.TheVariants as faults
@@ -49,6 +49,10 @@ made_so g round d e bonus rs same one suits copies rounds =
     ∙ ap (λ (s : ℕ). of s d.counts (1 ∷ []) rs) (sym suits)
     ∙ ap (λ (cs : List ℕ). of g.suits cs (1 ∷ []) rs) (sym copies)
     ∙ ap (λ (rs : List RoundRules). of g.suits g.copies (1 ∷ []) rs) rounds
+
+-- one hand in each category, which wins the put once
+one_bonus : IsBonus High (1 ∷ [])
+one_bonus = record { each = refl; in_range = All-from_recursion (λ (n : ℕ). (0 < n) × (n ≤ 9)) (1 ∷ []) ((omega arith, omega arith), tt) }
 
 -- what a game's first rounds are turned into, from what was read of the game
 stopped_so : (game read : Game) (round n : ℕ) (now stopped : List Round) (deck : DeckValue) (bonus : List ℕ) → read ≡ game → now ≡ read.rounds.items → n ≡ round
@@ -116,13 +120,16 @@ returns-after-fault-clause-whenever c =
     ]
 
 pub returns-after-fault-clause-stops : goal.returns-after-fault-clause-stops
-returns-after-fault-clause-stops c = grind (arith, common_steps)
+returns-after-fault-clause-stops c =
+    let P : Result (Option ValidGame) AllocError → Type 0 = λ r. IfOk r (λ o. IfSome o
+    (λ v. StopsAfter (game_of c.args.self.now.game) c.args.round (game_of v.game))) in
+    elim c.match-fault.branch [ in-Memory w ↦ subst P (sym w.result-is) tt | in_default w ↦ subst P (sym w.result-is) tt ]
 
 pub slice_bounds-stopped_rounds-end : goal.slice_bounds-stopped_rounds-end
 slice_bounds-stopped_rounds-end c = grind (arith, common_steps)
 
 pub check-requires-clause-bonus : goal.check-requires-clause-bonus
-check-requires-clause-bonus c = grind (arith, common_steps)
+check-requires-clause-bonus c = subst (IsBonus High) (sym (c.in_ok-vec.ensures.items_if_clones_equal (λ y k. search rules))) one_bonus
 
 pub check-requires-clause-cards : goal.check-requires-clause-cards
 check-requires-clause-cards c = grind (arith, common_steps)
