@@ -1,10 +1,10 @@
 -- The loop that counts sequences of groups.
-use Rattle.std.proofs.Common.{◌≡◌, ℕ, zero, suc, ◌+◌, ◌-◌, ◌<◌, ◌≤◌, ◌≢◌, cond, List, [], ◌∷◌, map, length, sum_by, refl, ap, ◌∙◌, true, false, Bool, drop, sym}
-use Rattle.std.proofs.{Common.{arith, slice_set, slice_index, nat_lt, count_by}, Math.ListN.{drop_of_length-le}, Math.Seq.{drop-cons}}
+use Rattle.std.proofs.Common.{min, ◌≡◌, ℕ, zero, suc, ◌+◌, ◌-◌, ◌<◌, ◌≤◌, ◌≢◌, cond, List, [], ◌∷◌, map, length, sum_by, refl, ap, ◌∙◌, true, false, Bool, drop}
+use Rattle.std.proofs.{Common.{arith, slice_set, slice_index, nat_lt, count_by, sym}, Math.ListN.{drop_of_length-le}, Math.Seq.{drop-cons}}
 use Rattle.std.proofs.{lemmas.Bool.{lt-ltb}, lemmas.List.Sums.{sum_by-append, sum_by-cons}, lemmas.List.{get_or-set_same, set-get_or}}
 use Rattle.std.specs.{Prelude.{◌==◌, flat_map}, List.{range_with_len}}
-use Rattle.gs_model.proofs.{GroupSteps.{set-set}, Basics.{count-head, count-past}}
 use Rattle.gs_model.specs.Cards.{groups_above, groups_with, left_from, left_after}
+use Rattle.gs_model.proofs.{GroupSteps.{set-set}, Basics.{count-head, count-past}}
 use Rattle.gs_game.specs.Sequences.{count_sequences}
 
 -- a card of a lower kind does not matter
@@ -137,3 +137,14 @@ last_kinds later left least h l = go (length left - least) least (omega arith)
         let count = ap (λ (l : List ℕ). count_by (λ copies. nat_lt 0 copies) l) first
         ∙ sum_by-cons (λ copies. cond (nat_lt 0 copies) 1 0) (slice_index left card) (drop (card + 1) left) in
         omega (arith, more, one, rest, count)
+
+-- one part more of a count that stops at a cap
+pub counted_more : (all cap total rest first others count : ℕ) → min all cap ≡ min (total + rest) cap → total ≤ cap → rest ≡ first + others
+    → count ≡ min first (cap - total) → (min all cap ≡ min (total + count + others) cap) × (total + count ≤ cap)
+counted_more all cap total rest first others count so_far small parts here =
+    (omega (arith, so_far, small, parts, here), omega (arith, small, here))
+
+-- the count that has reached its cap
+pub counted_all : (whole all cap total rest first others count : ℕ) → whole ≡ all → min all cap ≡ min (total + rest) cap → rest ≡ first + others
+    → count ≡ min first (cap - total) → cap ≤ total + count → cap ≡ min whole cap
+counted_all whole all cap total rest first others count same so_far parts here over = omega (arith, same, so_far, parts, here, over)

@@ -1,11 +1,13 @@
 -- Which refusal comes first.
-use Rattle.std.proofs.Common.{◌≡◌, ℕ, ◌-◌, ◌*◌, ◌^◌, ◌<◌, ◌≤◌, min, true, false, List, [], ◌∷◌, map, length, refl, sym, ap, arith}
+use Rattle.std.proofs.Common.{◌≡◌, ℕ, ◌-◌, ◌*◌, ◌^◌, ◌<◌, ◌≤◌, ◌≢◌, ◌⊎◌, min, true, false, List, [], ◌∷◌, map, length, refl, sym, ap, arith}
 use Rattle.std.proofs.lemmas.Bool.{lt-ltb, le-ltb}
-use Rattle.std.specs.Prelude.{Option, Some, None, nat_lt, Result, Ok, Err, MatchResult}
-use Rattle.gs_model.specs.{Betting.{Bet}, Frame.{trees_of}, Game.{Round as RoundRules}, Walk.{walk, walk_start}, Numbering.{greatest}}
+use Rattle.std.specs.Prelude.{◌==◌, ◌&&◌, Option, Some, None, nat_le, nat_lt, Result, Ok, Err, MatchResult}
+use Rattle.gs_model.specs.{Betting.{Bet}, Frame.{trees_of}, Walk.{walk, walk_start}, Numbering.{greatest}}
+use Rattle.gs_model.specs.Game.{Game as Rules, Round as RoundRules, round_at, round_count}
 use Rattle.gs_game.specs.{declared.faults.GameFault.{GameFault}, declared.game.Game.{Game}, declared.game.Round.{Round}, FaultOf.{IsFaultOf}, Counts.{ends_in}}
 use Rattle.gs_game.specs.{Games.{round_rules, game_of, plain_trees}, Money.{first_of, most_in}, Refusals.{betting_refusal}}
 use Rattle.gs_game.specs.Refusals.{Refusal, put_too_large, too_many_lines, no_even_from, uneven_from, even_refusal, uneven_refusal, put_refusal, lines_refusal}
+use Rattle.gs_game.specs.Refusals.{card_refusal, no_private, private_refusal, rounds, rounds_refusal}
 use Rattle.gs_game.specs.declared.faults.GameFault.TheVariants as faults
 use Rattle.gs_game.proofs.EndLaws.{rounds_count}
 
@@ -114,3 +116,18 @@ pub lines_decide : (g : Game) (r : Result (Unit {0}) GameFault) → EvensPass g 
     → MatchResult r (λ _. betting_refusal (game_of g) ≡ None) (IsFaultOf (betting_refusal (game_of g)))
 lines_decide g (Ok x) p put h = betting_fine g p put h
 lines_decide g (Err f) p put h = lines_fault g f p put h
+
+-- no round, or too many
+pub rounds_refused : (g : Rules) (n : ℕ) → n ≡ round_count g → (n ≡ 0) ⊎ ((n ≢ 0) × (4 < n)) → card_refusal g ≡ Some (rounds n)
+unfolding card_refusal rounds_refusal
+rounds_refused g n e h =
+    let fails : (nat_le 1 (round_count g) && nat_le (round_count g) 4) ≡ false = grind (arith, e, h) in
+    rw fails (ap (λ (k : ℕ). Some (rounds k)) (sym e))
+
+-- no private card in round 1
+pub private_refused : (g : Rules) → 0 < round_count g → round_count g ≤ 4 → (round_at g 1).private ≡ 0 → card_refusal g ≡ Some no_private
+unfolding card_refusal rounds_refusal private_refusal
+private_refused g some few p =
+    let holds : (nat_le 1 (round_count g) && nat_le (round_count g) 4) ≡ true = grind (arith, some, few) in
+    let none : ((round_at g 1).private == 0) ≡ true = grind (arith, p) in
+    rw (holds, none) refl

@@ -2,6 +2,7 @@ pub mod Sizes
 pub mod MoneyLaws
 pub mod TreeSteps
 pub mod RoundSteps
+pub mod Searches
 pub mod EndLaws
 pub mod Evenly
 pub mod Deciding

@@ -1,7 +1,8 @@
 use Rattle.std.proofs.Common.{◌≡◌, ◌<◌, ◌-◌, ◌∙◌, ℕ, List, count_by, drop, length-drop, nat_lt, refl, sym, ap, min, length, slice_index, get_or, take, take_all}
 use Rattle.std.proofs.{lemmas.Grind.{common_steps}, Common.{arith}}
-use Rattle.gs_game.proofs.{CountSteps.{count_rest, last_kinds, nothing_more, with_card, rest_more, rest_all, next_group, restored}, RoundSteps.{split_number}}
 use Rattle.gs_game.specs.Sequences.{count_sequences}
+use Rattle.gs_game.proofs.CountSteps.{count_rest, counted_all, counted_more, last_kinds, nothing_more, with_card, rest_more, rest_all, next_group, restored}
+use Rattle.gs_game.proofs.RoundSteps.{split_number}
 use Rattle.gs_game.proofs.counting.+counter.Goals as goal
 
 pub count_with-returns-clause-count : goal.count_with-returns-clause-count
@@ -19,16 +20,17 @@ count_from-returns-then-total-cap-clause-count t c =
     let all = rest_all c.args.later.now c.args.left.now c.args.size c.args.least (omega arith) in
     let more = rest_more c.args.later.now c.args.left.now (c.args.size - 1) c.loop-card.card (omega (arith, ap length c.loop-card.invariant.kept)) in
     let here = rw c.loop-card.invariant.kept at c.count_with-total.ensures.count in
-    omega (arith, all, more, here, c.loop-card.invariant.rest)
+    counted_all _ _ _ _ _ _ _ _ all c.loop-card.invariant.rest more here c.if-total-cap.true
 
 pub count_from-loop-card-preserved : goal.count_from-loop-card-preserved
 count_from-loop-card-preserved t c =
     let more = rest_more c.args.later.now c.args.left.now (c.args.size - 1) c.loop-card.card (omega (arith, ap length c.loop-card.invariant.kept)) in
     let here = rw c.loop-card.invariant.kept at c.count_with-total.ensures.count in
+    let counted = counted_more _ _ _ _ _ _ _ c.loop-card.invariant.rest c.loop-card.invariant.small more here in
     record {
-      rest = omega (arith, more, here, c.loop-card.invariant.rest, c.loop-card.invariant.small);
+      rest = counted.0;
       kept = c.count_with-total.ensures.kept ∙ c.loop-card.invariant.kept;
-      small = omega (arith, here, c.loop-card.invariant.small);
+      small = counted.1;
     }
 
 pub count_from-returns-in-len1-up-clause-count : goal.count_from-returns-in-len1-up-clause-count

@@ -1,7 +1,12 @@
+use Rattle.std.proofs.Common.{◌<◌, List, [], ◌∷◌}
 use Rattle.std.proofs.{Common.{◌≤◌, ◌*◌, ◌-◌, ℕ, suc, length, take, drop, get_or, sum, arith}, lemmas.Grind.{common_steps}, lemmas.List.Sums.{sum_by-cons}}
 use Rattle.gs_game.specs.Sequences.{power}
 use Rattle.gs_game.proofs.{Powers.{draws_bound, power_fits}, RoundSteps.{split_number}}
 use Rattle.gs_game.proofs.deals.+draws.Goals as goal
+
+some_power : (sizes : List ℕ) → length sizes < 1 → 1 ≤ power 468 (sum sizes)
+some_power [] l = omega arith
+some_power (size ∷ sizes) l = absurd (omega (arith, l))
 
 pub draws-requires : goal.draws-requires
 draws-requires t c =
@@ -28,3 +33,6 @@ overflow_mul-result t c =
 
 pub returns-in-len1-up-clause-ways : goal.returns-in-len1-up-clause-ways
 returns-in-len1-up-clause-ways t c = grind (arith, common_steps)
+
+pub returns-in-empty-clause-bound : goal.returns-in-empty-clause-bound
+returns-in-empty-clause-bound t c = some_power c.args.sizes.now c.in-empty.len_below

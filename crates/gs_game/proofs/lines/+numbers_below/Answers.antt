@@ -1,8 +1,9 @@
-use Rattle.std.proofs.{Common.{◌≡◌, ◌∙◌, arith}, lemmas.Grind.{common_steps}}
+use Rattle.std.proofs.{Common.{◌≡◌, ◌∙◌, arith, ap}, lemmas.Grind.{common_steps}}
 use Rattle.gs_model.specs.Betting.{act}
 use Rattle.gs_bet.specs.{TreeView.{plain, plain_moves}, declared.shape.Act.{out-Act}}
 use Rattle.gs_bet.proofs.TreeLaws.{plain-act, plain_act-out}
-use Rattle.gs_game.proofs.TreeSteps.{moves_step}
+use Rattle.gs_game.specs.Counts.{move_ends, move_points}
+use Rattle.gs_game.proofs.TreeSteps.{none_left, moves_step}
 use Rattle.gs_game.proofs.lines.+numbers_below.Goals as goal
 
 pub loop-next-init : goal.loop-next-init
@@ -27,3 +28,13 @@ overflow_add-numbers-in-loop-next t c = grind (arith, common_steps)
 
 pub overflow_add-numbers : goal.overflow_add-numbers
 overflow_add-numbers t c = grind (arith, common_steps)
+
+pub returns-after-loop-next-clause-ends : goal.returns-after-loop-next-clause-ends
+returns-after-loop-next-clause-ends t c =
+    let none = none_left c.deref-next-items.result.now c.loop-next.next-index c.loop-next-test.false in
+    omega (arith, c.loop-next.invariant.ends, ap (move_ends c.args.more.ends) none)
+
+pub returns-after-loop-next-clause-points : goal.returns-after-loop-next-clause-points
+returns-after-loop-next-clause-points t c =
+    let none = none_left c.deref-next-items.result.now c.loop-next.next-index c.loop-next-test.false in
+    omega (arith, c.loop-next.invariant.points, ap (move_points c.args.more.points) none)

@@ -1,8 +1,9 @@
-use Rattle.std.proofs.{Common.{◌≡◌, ◌∙◌, refl, ap, subst, length, length-append, ◌+◌, arith}, lemmas.Grind.{common_steps}}
-use Rattle.gs_model.specs.{Walk.{show_end, fold_end}, Betting.{Bet, act}}
+use Rattle.std.proofs.{Common.{◌≡◌, ◌∙◌, refl, ap, sym, subst, length, length-append, ◌+◌, arith}, lemmas.Grind.{common_steps}}
+use Rattle.std.specs.Prelude.{IfOk}
+use Rattle.gs_model.specs.{Walk.{after_move, show_end, fold_end, walk_rounds, walk_tree}, Betting.{Bet, act}}
 use Rattle.gs_bet.specs.{TreeView.{plain, plain_act, plain_moves}, declared.shape.Act.{out-Act}}
 use Rattle.gs_bet.proofs.TreeLaws.{plain-act, plain-fold, plain_act-out}
-use Rattle.gs_game.specs.{Games.{plain_trees}, Walks.{IsWalkable, place_of}}
+use Rattle.gs_game.specs.{Games.{plain_trees}, Walks.{Grows, IsWalkable, place_of}}
 use Rattle.gs_game.proofs.{ActWalk.{ended, empty_list, act_begins, act_goes_on, act_ends, few_moves}, WalkRoom.{move_fits, walkable_first, walkable_moves}}
 use Rattle.gs_game.proofs.{Sizes.{steps_in, steps_of}, TreeSteps.{moves_step, none_left}}
 use Rattle.gs_game.proofs.walk.+walker.Goals as goal
@@ -65,7 +66,11 @@ walk_act-loop-next-preserved t c =
     let fallen = rw step at c.loop-next.invariant.falls in
     let number : c.len-point.result ≡ length c.args.walk.now.points.items = c.len-point.ensures ∙ c.args.walk.now.points.ok.0 in
     let choice : c.len-choice.result ≡ length c.loop-next.arrows.items = c.len-choice.ensures ∙ c.loop-next.arrows.ok.0 in
-    let here = c.after-here.ensures (length c.loop-next.walk.points.items) (length c.loop-next.walk.ends.items) in
+    let player = (out-Act c.args.act.now).player in
+    let from = place_of c.args.place (length c.loop-next.walk.points.items) (length c.loop-next.walk.ends.items) in
+    let here = c.after-here.ensures (length c.loop-next.walk.points.items) (length c.loop-next.walk.ends.items)
+    ∙ ap (λ n. after_move player n c.len-choice.result c.next-item.result.chips from) number
+    ∙ ap (λ n. after_move player (length c.args.walk.now.points.items) n c.next-item.result.chips from) choice in
     let longer : length c.push-in-loop-next.new.self.items ≡ length c.loop-next.arrows.items + 1 = ap length c.in_ok-push-2.ensures.items
     ∙ length-append c.loop-next.arrows.items _ in
     record {
@@ -74,8 +79,8 @@ walk_act-loop-next-preserved t c =
           c.args.walk.now.points.items c.loop-next.walk.points.items c.walk_below.new.walk.points.items c.args.walk.now.ends.items c.loop-next.walk.ends.items
           c.walk_below.new.walk.ends.items
           c.loop-next.arrows.items c.push-in-loop-next.new.self.items c.in_ok-to.to c.loop-next.invariant.going step
-          (rw (number, choice) at here) c.in_ok-to.ensures c.in_ok-push-2.ensures.items;
-      choice = longer ∙ omega (arith, c.loop-next.invariant.choice);
+          here c.in_ok-to.ensures c.in_ok-push-2.ensures.items;
+      choice = longer ∙ ap (λ k. k + 1) c.loop-next.invariant.choice;
       few = c.loop-next.invariant.few;
       falls = omega (arith, fallen);
     }
@@ -96,9 +101,6 @@ walk_act-index_mut-requires t c = grind (arith, common_steps)
 
 pub walk_from-walk_below-requires : goal.walk_from-walk_below-requires
 walk_from-walk_below-requires t c = grind (arith, common_steps)
-
-pub walk_from-returns-in-len1-up : goal.walk_from-returns-in-len1-up
-walk_from-returns-in-len1-up t c = grind (arith, common_steps)
 
 pub walk_from-next_round-requires : goal.walk_from-next_round-requires
 walk_from-next_round-requires t c = grind arith
@@ -122,3 +124,18 @@ walk_below-walk_act-requires t c =
       subst (λ (b : Bet). IsWalkable (plain_trees c.args.rest.now) b
           (place_of c.args.place (length c.args.walk.now.points.items) (length c.args.walk.now.ends.items))) same c.requires,
     )
+
+pub walk_act-loop-next-smaller : goal.walk_act-loop-next-smaller
+walk_act-loop-next-smaller t c = omega (arith, c.loop-next-test.true)
+
+pub walk_below-returns-in-Act : goal.walk_below-returns-in-Act
+walk_below-returns-in-Act t c =
+    let same : plain c.args.tree.now ≡ plain_act c.in-Act.act = ap plain c.in-Act.is ∙ plain-act c.in-Act.act in
+    let walk = c.args.walk.now in
+    let new = c.walk_act.new.walk in
+    let start = place_of c.args.place (length walk.points.items) (length walk.ends.items) in
+    subst (λ (b : Bet). IfOk c.walk_act.result (λ to. Grows walk.points.items new.points.items walk.ends.items new.ends.items to start
+    (walk_tree (walk_rounds (plain_trees c.args.rest.now)) b start))) (sym same) c.walk_act.ensures
+
+pub walk_from-returns-in-len1-up : goal.walk_from-returns-in-len1-up
+walk_from-returns-in-len1-up t c = grind (arith, common_steps)
