@@ -1,11 +1,11 @@
 //! The tables of all signals of a game.
 
-ghost use Rattle.std.specs.Prelude.{◌≡◌, ◌≤◌, ◌<◌, ◌+◌, suc, [], ◌++◌, ◌/◌, All, IfOk, OnOk, length, string_bytes};
+ghost use Rattle.std.specs.Prelude.{◌≡◌, ◌≤◌, ◌<◌, ◌+◌, suc, [], ◌++◌, ◌/◌, ◌∷◌, All, IfOk, OnOk, length, map, string_bytes};
 ghost use Rattle.gs_game.specs.{Games.{game_of, round_rules}, Limits.{IsDealable, IsWithinLimits}};
 ghost use Rattle.gs_model.specs.{Game.{round_at, round_count}, Signals.{signals, signal_at, left_by}};
-ghost use Rattle.gs_model.specs.{Signals.{parents as parents_in}, Cards.{ways, left_after}};
-ghost use Rattle.gs_card.specs.Decks.{kinds};
-ghost use Rattle.gs_tree.specs.{Texts.{signal_text}, Tables.{AreTables, IsLayer}};
+ghost use Rattle.gs_model.specs.{Signals.{edge, parents as parents_in, showings}, Cards.{ways, left_after}};
+ghost use Rattle.gs_card.specs.Decks.{IsDeck, kinds};
+ghost use Rattle.gs_tree.specs.{Texts.{signal_text}, Tables.{AreTables, IsLayer, shown_in}};
 
 use crate::layer::{Layer, push_showings, take_cards};
 use crate::texts::push_seen;
@@ -42,6 +42,32 @@ fn none_grown(alloc: Global, room: usize, parents: usize) -> Result<Grown, Alloc
 fn room_for(count: u32, kinds: u8) -> usize {
     let all = u64::from(count) * u64::from(kinds);
     all.min(200_000) as usize
+}
+
+/// Adds the children of a signal, and the place of the first one. `left` has the copies that the signal leaves, and `parent` is its place.
+fn push_children(
+    alloc: Global,
+    deck: &Deck,
+    left: &[u8],
+    next: &Round,
+    parent: u32,
+    grown: &mut Grown,
+) -> Result<(), AllocError>
+    requires counted { length left.now ≡ kinds deck.now }
+    requires few_copies { All (λ n. n ≤ 9) left.now }
+    requires private { next.now.private ≤ 3 }
+    requires public { next.now.public ≤ 3 }
+    requires long { length grown.old.parents.items ≡ length grown.old.layer.shown.items }
+    requires few { length grown.old.layer.shown.items ≤ 200000 }
+    ensures shown { OnOk result (shown_in grown.new.layer ≡ shown_in grown.old.layer ++ showings left.now (round_rules next.now)) }
+    ensures edges { OnOk result (grown.new.layer.edges ≡ grown.old.layer.edges ++ map (edge left.now) (showings left.now (round_rules next.now))) }
+    ensures firsts { OnOk result (grown.new.layer.firsts.items ≡ grown.old.layer.firsts.items ++ length grown.old.layer.shown.items ∷ []) }
+    ensures parents { OnOk result (grown.new.parents.items ≡ grown.old.parents.items ++ map (λ _. parent) (showings left.now (round_rules next.now))) }
+    ensures long { OnOk result (length grown.new.parents.items ≡ length grown.new.layer.shown.items) }
+{
+    grown.layer.firsts.push(grown.layer.shown.len() as u32)?;
+    push_showings(alloc, deck, left, next, &mut grown.layer)?;
+    grown.parents.resize(grown.layer.shown.len(), parent)
 }
 
 /// The signals of all rounds, round by round.
@@ -99,6 +125,38 @@ impl Tables {
         Ok(left)
     }
 
+    /// Adds the signals of the round after those in the tables to `grown`, which has none yet; `count` is the number of signals of the last one.
+    fn push_round(
+        &self,
+        alloc: Global,
+        game: &Game,
+        count: u32,
+        next: &Round,
+        grown: &mut Grown,
+    ) -> Result<(), AllocError>
+        requires deck { IsDeck game.now.deck }
+        requires tables { AreTables (game_of game.now) self.now.parents.items self.now.layers.items }
+        requires counted { count ≡ length (signals (game_of game.now) (length self.now.layers.items)) }
+        requires round { round_rules next.now ≡ round_at (game_of game.now) (suc (length self.now.layers.items)) }
+        requires few { length (signals (game_of game.now) (suc (length self.now.layers.items))) ≤ 200000 }
+        requires private { next.now.private ≤ 3 }
+        requires public { next.now.public ≤ 3 }
+        requires no_parents { grown.old.parents.items ≡ [] }
+        requires no_shown { grown.old.layer.shown.items ≡ [] }
+        requires no_edges { grown.old.layer.edges ≡ [] }
+        requires no_firsts { grown.old.layer.firsts.items ≡ [] }
+        ensures parents { OnOk result (grown.new.parents.items ≡ parents_in (game_of game.now) (suc (length self.now.layers.items))) }
+        ensures layer { OnOk result (IsLayer (game_of game.now) (length self.now.layers.items) grown.new.layer) }
+    {
+        let round = self.layers.len();
+        for parent in 0..count {
+            let left = self.copies_left(alloc, game, round, parent)?;
+            push_children(alloc, &game.deck, &left, next, parent, grown)?;
+        }
+        grown.layer.firsts.push(grown.layer.shown.len() as u32)?;
+        Ok(())
+    }
+
     /// Returns the signals of the round after those in the tables; `count` is the number of signals of the last one.
     fn grow(
         &self,
@@ -116,16 +174,9 @@ impl Tables {
         ensures parents { IfOk result (λ grown. grown.parents.items ≡ parents_in (game_of game.now) (suc (length self.now.layers.items))) }
         ensures layer { IfOk result (λ grown. IsLayer (game_of game.now) (length self.now.layers.items) grown.layer) }
     {
-        let round = self.layers.len();
         let room = room_for(count, game.deck.kinds());
         let mut grown = none_grown(alloc, room, count as usize + 1)?;
-        for parent in 0..count {
-            let left = self.copies_left(alloc, game, round, parent)?;
-            grown.layer.firsts.push(grown.layer.shown.len() as u32)?;
-            push_showings(alloc, &game.deck, &left, next, &mut grown.layer)?;
-            grown.parents.resize(grown.layer.shown.len(), parent)?;
-        }
-        grown.layer.firsts.push(grown.layer.shown.len() as u32)?;
+        self.push_round(alloc, game, count, next, &mut grown)?;
         Ok(grown)
     }
 

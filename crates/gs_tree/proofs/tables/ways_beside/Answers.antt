@@ -1,6 +1,6 @@
-use Rattle.std.proofs.{Common.{◌≡◌, ◌-◌, ◌<◌, ◌≤◌, ℕ, List, length, get_or, sym, ◌∙◌, arith}, lemmas.Grind.{common_steps}}
+use Rattle.std.proofs.{Common.{◌≡◌, ◌-◌, ◌<◌, ◌≤◌, ℕ, List, length, get_or, sym, ap, ◌∙◌, arith}, lemmas.Grind.{common_steps}}
 use Rattle.gs_model.specs.Cards.{left_after}
-use Rattle.gs_model.proofs.Listed.{length-after}
+use Rattle.gs_model.proofs.Listed.{length-after, times}
 use Rattle.gs_card.proofs.TakenCards.{ways_more, few_ways, ways-none}
 use Rattle.gs_tree.proofs.{Beside.{beside_read}, Paths.{at_three, few_product}}
 use Rattle.gs_tree.proofs.tables.ways_beside.Goals as goal
@@ -49,19 +49,14 @@ loop-i-preserved c =
     let few : get_or counts card 0 ≤ 9 = c.kinds-kinds.ensures.deck.copies card 0 here in
     let read = beside_read counts c.args.held.now c.args.board.now c.args.before.now card in
     let copies : c.from.result ≡ get_or counts card 0 = c.from.ensures ∙ c.count.ensures in
-    let rest : c.saturating_sub-rest.result ≡ get_or left card 0 - c.times-again.result =
-    omega (
-      arith,
-      read,
-      copies,
-      c.saturating_sub-rest.ensures,
-      c.saturating_sub-in-loop-i-2.ensures,
-      c.saturating_sub-in-loop-i.ensures,
-      c.saturating_sub.ensures,
-      c.times.ensures.value,
-      c.times-in-loop-i.ensures.value,
-      c.times-in-loop-i-2.ensures.value,
-    ) in
+    let all : ℕ = get_or counts card 0 in
+    let rest : c.saturating_sub-rest.result ≡ get_or left card 0 - c.times-again.result = c.saturating_sub-rest.ensures
+    ∙ ap (λ n. n - c.times-again.result) (c.saturating_sub-in-loop-i-2.ensures
+    ∙ ap (λ n. n - c.times-in-loop-i-2.result) (c.saturating_sub-in-loop-i.ensures
+    ∙ ap (λ n. n - c.times-in-loop-i.result) (c.saturating_sub.ensures ∙ ap (λ n. n - c.times.result) copies
+    ∙ ap (λ n. all - n) c.times.ensures.value)
+    ∙ ap (λ n. all - times card c.args.held.now - n) c.times-in-loop-i.ensures.value)
+    ∙ ap (λ n. all - times card c.args.held.now - times card c.args.board.now - n) c.times-in-loop-i-2.ensures.value ∙ sym read) in
     let less : get_or left card 0 ≤ 9 = omega (arith, read, few) in
     record {
       counted = c.shared-ways.ensures ∙ ways_more left own i card c.loop-i.ways c.saturating_sub-rest.result c.times-again.result

@@ -1,4 +1,4 @@
-use Rattle.std.proofs.{Common.{◌≡◌, ◌<◌, ℕ, Some, length, sym, ap, ◌∙◌, arith}, lemmas.Grind.{common_steps}}
+use Rattle.std.proofs.{Common.{◌≡◌, ◌<◌, ℕ, Some, length, sym, ap, ◌∙◌, ⊎_elim, arith}, lemmas.Bool.{cases_lt, false≢true}}
 use Rattle.gs_game.specs.{Games.{game_of}, declared.game.Game.{Game as Described}}
 use Rattle.gs_model.specs.{Game.{Game}, Signals.{signal_at, signals}}
 use Rattle.gs_tree.specs.{Texts.{signal_text}, Trees.{deck_of, rules_of}}
@@ -18,4 +18,18 @@ returns-then-is_text_of-clause-only c =
     λ i l e. ap Some (text_once g d c.args.round n i c.deck-deck.ensures.valid c.deck-deck.ensures.valid.counted within l (sym here ∙ e))
 
 pub loop-signal-preserved : goal.loop-signal-preserved
-loop-signal-preserved c = grind (arith, common_steps)
+loop-signal-preserved c =
+    let g : Game = rules_of c.args.self.now in
+    let d = deck_of c.args.self.now in
+    let n : ℕ = c.loop-signal.signal in
+    let read : signal_text c.game-game.result.now.deck (signal_at (game_of c.game-game.result.now) c.from.result n)
+    ≡ signal_text d (signal_at g c.args.round n) =
+    ap (λ (x : Described). signal_text x.deck (signal_at (game_of x) c.from.result n)) c.game-game.ensures
+    ∙ ap (λ k. signal_text d (signal_at g k n)) c.from.ensures in
+    λ k below e. ⊎_elim
+    (λ before. c.loop-signal.invariant k before e)
+    (λ from.
+    let at : k ≡ n = omega arith in
+    false≢true (sym c.if-is_text_of.false ∙ c.is_text_of.ensures.1 (c.as_bytes-bytes.ensures.value ∙ e
+    ∙ ap (λ i. signal_text d (signal_at g c.args.round i)) at ∙ sym read)))
+    (cases_lt k n)

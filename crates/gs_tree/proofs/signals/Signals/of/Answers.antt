@@ -1,9 +1,10 @@
-use Rattle.std.proofs.{Common.{All, arith, subst}, lemmas.Grind.{common_steps}}
+use Rattle.std.proofs.{Common.{◌≡◌, All, arith, length, map, subst}, lemmas.Grind.{common_steps}}
+use Rattle.std.specs.Prelude.{IsTrue, MatchOption}
 use Rattle.gs_card.specs.Rankings.{ranking_of}
 use Rattle.gs_game.specs.{Games.{game_of}, declared.game.Game.{Game as Described}}
-use Rattle.gs_model.specs.Game.{round_count}
+use Rattle.gs_model.specs.{Game.{round_count}, Signals.{signals}, ViewTree.{signal_strength}}
 use Rattle.gs_rank.specs.Hands.{IsStrength}
-use Rattle.gs_tree.specs.Kept.{AreKeptCards}
+use Rattle.gs_tree.specs.{Boards.{AreBoards}, Kept.{AreKeptCards}, Masks.{AreMasks, HasMasks}, Plain.{IsPlain}, Tables.{AreTables}, Walk.{last_count}}
 use Rattle.gs_tree.proofs.signals.Signals.of.Goals as goal
 
 pub invariant_of-result-clause-dealt : goal.invariant_of-result-clause-dealt
@@ -20,16 +21,29 @@ pub masks_of-requires-clause-limits : goal.masks_of-requires-clause-limits
 masks_of-requires-clause-limits c = grind (arith, common_steps)
 
 pub invariant_of-result-clause-masked : goal.invariant_of-result-clause-masked
-invariant_of-result-clause-masked c = grind arith
+invariant_of-result-clause-masked c =
+    subst (λ (x : Described). MatchOption c.in_ok-masks.masks (HasMasks (game_of x) → last_count (game_of x) ≡ 0) (λ v. AreMasks (game_of x) v.items))
+    c.game-6.ensures c.in_ok-masks.ensures
+
+pub invariant_of-result-clause-listed : goal.invariant_of-result-clause-listed
+invariant_of-result-clause-listed c =
+    let t = c.in_ok-tables.tables in
+    subst (λ (x : Described). AreTables (game_of x) t.parents.items t.layers.items) c.game.ensures c.in_ok-tables.ensures.tables
 
 pub invariant_of-result-clause-counted : goal.invariant_of-result-clause-counted
-invariant_of-result-clause-counted c = grind arith
+invariant_of-result-clause-counted c =
+    subst (λ (x : Described). length c.in_ok-tables.tables.layers.items ≡ round_count (game_of x)) c.game.ensures c.in_ok-tables.ensures.all
 
 pub invariant_of-result-clause-even : goal.invariant_of-result-clause-even
-invariant_of-result-clause-even c = grind arith
+invariant_of-result-clause-even c =
+    subst (λ (x : Described). IsTrue c.is_plain-plain.result → IsPlain (game_of x)) c.game-5.ensures c.is_plain-plain.ensures.plain
 
 pub invariant_of-result-clause-ranked : goal.invariant_of-result-clause-ranked
-invariant_of-result-clause-ranked c = grind arith
+invariant_of-result-clause-ranked c =
+    subst (λ (x : Described). c.in_ok-strengths.strengths.items ≡ map (signal_strength (game_of x)) (signals (game_of x) (round_count (game_of x))))
+    c.game-3.ensures c.in_ok-strengths.ensures.value
 
 pub invariant_of-result-clause-beside : goal.invariant_of-result-clause-beside
-invariant_of-result-clause-beside c = grind arith
+invariant_of-result-clause-beside c =
+    let b = c.in_ok-boards.boards in
+    subst (λ (x : Described). AreBoards (game_of x) b.firsts.items b.nexts.items) c.game-4.ensures c.in_ok-boards.ensures

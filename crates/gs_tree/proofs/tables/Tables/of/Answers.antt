@@ -1,7 +1,8 @@
-use Rattle.std.proofs.{Common.{◌≡◌, ◌+◌, ◌++◌, ◌∷◌, [], ℕ, suc, List, length, length-append, get_or, sym, ap, ◌∙◌, subst, arith}, lemmas.List.{length-map}}
+use Rattle.std.proofs.Common.{◌≡◌, ◌+◌, ◌-◌, ◌<◌, ◌++◌, ◌∷◌, [], ℕ, suc, List, length, length-append, map, get_or, sym, ap, ◌∙◌, subst, arith}
+use Rattle.std.proofs.lemmas.List.{get_or-map, length-map}
 use Rattle.std.specs.Global.{Vec}
 use Rattle.gs_game.specs.{Games.{game_of, round_rules}, declared.game.Round.{Round}}
-use Rattle.gs_model.specs.{Game.{Game}, Signals.{signals, parents}}
+use Rattle.gs_model.specs.{Betting.{even}, Game.{Game, Round as Rules}, Signals.{signals, parents}}
 use Rattle.gs_model.proofs.Ranges.{length-parents}
 use Rattle.gs_tree.specs.{Tables.{AreTables, IsLayer}, declared.layer.Layer.{Layer}}
 use Rattle.std.proofs.lemmas.Grind.{common_steps}
@@ -70,7 +71,15 @@ loop-next-preserved c =
     }
 
 pub grow-requires-clause-round : goal.grow-requires-clause-round
-grow-requires-clause-round c = grind (arith, common_steps)
+grow-requires-clause-round c =
+    let i : ℕ = c.loop-next.next-index in
+    let next : Round = c.next-item.result in
+    let rounds : List Round = c.args.game.now.rounds.items in
+    let none : Rules = record { private = 0; public = 0; tree = even } in
+    let here : i < length rounds = omega (arith, ap (λ (x : List Round). length x) c.deref-next-items.ensures.value) in
+    let at : i ≡ suc (length c.loop-next.tables.layers.items) - 1 = omega (arith, c.loop-next.invariant.rounds) in
+    ap round_rules (c.next-item.is ∙ ap (λ (x : List Round). get_or x i next) c.deref-next-items.ensures.value)
+    ∙ sym (get_or-map round_rules rounds i next none here) ∙ ap (λ k. get_or (map round_rules rounds) k none) at
 
 pub returns-clause-all : goal.returns-clause-all
 returns-clause-all c = grind (arith, common_steps)

@@ -1,4 +1,5 @@
-use Rattle.std.proofs.Common.{◌≡◌, ◌++◌, EachIndex, List, replicate, slice_index, subst, sym, ℕ}
+use Rattle.std.proofs.Common.{◌≡◌, ◌++◌, EachIndex, List, replicate, slice_index, subst, sym, ◌∙◌, ℕ}
+use Rattle.std.proofs.lemmas.Bool.{false≢true}
 use Rattle.gs_tree.proofs.Ones.{are_replicated, ones_ahead, ones_behind, ones_joined}
 use Rattle.gs_tree.proofs.ways.Ways.are_ones.Goals as goal
 
@@ -22,7 +23,7 @@ returns-else-are_ones c =
     let first : List ℕ = replicate c.self.inside.ones 1 in
     let rest : List ℕ = c.self.inside.rest.items in
     let wide : List ℕ = c.self.inside.wide.items in (
-      (λ is. absurd cc),
+      (λ is. absurd (false≢true (sym c.if-are_ones.false ∙ is))),
       (λ each. c.are_ones.ensures.1 (subst AreOnes (sym c.deref.ensures.value)
           (ones_behind first rest (ones_ahead (first ++ rest) wide (subst AreOnes (sym c.self.view_is) each))))),
     )

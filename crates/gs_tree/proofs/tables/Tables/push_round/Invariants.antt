@@ -3,7 +3,7 @@ use Rattle.std.specs.{Prelude.{flat_map}, List.{range_with_len}}
 use Rattle.gs_game.specs.Games.{game_of}
 use Rattle.gs_model.specs.{Game.{round_at}, Signals.{signals, children, owners, showings, edge, left_by, first_child}}
 use Rattle.gs_tree.specs.Tables.{shown_in}
-use Rattle.gs_tree.proofs.tables.Tables.grow.Given as goal
+use Rattle.gs_tree.proofs.tables.Tables.push_round.Given as goal
 
 abbrev pub invariant-loop-parent : goal.invariant-loop-parent
 invariant-loop-parent l =

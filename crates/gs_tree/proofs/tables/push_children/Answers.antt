@@ -1,0 +1,33 @@
+use Rattle.std.proofs.Common.{◌≡◌, ◌+◌, ◌-◌, ◌++◌, ℕ, List, length, map, take, replicate, length-append, ap, ◌∙◌, arith}
+use Rattle.std.proofs.lemmas.List.{length-map}
+use Rattle.std.specs.Prelude.{OnOk, Result, Ok, Err, if◌then◌else◌, is_ok}
+use Rattle.gs_game.specs.Games.{round_rules}
+use Rattle.gs_model.specs.Signals.{Seen, showings}
+use Rattle.gs_tree.specs.Shown.{seen_of}
+use Rattle.gs_tree.proofs.Grown.{filled}
+use Rattle.gs_tree.proofs.tables.push_children.Goals as goal
+
+resized : {A E : Type 0} (r : Result A E) (now some none more : List ℕ) → now ≡ (if is_ok r then some else none) → some ≡ more → OnOk r (now ≡ more)
+resized (Ok x) now some none more e same = e ∙ same
+resized (Err x) now some none more e same = tt
+
+-- a parent for each signal that was added
+pub returns-clause-parents : goal.returns-clause-parents
+returns-clause-parents c =
+    let old : List ℕ = c.args.grown.now.parents.items in
+    let showing : List Seen = showings c.args.left.now (round_rules c.args.next.now) in
+    let all : c.len-2.result ≡ length old + length showing =
+    omega (
+      arith,
+      c.len-2.ensures,
+      c.push_showings.new.layer.shown.ok.0,
+      ap (λ (x : List Seen). length x) c.in_ok-push_showings.ensures.shown,
+      length-map c.push_showings.new.layer.shown.items seen_of,
+      length-map c.args.grown.now.layer.shown.items seen_of,
+      length-append (map seen_of c.args.grown.now.layer.shown.items) showing,
+      c.requires.long,
+    ) in
+    let was = c.args.grown.now.parents.ok.0 in
+    resized c.resize.result _ _ _ _ c.resize.ensures.items
+    (ap (λ (k : ℕ). take c.len-2.result old ++ replicate (c.len-2.result - k) c.args.parent) was
+    ∙ filled old c.len-2.result c.args.parent showing (omega arith) (omega arith))
