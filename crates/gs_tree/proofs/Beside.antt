@@ -1,5 +1,6 @@
 -- The groups of one player beside the signal of another.
-use Rattle.std.proofs.Common.{◌≡◌, ℕ, suc, ◌+◌, ◌-◌, ◌*◌, ◌++◌, List, [], ◌∷◌, append-nil, get_or, length, length-append, refl, sym, ap, ◌∙◌, arith, cond, eqb}
+use Rattle.std.proofs.Common.{◌≡◌, ℕ, suc, ◌+◌, ◌-◌, ◌*◌, ◌≤◌, ◌++◌, List, [], ◌∷◌, append-nil, get_or, length, length-append, refl, sym, ap, ◌∙◌, arith, cond}
+use Rattle.std.proofs.Common.{eqb}
 use Rattle.std.proofs.lemmas.{List.{nil_from_length}, List.Sums.{sum_by-append}}
 use Rattle.std.specs.Prelude.{count_by, ◌==◌}
 use Rattle.gs_model.specs.{Cards.{ways, left_after, left_from}, Deals.{own_ways}, Signals.{Seen, Signal, left_by, own_cards, public_cards}}
@@ -87,3 +88,14 @@ beside_read left held board before card = omega (
   left_at (left_after left held) board card,
   left_at left held card,
 )
+
+-- copies taken away four times, where each count is known by another name
+pub four_taken : (a b c d rest p q r again x y z all left : ℕ) → a ≡ all → b ≡ a - p → c ≡ b - q → d ≡ c - r → rest ≡ d - again → p ≡ x → q ≡ y → r ≡ z
+    → left ≡ all - x - y - z → rest ≡ left - again
+four_taken a b c d rest p q r again x y z all left ha hb hc hd he hp hq hr hl =
+    he ∙ ap (λ n. n - again) (hd ∙ ap (λ n. n - r) (hc ∙ ap (λ n. n - q) (hb ∙ ap (λ n. n - p) ha ∙ ap (λ n. all - n) hp)
+    ∙ ap (λ n. all - x - n) hq) ∙ ap (λ n. all - x - y - n) hr ∙ sym hl)
+
+-- and no more is left than there was
+pub four_few : (a b c d rest p q r again all most : ℕ) → a ≡ all → b ≡ a - p → c ≡ b - q → d ≡ c - r → rest ≡ d - again → all ≤ most → rest ≤ most
+four_few a b c d rest p q r again all most ha hb hc hd he few = omega (arith, ha, hb, hc, hd, he, few)

@@ -5,9 +5,9 @@ use Rattle.std.proofs.{lemmas.Bool.{cases_lt, lt-ltb, ltb-true}, lemmas.Grind.{g
 use Rattle.std.proofs.{lemmas.List.{get_or-replicate, length-replicate, length-take-le}, lemmas.List.Elements.{All-take, recursion_from_All}}
 use Rattle.std.specs.{List.{AllByRecursion}, Prelude.{nat_eq, nat_lt}}
 use lib.Pointwise.{pointwise}
-use Rattle.gs_card.specs.Decks.{DeckValue, IsDeck, kinds}
 use Rattle.gs_model.specs.{Game.{Game, round_count}, Signals.{public_cards, signal_at}}
 use Rattle.gs_model.proofs.Basics.{product_le}
+use Rattle.gs_card.specs.Decks.{DeckValue, IsDeck, kinds}
 use Rattle.gs_tree.specs.{Boards.{code_behind, seen_last}, Kept.{AreKeptCards}, Walk.{last_count}}
 use Rattle.gs_tree.proofs.{Hands.{dealt}, Linked.{equal, unequal, last_place}}
 
@@ -150,3 +150,9 @@ pub table_read : (key : ℕ → List ℕ) (n count k size code entry : ℕ) (las
 table_read key n count k size code entry last t h e r =
     let within : code < length last = omega (arith, e, board_in k size (length last) (key n) h t.wide) in
     ap (seen_last count) (r ∙ get_or_default_zero last code entry within ∙ ap (λ i. get_or last i 0) e) ∙ t.found (key n) h
+
+-- the number of a card alone
+pub code_alone : (k a : ℕ) (cards : List ℕ) → 1 ≤ length cards → length cards < 2 → a ≡ get_or cards 0 a → a ≡ code_behind k 0 cards
+code_alone k a [] l m e = absurd (omega (arith, l))
+code_alone k a (x ∷ []) l m e = omega (arith, e)
+code_alone k a (x ∷ y ∷ rest) l m e = absurd (omega (arith, m))

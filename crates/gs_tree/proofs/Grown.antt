@@ -3,7 +3,8 @@ use Rattle.std.proofs.Common.{◌≡◌, ℕ, zero, suc, ◌+◌, ◌<◌, List,
 use Rattle.std.proofs.Common.{add-one, length-append, drop, take-append-drop, take_all, replicate, ◌≤◌, ◌-◌}
 use Rattle.std.proofs.{lemmas.List.{length-map}, lemmas.List.Concat.{flat_map-append}}
 use Rattle.std.specs.Prelude.{flat_map}
-use Rattle.gs_model.specs.{Game.{Game, Round, round_at}, Signals.{Seen, Signal, children, edge, last_edge, left_by, owners, showings, signals, first_child}}
+use Rattle.gs_model.specs.Game.{Game, Round, round_at}
+use Rattle.gs_model.specs.Signals.{Seen, Signal, children, edge, last_edge, left_by, owners, parents, showings, signals, first_child}
 use Rattle.gs_model.proofs.{Exchanged.{map-flat_map}, Basics.{map-map, map-same, map-itself, flat_map-same}, Children.{last_edge-push}}
 use Rattle.gs_tree.specs.Layers.{last_seen}
 
@@ -96,3 +97,8 @@ filled old n v ys l e = ap (λ x. x ++ replicate (n - length old) v) (take_all n
     copies_of : {Y : Type 0} (v : ℕ) (ys : List Y) → replicate (length ys) v ≡ map (λ _. v) ys
     copies_of v [] = refl
     copies_of v (y ∷ ys) = ap (λ x. v ∷ x) (copies_of v ys)
+
+-- the parents of a whole round
+pub parents_grown : (g : Game) (n i : ℕ) (xs : List ℕ) → length (signals g n) ≤ i
+    → xs ≡ owners (λ s. children g (round_at g (suc n)) s) 0 (take i (signals g n)) → xs ≡ parents g (suc n)
+parents_grown g n i xs over is = is ∙ ap (owners (λ s. children g (round_at g (suc n)) s) 0) (take_all i (signals g n) over)

@@ -1,10 +1,12 @@
 -- The text of a signal tells it from the others of its round.
 use Rattle.std.proofs.Common.{◌≡◌, ℕ, zero, suc, ◌/◌, ◌%◌, ◌<◌, ◌≤◌, List, [], ◌∷◌, ◌++◌, length, get_or, refl, sym, ap, ◌∙◌, arith, subst, All, ⊎_elim}
-use Rattle.std.proofs.{Common.{length-append}, lemmas.Bool.{cases_lt}}
-use Rattle.gs_card.specs.Decks.{DeckValue, IsDeck, card_text, kinds}
-use Rattle.gs_card.proofs.{KindLaws.{number_of_places, some_suits, row_below}, Letters.{one_place}}
+use Rattle.std.proofs.{Common.{length-append}, lemmas.{Bool.{cases_lt}, Nat.{mod_below}}}
+use Rattle.std.specs.{Char.{is_ascii_alphanumeric}, Prelude.{slice_index, true}}
+use Rattle.gs_model.specs.Outcome.{rank_of, suit_of}
 use Rattle.gs_model.specs.{Game.{Game}, Signals.{Seen, Signal, signals, signal_at, parents}}
 use Rattle.gs_model.proofs.Facing.{signals_differ}
+use Rattle.gs_card.specs.Decks.{DeckValue, IsDeck, card_text, kinds}
+use Rattle.gs_card.proofs.{KindLaws.{number_of_places, some_suits, row_below}, Letters.{one_place}}
 use Rattle.gs_tree.specs.{Layers.{last_seen}, Texts.{group_text, public_text, seen_text, rounds_text, signal_text}}
 use Rattle.gs_tree.proofs.{Dealt.{last_is_shown}, Lookups.{grown_from}, Same.{parted, shapes, shaped}}
 
@@ -138,3 +140,17 @@ text_once g d round i k deck e a b h =
     (λ (m : i ≤ k). omega arith)
     (cases_lt k i))
     (cases_lt i k)
+
+-- a letter or a digit is one byte
+letter_small : (c : ℕ) → is_ascii_alphanumeric c ≡ true → c < 128
+letter_small c h = grind (arith, h)
+
+-- the letters of a card are a byte each
+pub letters_ascii : (d : DeckValue) (card : ℕ) → IsDeck d → card < kinds d
+    → (slice_index d.ranks (rank_of (length d.suits) card) < 128) × (slice_index d.suits (suit_of (length d.suits) card) < 128)
+letters_ascii d card h l =
+    let n : ℕ = length d.suits in
+    let some = some_suits (length d.ranks) n card l in (
+      letter_small (get_or d.ranks (card / n) 0) (h.rank_letters (card / n) 0 (row_below (length d.ranks) n card l)),
+      letter_small (get_or d.suits (card % n) 0) (h.suit_letters (card % n) 0 (mod_below card n some)),
+    )

@@ -1,5 +1,5 @@
 -- Lists that grow by what the members of another list give.
-use Rattle.std.proofs.Common.{◌≡◌, ℕ, ◌+◌, ◌*◌, ◌<◌, List, [], ◌∷◌, ◌++◌, length, map, take, get_or, refl, sym, ap, ◌∙◌, append-nil, append_assoc}
+use Rattle.std.proofs.Common.{◌≡◌, ℕ, ◌+◌, ◌*◌, ◌<◌, All, List, [], ◌∷◌, ◌++◌, length, map, take, get_or, refl, subst, sym, ap, ◌∙◌, append-nil, append_assoc}
 use Rattle.std.proofs.lemmas.List.{take_more, map-append, flat_map_more}
 use Rattle.std.specs.Prelude.{flat_map}
 use Rattle.gs_model.specs.{Cards.{groups, ways, left_after}, Game.{Round}, Signals.{edge, showings}}
@@ -48,3 +48,8 @@ edges_alone left r e =
     ∙ map-map (edge left) (showing []) (groups left r.public)
     ∙ ap (λ n. map (λ g. n * ways (left_after left []) g) (groups left r.public)) (ways-none left)
     ∙ ap (λ l. map (λ g. 1 * ways l g) (groups left r.public)) (taken_none left)
+
+-- what holds of each member of a list holds of the one that a loop reads
+pub item_has : {X : Type 0} (P : X → Type 0) (items now : List X) (i : ℕ) (x : X) → now ≡ items → All P items → i < length now → x ≡ get_or now i x → P x
+item_has P items now i x same all here is =
+    subst P (sym (is ∙ ap (λ (l : List _). get_or l i x) same)) (all i x (subst (λ (l : List _). i < length l) same here))

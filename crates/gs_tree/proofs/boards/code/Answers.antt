@@ -1,4 +1,5 @@
-use Rattle.std.proofs.{Common.{arith}, lemmas.Grind.{common_steps}}
+use Rattle.std.proofs.{Common.{◌∙◌, ap, arith, get_or, sym}, lemmas.Grind.{common_steps}}
+use Rattle.gs_tree.proofs.Coded.{code_alone}
 use Rattle.gs_tree.proofs.boards.code.Goals as goal
 
 pub returns-in-len3-up : goal.returns-in-len3-up
@@ -6,3 +7,8 @@ returns-in-len3-up c = grind (arith, common_steps)
 
 pub returns-in-len2 : goal.returns-in-len2
 returns-in-len2 c = grind (arith, common_steps)
+
+pub returns-in-len1 : goal.returns-in-len1
+returns-in-len1 c =
+    code_alone c.args.kinds c.from.result c.args.cards.now c.in-len1.len_at_least c.in-len1.len_below
+    (c.from.ensures ∙ c.number.ensures ∙ c.a-item.is ∙ ap (get_or c.args.cards.now 0) (sym (c.from.ensures ∙ c.number.ensures)))

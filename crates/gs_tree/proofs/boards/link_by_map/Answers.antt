@@ -1,10 +1,10 @@
-use Rattle.std.proofs.{Common.{◌≡◌, suc, ◌+◌, ℕ, List, Option, Some, cond, ap, ◌∙◌, arith}, lemmas.Grind.{common_steps}}
+use Rattle.std.proofs.Common.{◌≡◌, suc, ◌+◌, ℕ, List, Option, Some, cond, ap, sym, ◌∙◌, arith}
 use Rattle.std.specs.Prelude.{nat_eq}
 use lib.Pointwise.{pointwise}
-use Rattle.gs_game.specs.Games.{game_of}
 use Rattle.gs_model.specs.{Game.{Game, round_count}, Signals.{public_cards, signal_at}}
+use Rattle.gs_game.specs.Games.{game_of}
 use Rattle.gs_tree.specs.Walk.{last_count}
-use Rattle.gs_tree.proofs.{Linked.{are_boards, last_in, last_place, linked_more}, Parts.{paths_long}, boards.link_by_map.Goals.{After-len-count}}
+use Rattle.gs_tree.proofs.{Linked.{are_boards, last_in, last_place, linked_more, start_linked}, Parts.{paths_long}, boards.link_by_map.Goals.{After-len-count}}
 use Rattle.gs_tree.proofs.boards.link_by_map.Goals as goal
 
 -- a place for each signal
@@ -53,8 +53,23 @@ returns c =
     are_boards (game_of c.args.game.now) c.loop-signal.signal c.len-count.result c.loop-signal.boards.firsts.items c.loop-signal.boards.nexts.items
     c.loop-signal.invariant.linked (omega (arith, count, c.loop-signal.auto.signal-end, c.loop-signal-test.false)) count
 
-pub loop-signal-init : goal.loop-signal-init
-loop-signal-init c = grind (arith, common_steps)
-
 pub overflow_cast-count : goal.overflow_cast-count
-overflow_cast-count c = grind (arith, common_steps)
+overflow_cast-count c =
+    let g : Game = game_of c.args.game.now in
+    omega (arith, counted c, c.requires.limits.signals_in (round_count g) (omega arith))
+
+pub loop-signal-init : goal.loop-signal-init
+loop-signal-init c =
+    let g : Game = game_of c.args.game.now in
+    let key : ℕ → List ℕ = λ i. public_cards (signal_at g (round_count g) i) in
+    record {
+      linked = start_linked key c.len-count.result c.in_ok-boards.boards.firsts.items c.in_ok-boards.boards.nexts.items c.in_ok-boards.ensures.firsts
+          c.in_ok-boards.ensures.nexts;
+      found = λ q. grind (arith, c.new-seen.ensures.empty);
+    }
+
+pub link-requires-clause-long : goal.link-requires-clause-long
+link-requires-clause-long c = c.loop-signal.invariant.linked.nexts_whole ∙ sym c.loop-signal.invariant.linked.firsts_whole
+
+pub link-requires-clause-signal_in : goal.link-requires-clause-signal_in
+link-requires-clause-signal_in c = omega (arith, c.loop-signal.invariant.linked.firsts_whole, c.loop-signal-test.true)

@@ -1,7 +1,7 @@
 use Rattle.std.proofs.{Common.{◌≡◌, ◌+◌, ◌<◌, ◌^◌, ℕ, List, set, length, refl, sym, ap, ◌∙◌, subst, arith}, lemmas.Grind.{common_steps}}
+use Rattle.gs_model.specs.{Game.{Game, round_count}, Signals.{public_cards, signal_at}}
 use Rattle.gs_card.specs.Decks.{kinds}
 use Rattle.gs_game.specs.Games.{game_of}
-use Rattle.gs_model.specs.{Game.{Game, round_count}, Signals.{public_cards, signal_at}}
 use Rattle.gs_tree.specs.Walk.{last_count}
 use Rattle.gs_tree.proofs.Coded.{IsBoardOf, IsTableOf, board_in, none_in_table, shown_board, table_more, table_read}
 use Rattle.gs_tree.proofs.{Linked.{are_boards, last_in, last_place, linked_more, start_linked}, Parts.{paths_long}}
@@ -106,3 +106,9 @@ returns c =
 
 pub overflow_cast-count : goal.overflow_cast-count
 overflow_cast-count c = grind (arith, common_steps)
+
+pub link-requires-clause-long : goal.link-requires-clause-long
+link-requires-clause-long c = c.loop-signal.invariant.linked.nexts_whole ∙ sym c.loop-signal.invariant.linked.firsts_whole
+
+pub link-requires-clause-signal_in : goal.link-requires-clause-signal_in
+link-requires-clause-signal_in c = omega (arith, c.loop-signal.invariant.linked.firsts_whole, c.loop-signal-test.true)

@@ -1,6 +1,6 @@
 use Rattle.std.proofs.Common.{◌≡◌, ◌+◌, ℕ, suc, subst, arith}
-use Rattle.gs_game.specs.Games.{game_of}
 use Rattle.gs_model.specs.Game.{Game, round_count}
+use Rattle.gs_game.specs.Games.{game_of}
 use Rattle.gs_tree.specs.Kept.{AreKeptCards}
 use Rattle.gs_tree.proofs.Rounds.{no_hands}
 use Rattle.gs_tree.proofs.kept.gather.Goals as goal
@@ -24,3 +24,15 @@ returns c =
     (arith, c.len-round-end.ensures, c.args.tables.now.layers.ok.0, c.requires.all, c.loop-round.auto.round-end, c.loop-round-test.false) in
     let P : ℕ → Type 0 = λ n. AreKeptCards g n h.paths h.owns.items h.publics.items h.own h.public in
     subst P done c.loop-round.invariant
+
+pub next_hands-requires-clause-limits : goal.next_hands-requires-clause-limits
+next_hands-requires-clause-limits c = c.requires.limits
+
+pub next_hands-requires-clause-dealable : goal.next_hands-requires-clause-dealable
+next_hands-requires-clause-dealable c = c.requires.dealable
+
+pub next_hands-requires-clause-all : goal.next_hands-requires-clause-all
+next_hands-requires-clause-all c = c.requires.all
+
+pub next_hands-requires-clause-tables : goal.next_hands-requires-clause-tables
+next_hands-requires-clause-tables c = c.requires.tables

@@ -1,8 +1,8 @@
 use Rattle.std.proofs.Common.{◌≡◌, ◌*◌, ◌<◌, ◌++◌, ℕ, List, [], suc, length, map, drop, take, take_all, get_or, slice_index, refl, sym, ap, ◌∙◌, subst}
 use Rattle.std.proofs.{lemmas.Grind.{common_steps, get_or_default_zero}, Common.{append_assoc, arith}, lemmas.List.{length-map}}
 use Rattle.std.specs.Prelude.{flat_map, IfOk}
-use Rattle.gs_game.specs.{Games.{game_of, round_rules}, declared.game.Round.{Round}}
 use Rattle.gs_model.specs.{Game.{Game}, Signals.{Seen, Signal, signal_at, signals}}
+use Rattle.gs_game.specs.{Games.{game_of, round_rules}, declared.game.Round.{Round}}
 use Rattle.gs_tree.specs.{Layers.{last_seen}, Shown.{cards_on, seen_of, seen_on}, declared.layer.Shown.{Shown}}
 use Rattle.gs_tree.proofs.{Parts.{kept_long, kept_part, kept_room}, Pushed.{joined_more}, Rounds.{IsTold, layer_long, row_covers, row_is_long, told, told_at}}
 use Rattle.gs_tree.proofs.{Sides.{alone, hand_on, parents_alone, shows_many}, kept.next_cards.Goals.{After-cards_shown-more, After-index-in-loop-signal}}
@@ -116,3 +116,6 @@ returns c =
 
 pub paired_cards-requires-clause-each : goal.paired_cards-requires-clause-each
 paired_cards-requires-clause-each c = grind (arith, common_steps)
+
+pub index-now-requires : goal.index-now-requires
+index-now-requires c = omega (arith, c.requires.round_in, c.requires.all, length-map c.args.game.now.rounds.items round_rules, c.args.game.now.rounds.ok.0)

@@ -1,7 +1,7 @@
-use Rattle.std.proofs.{lemmas.Grind.{common_steps}, Common.{◌≡◌, ◌≤◌, ℕ, List, [], suc, length, take, ap, ◌∙◌, arith}, lemmas.List.{length-map}}
+use Rattle.std.proofs.{lemmas.Grind.{common_steps}, Common.{◌≡◌, ◌≤◌, ℕ, List, [], suc, length, take, ap, subst, ◌∙◌, arith}, lemmas.List.{length-map}}
 use Rattle.std.specs.Prelude.{max}
-use Rattle.gs_game.specs.{Games.{game_of}, Refusals.{own_card_total as own_count, public_card_total as public_count}}
 use Rattle.gs_model.specs.{Deals.{path_weight}, Game.{Game}, Signals.{Signal, own_cards, public_cards, signals}}
+use Rattle.gs_game.specs.{Games.{game_of}, Refusals.{own_card_total as own_count, public_card_total as public_count}}
 use Rattle.gs_tree.proofs.{Hands.{dealt}, Rows.{part_long}}
 use Rattle.gs_tree.proofs.kept.next_hands.Goals as goal
 
@@ -17,17 +17,17 @@ returns c =
     let n : ℕ = suc c.args.round in
     let ss : List Signal = signals g n in
     let count : length c.in_ok-paths.paths ≡ length ss = ap (λ (x : List ℕ). length x) c.in_ok-paths.ensures ∙ length-map ss (path_weight g.copies) in
-    let many : c.len.result ≡ length ss = omega (arith, c.len.ensures, count) in
+    let many : c.len.result ≡ length ss = c.len.ensures ∙ count in
     let each : c.max-each.result ≡ max (length ss) 1 = c.max-each.ensures ∙ ap (λ k. max k 1) many in
-    let within : n ≤ length g.rounds = omega (arith, c.requires.round_in, c.requires.all) in
+    let within : n ≤ length g.rounds = subst (λ (k : ℕ). n ≤ k) c.requires.all c.requires.round_in in
     record {
       weighed = c.in_ok-paths.ensures;
       owned = c.in_ok-owns.ensures;
       shown = c.in_ok-publics.ensures;
       own_each = part_long own_cards (own_count (take n g.rounds)) ss [] c.len-2.result c.max-each.result (λ i l. (dealt g n i within l).own_n)
-          (omega (arith, c.len-2.ensures, c.in_ok-owns.owns.ok.0, ap (λ (x : List ℕ). length x) c.in_ok-owns.ensures)) each;
+          (c.len-2.ensures ∙ c.in_ok-owns.owns.ok.0 ∙ ap (λ (x : List ℕ). length x) c.in_ok-owns.ensures) each;
       public_each = part_long public_cards (public_count (take n g.rounds)) ss [] c.len-3.result c.max-each.result (λ i l. (dealt g n i within l).public_n)
-          (omega (arith, c.len-3.ensures, c.in_ok-publics.publics.ok.0, ap (λ (x : List ℕ). length x) c.in_ok-publics.ensures)) each;
+          (c.len-3.ensures ∙ c.in_ok-publics.publics.ok.0 ∙ ap (λ (x : List ℕ). length x) c.in_ok-publics.ensures) each;
     }
 
 pub next_cards-requires-2-clause-each : goal.next_cards-requires-2-clause-each
@@ -35,3 +35,21 @@ next_cards-requires-2-clause-each c = grind (arith, common_steps)
 
 pub next_cards-requires-clause-each : goal.next_cards-requires-clause-each
 next_cards-requires-clause-each c = grind (arith, common_steps)
+
+pub next_cards-requires-2-clause-all : goal.next_cards-requires-2-clause-all
+next_cards-requires-2-clause-all c = c.requires.all
+
+pub next_cards-requires-2-clause-tables : goal.next_cards-requires-2-clause-tables
+next_cards-requires-2-clause-tables c = c.requires.tables
+
+pub next_cards-requires-2-clause-round_in : goal.next_cards-requires-2-clause-round_in
+next_cards-requires-2-clause-round_in c = c.requires.round_in
+
+pub next_cards-requires-clause-tables : goal.next_cards-requires-clause-tables
+next_cards-requires-clause-tables c = c.requires.tables
+
+pub next_cards-requires-clause-round_in : goal.next_cards-requires-clause-round_in
+next_cards-requires-clause-round_in c = c.requires.round_in
+
+pub next_cards-requires-clause-all : goal.next_cards-requires-clause-all
+next_cards-requires-clause-all c = c.requires.all

@@ -6,3 +6,6 @@ loop-parent-preserved c = grind (arith, common_steps)
 
 pub returns : goal.returns
 returns c = grind (arith, common_steps)
+
+pub bounds-before-parent : goal.bounds-before-parent
+bounds-before-parent c = c.requires c.loop-parent.parent-index 0 c.loop-parent-test.true

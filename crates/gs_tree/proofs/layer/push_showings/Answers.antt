@@ -1,9 +1,10 @@
-use Rattle.std.proofs.{Common.{◌≡◌, ◌++◌, ◌*◌, ℕ, List, map, length, ◌<◌, ◌≤◌, get_or, take_all, ap, subst, sym, ◌∙◌, arith}, lemmas.Grind.{common_steps}}
+use Rattle.std.proofs.Common.{◌≡◌, ◌++◌, ◌*◌, ℕ, List, map, length, ◌<◌, ◌≤◌, get_or, take_all, ap, subst, sym, ◌∙◌, arith, All}
 use Rattle.std.specs.Prelude.{OnOk, flat_map}
 use Rattle.gs_model.specs.{Cards.{groups, ways, left_after}, Signals.{Seen}}
+use Rattle.gs_card.specs.Groups.{IsGroup}
 use Rattle.gs_game.specs.Games.{round_rules}
 use Rattle.gs_tree.specs.{Layers.{showing}, Shown.{seen_of, cards_of}}
-use Rattle.gs_tree.proofs.Pushed.{edges_alone, edges_of, joined_more, shown_alone}
+use Rattle.gs_tree.proofs.Pushed.{item_has, edges_alone, edges_of, joined_more, shown_alone}
 use Rattle.gs_tree.proofs.layer.push_showings.Goals as goal
 
 pub loop-own-preserved : goal.loop-own-preserved
@@ -18,7 +19,8 @@ loop-own-preserved c =
     let at : own ≡ get_or owns i own = c.own-item.is ∙ ap (λ l. get_or l i own) (c.deref-own-items.ensures.value ∙ c.in_ok-groups.ensures.all) in
     let rest : c.deref.result.now ≡ left_after left own = c.deref.ensures.value ∙ c.take_cards.ensures.value
     ∙ ap (λ l. left_after l c.cards.result.now) c.in_ok-rest.ensures.items ∙ ap (left_after left) c.cards.ensures.cards in
-    let here : i < length owns = omega (arith, ap (λ (l : List (List ℕ)). length l) (c.deref-own-items.ensures.value ∙ c.in_ok-groups.ensures.all)) in
+    let here : i < length owns =
+    subst (λ (l : List (List ℕ)). i < length l) (c.deref-own-items.ensures.value ∙ c.in_ok-groups.ensures.all) c.loop-own-test.true in
     record {
       shown = c.in_ok-push_publics.ensures.shown ∙ joined_more shows (map seen_of c.args.layer.now.shown.items) (map seen_of c.loop-own.layer.shown.items)
           (map (showing (cards_of c.of.result)) (groups c.deref.result.now size)) owns i own here c.loop-own.invariant.shown
@@ -54,23 +56,52 @@ returns-then-round-eq0-clause-edges c =
     let P : List ℕ → Type 0 = λ l. OnOk c.push_publics.result (c.push_publics.new.layer.edges ≡ c.args.layer.now.edges ++ l) in
     subst P (sym (edges_alone c.args.left.now (round_rules c.args.round.now) c.if-round-eq0.true)) c.push_publics.ensures.edges
 
-pub few_ways-own_ways-requires-clause-in_range : goal.few_ways-own_ways-requires-clause-in_range
-few_ways-own_ways-requires-clause-in_range c = grind (arith, common_steps)
+pub push_publics-requires-in-loop-own-clause-counted : goal.push_publics-requires-in-loop-own-clause-counted
+push_publics-requires-in-loop-own-clause-counted c =
+    ap (λ (l : List ℕ). length l) c.deref.ensures.value ∙ c.take_cards.ensures.len
+    ∙ ap (λ (l : List ℕ). length l) c.in_ok-rest.ensures.items ∙ c.requires.counted
+
+pub push_publics-requires-in-loop-own-clause-small : goal.push_publics-requires-in-loop-own-clause-small
+push_publics-requires-in-loop-own-clause-small c = c.requires.small_public
+
+pub push_publics-requires-in-loop-own-clause-few_ways : goal.push_publics-requires-in-loop-own-clause-few_ways
+push_publics-requires-in-loop-own-clause-few_ways c = c.few_ways-own_ways.ensures.few
 
 pub push_publics-requires-in-loop-own-clause-few_copies : goal.push_publics-requires-in-loop-own-clause-few_copies
-push_publics-requires-in-loop-own-clause-few_copies c = grind (arith, common_steps)
+push_publics-requires-in-loop-own-clause-few_copies c = subst (All (λ (n : ℕ). n ≤ 9)) (sym c.deref.ensures.value) c.take_cards.ensures.few
 
-pub of-requires : goal.of-requires
-of-requires c = grind (arith, common_steps)
-
-pub few_ways-own_ways-requires-clause-few_copies : goal.few_ways-own_ways-requires-clause-few_copies
-few_ways-own_ways-requires-clause-few_copies c = grind arith
+pub returns-in_err-push_publics-clause-firsts : goal.returns-in_err-push_publics-clause-firsts
+returns-in_err-push_publics-clause-firsts c = c.push_publics-in-loop-own.ensures.firsts ∙ c.loop-own.invariant.firsts
 
 pub returns-clause-shown : goal.returns-clause-shown
-returns-clause-shown c = grind (arith, common_steps)
+returns-clause-shown c =
+    let left : List ℕ = c.args.left.now in
+    let owns : List (List ℕ) = groups left c.args.round.now.private in
+    let size : ℕ = c.args.round.now.public in
+    let shows : List ℕ → List Seen = λ o. map (showing o) (groups (left_after left o) size) in
+    let over : length owns ≤ c.loop-own.own-index = omega
+    (arith, ap (λ (l : List (List ℕ)). length l) (c.deref-own-items.ensures.value ∙ c.in_ok-groups.ensures.all)) in
+    c.loop-own.invariant.shown ∙ ap (λ l. map seen_of c.args.layer.now.shown.items ++ flat_map shows l) (take_all c.loop-own.own-index owns over)
+
+pub of-requires : goal.of-requires
+of-requires c =
+    let h = item_has (IsGroup c.args.left.now c.args.round.now.private) c.in_ok-groups.field-0.items c.deref-own-items.result.now c.loop-own.own-index
+    c.own-item.result c.deref-own-items.ensures.value c.in_ok-groups.ensures.each c.loop-own-test.true c.own-item.is in
+    omega (arith, h.sized, c.requires.small_private)
+
+pub few_ways-own_ways-requires-clause-in_range : goal.few_ways-own_ways-requires-clause-in_range
+few_ways-own_ways-requires-clause-in_range c =
+    item_has (All (λ (card : ℕ). card < length c.args.left.now)) c.in_ok-groups.field-0.items c.deref-own-items.result.now c.loop-own.own-index
+    c.own-item.result c.deref-own-items.ensures.value c.in_ok-groups.ensures.within c.loop-own-test.true c.own-item.is
+
+pub few_ways-own_ways-requires-clause-few_copies : goal.few_ways-own_ways-requires-clause-few_copies
+few_ways-own_ways-requires-clause-few_copies c = c.requires.few_copies
 
 pub take_cards-requires : goal.take_cards-requires
-take_cards-requires c = grind arith
+take_cards-requires c = subst (All (λ (n : ℕ). n ≤ 9)) (sym c.in_ok-rest.ensures.items) c.requires.few_copies
 
 pub few_ways-own_ways-requires-clause-few_cards : goal.few_ways-own_ways-requires-clause-few_cards
-few_ways-own_ways-requires-clause-few_cards c = grind arith
+few_ways-own_ways-requires-clause-few_cards c =
+    let h = item_has (IsGroup c.args.left.now c.args.round.now.private) c.in_ok-groups.field-0.items c.deref-own-items.result.now c.loop-own.own-index
+    c.own-item.result c.deref-own-items.ensures.value c.in_ok-groups.ensures.each c.loop-own-test.true c.own-item.is in
+    omega (arith, h.sized, c.requires.small_private)

@@ -1,13 +1,18 @@
-use Rattle.std.proofs.Common.{◌≡◌, ◌+◌, ◌-◌, ◌++◌, ℕ, List, length, map, take, replicate, length-append, ap, ◌∙◌, arith}
+use Rattle.std.proofs.Common.{◌∷◌, [], sym, ◌≡◌, ◌+◌, ◌-◌, ◌++◌, ℕ, List, length, map, take, replicate, length-append, ap, ◌∙◌, arith}
 use Rattle.std.proofs.lemmas.List.{length-map}
 use Rattle.std.specs.Prelude.{OnOk, Result, Ok, Err, if◌then◌else◌, is_ok}
-use Rattle.gs_game.specs.Games.{round_rules}
 use Rattle.gs_model.specs.Signals.{Seen, showings}
+use Rattle.gs_game.specs.Games.{round_rules}
 use Rattle.gs_tree.specs.Shown.{seen_of}
 use Rattle.gs_tree.proofs.Grown.{filled}
 use Rattle.gs_tree.proofs.tables.push_children.Goals as goal
 
-resized : {A E : Type 0} (r : Result A E) (now some none more : List ℕ) → now ≡ (if is_ok r then some else none) → some ≡ more → OnOk r (now ≡ more)
+-- what holds anyway holds if the call went well
+held : {A E : Type 0} (r : Result A E) (P : Type 0) → P → OnOk r P
+held (Ok x) P h = h
+held (Err x) P h = tt
+
+resized : {A E X : Type 0} (r : Result A E) (now some none more : X) → now ≡ (if is_ok r then some else none) → some ≡ more → OnOk r (now ≡ more)
 resized (Ok x) now some none more e same = e ∙ same
 resized (Err x) now some none more e same = tt
 
@@ -31,3 +36,21 @@ returns-clause-parents c =
     resized c.resize.result _ _ _ _ c.resize.ensures.items
     (ap (λ (k : ℕ). take c.len-2.result old ++ replicate (c.len-2.result - k) c.args.parent) was
     ∙ filled old c.len-2.result c.args.parent showing (omega arith) (omega arith))
+
+pub returns-clause-firsts : goal.returns-clause-firsts
+returns-clause-firsts c =
+    held c.resize.result _ (c.in_ok-push_showings.ensures.firsts ∙ c.in_ok-push.ensures.items
+    ∙ ap (λ (n : ℕ). c.args.grown.now.layer.firsts.items ++ n ∷ []) (c.len.ensures ∙ c.args.grown.now.layer.shown.ok.0))
+
+pub returns-clause-long : goal.returns-clause-long
+returns-clause-long c =
+    resized c.resize.result _ _ _ _ (sym c.resize.new.self.ok.0 ∙ c.resize.ensures.len) (c.len-2.ensures ∙ c.push_showings.new.layer.shown.ok.0)
+
+pub returns-clause-edges : goal.returns-clause-edges
+returns-clause-edges c = held c.resize.result _ c.in_ok-push_showings.ensures.edges
+
+pub returns-clause-shown : goal.returns-clause-shown
+returns-clause-shown c = held c.resize.result _ c.in_ok-push_showings.ensures.shown
+
+pub push_showings-requires-clause-few_copies : goal.push_showings-requires-clause-few_copies
+push_showings-requires-clause-few_copies c = c.requires.few_copies

@@ -1,8 +1,8 @@
-use Rattle.std.proofs.{Common.{◌≡◌, ◌-◌, ◌<◌, ◌≤◌, ℕ, List, length, get_or, sym, ap, ◌∙◌, arith}, lemmas.Grind.{common_steps}}
-use Rattle.gs_model.specs.Cards.{left_after}
-use Rattle.gs_model.proofs.Listed.{length-after, times}
+use Rattle.std.proofs.{Common.{◌≡◌, ◌-◌, ◌<◌, ◌≤◌, ℕ, List, length, get_or, subst, sym, ap, ◌∙◌, arith, take_all}, lemmas.Grind.{common_steps}}
+use Rattle.gs_model.specs.Cards.{ways, left_after}
+use Rattle.gs_model.proofs.Listed.{length-after}
 use Rattle.gs_card.proofs.TakenCards.{ways_more, few_ways, ways-none}
-use Rattle.gs_tree.proofs.{Beside.{beside_read}, Paths.{at_three, few_product}}
+use Rattle.gs_tree.proofs.{Beside.{beside_read, four_few, four_taken}, Paths.{at_three, few_product}}
 use Rattle.gs_tree.proofs.tables.ways_beside.Goals as goal
 
 pub loop-i-init : goal.loop-i-init
@@ -16,19 +16,15 @@ pub overflow_mul-ways : goal.overflow_mul-ways
 overflow_mul-ways c =
     let counts : List ℕ = c.args.deck.now.counts in
     let card : ℕ = c.index-own-i.result in
-    let here : card < length counts = omega (arith, c.requires.own_in c.loop-i.i card (omega arith), c.index-own-i.is, c.kinds-kinds.ensures.deck.counted) in
+    let here : card < length counts =
+    subst (λ (n : ℕ). n < length counts) (sym c.index-own-i.is) (subst (λ (n : ℕ). get_or c.args.own.now c.loop-i.i card < n)
+    (sym c.kinds-kinds.ensures.deck.counted) (c.requires.own_in c.loop-i.i card c.loop-i-test.true)) in
     let few : get_or counts card 0 ≤ 9 = c.kinds-kinds.ensures.deck.copies card 0 here in
+    let rest : c.saturating_sub-rest.result ≤ 9 =
+    four_few _ _ _ _ _ _ _ _ c.times-again.result _ 9 (c.from.ensures ∙ c.count.ensures) c.saturating_sub.ensures c.saturating_sub-in-loop-i.ensures
+    c.saturating_sub-in-loop-i-2.ensures c.saturating_sub-rest.ensures few in
     let fits = few_product c.loop-i.ways c.saturating_sub-rest.result c.loop-i.i (omega (arith, c.requires.own_few)) c.loop-i.invariant.small
-    (omega (
-      arith,
-      few,
-      c.saturating_sub-rest.ensures,
-      c.saturating_sub-in-loop-i-2.ensures,
-      c.saturating_sub-in-loop-i.ensures,
-      c.saturating_sub.ensures,
-      c.from.ensures,
-      c.count.ensures,
-    )) in
+    rest in
     omega (arith, fits)
 
 pub loop-i-preserved : goal.loop-i-preserved
@@ -38,7 +34,9 @@ loop-i-preserved c =
     let own : List ℕ = c.args.own.now in
     let i : ℕ = c.loop-i.i in
     let card : ℕ = c.index-own-i.result in
-    let here : card < length counts = omega (arith, c.requires.own_in i card (omega arith), c.index-own-i.is, c.kinds-kinds.ensures.deck.counted) in
+    let here : card < length counts =
+    subst (λ (n : ℕ). n < length counts) (sym c.index-own-i.is) (subst (λ (n : ℕ). get_or own i card < n)
+    (sym c.kinds-kinds.ensures.deck.counted) (c.requires.own_in i card c.loop-i-test.true)) in
     let there : card < length left = omega (
       arith,
       here,
@@ -49,14 +47,10 @@ loop-i-preserved c =
     let few : get_or counts card 0 ≤ 9 = c.kinds-kinds.ensures.deck.copies card 0 here in
     let read = beside_read counts c.args.held.now c.args.board.now c.args.before.now card in
     let copies : c.from.result ≡ get_or counts card 0 = c.from.ensures ∙ c.count.ensures in
-    let all : ℕ = get_or counts card 0 in
-    let rest : c.saturating_sub-rest.result ≡ get_or left card 0 - c.times-again.result = c.saturating_sub-rest.ensures
-    ∙ ap (λ n. n - c.times-again.result) (c.saturating_sub-in-loop-i-2.ensures
-    ∙ ap (λ n. n - c.times-in-loop-i-2.result) (c.saturating_sub-in-loop-i.ensures
-    ∙ ap (λ n. n - c.times-in-loop-i.result) (c.saturating_sub.ensures ∙ ap (λ n. n - c.times.result) copies
-    ∙ ap (λ n. all - n) c.times.ensures.value)
-    ∙ ap (λ n. all - times card c.args.held.now - n) c.times-in-loop-i.ensures.value)
-    ∙ ap (λ n. all - times card c.args.held.now - times card c.args.board.now - n) c.times-in-loop-i-2.ensures.value ∙ sym read) in
+    let rest : c.saturating_sub-rest.result ≡ get_or left card 0 - c.times-again.result =
+    four_taken _ _ _ _ _ _ _ _ c.times-again.result _ _ _ _ _ copies c.saturating_sub.ensures c.saturating_sub-in-loop-i.ensures
+    c.saturating_sub-in-loop-i-2.ensures c.saturating_sub-rest.ensures c.times.ensures.value c.times-in-loop-i.ensures.value c.times-in-loop-i-2.ensures.value
+    read in
     let less : get_or left card 0 ≤ 9 = omega (arith, read, few) in
     record {
       counted = c.shared-ways.ensures ∙ ways_more left own i card c.loop-i.ways c.saturating_sub-rest.result c.times-again.result
@@ -74,3 +68,8 @@ returns-clause-small c = at_three c.loop-i.ways c.loop-i.i (omega (arith, c.requ
 
 pub shared-ways-requires : goal.shared-ways-requires
 shared-ways-requires c = grind (arith, common_steps)
+
+pub returns-clause-value : goal.returns-clause-value
+returns-clause-value c =
+    c.loop-i.invariant.counted ∙ ap (ways (left_after (left_after (left_after c.args.deck.now.counts c.args.held.now) c.args.board.now) c.args.before.now))
+    (take_all c.loop-i.i c.args.own.now c.loop-i-test.false)

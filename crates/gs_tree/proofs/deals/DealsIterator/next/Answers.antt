@@ -42,5 +42,10 @@ returns-clause-steps c =
     walked (rules_of s.signals.now) s.one s.two s.end c.loop-self-test.false in
     (sym c.loop-self.invariant.left ∙ end, end)
 
+pub invariant_of-self-then-deal-gt0 : goal.invariant_of-self-then-deal-gt0
+invariant_of-self-then-deal-gt0 c =
+    let s = c.loop-self.self-inside in
+    walk_within (rules_of s.signals.now) c.next_pair-one.result.0 c.next_pair-one.result.1 s.end c.loop-self.invariant.on.end_in c.next_pair-one.ensures.on
+
 pub loop-self-smaller : goal.loop-self-smaller
 loop-self-smaller c = grind arith

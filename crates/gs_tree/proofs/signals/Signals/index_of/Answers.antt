@@ -1,6 +1,6 @@
 use Rattle.std.proofs.{Common.{◌≡◌, ◌<◌, ℕ, Some, length, sym, ap, ◌∙◌, ⊎_elim, arith}, lemmas.Bool.{cases_lt, false≢true}}
-use Rattle.gs_game.specs.{Games.{game_of}, declared.game.Game.{Game as Described}}
 use Rattle.gs_model.specs.{Game.{Game}, Signals.{signal_at, signals}}
+use Rattle.gs_game.specs.{Games.{game_of}, declared.game.Game.{Game as Described}}
 use Rattle.gs_tree.specs.{Texts.{signal_text}, Trees.{deck_of, rules_of}}
 use Rattle.gs_tree.proofs.Named.{text_once}
 use Rattle.gs_tree.proofs.signals.Signals.index_of.Goals as goal
@@ -33,3 +33,10 @@ loop-signal-preserved c =
     false≢true (sym c.if-is_text_of.false ∙ c.is_text_of.ensures.1 (c.as_bytes-bytes.ensures.value ∙ e
     ∙ ap (λ i. signal_text d (signal_at g c.args.round i)) at ∙ sym read)))
     (cases_lt k n)
+
+pub is_text_of-requires-clause-signal_in : goal.is_text_of-requires-clause-signal_in
+is_text_of-requires-clause-signal_in c =
+    let same : length (signals (game_of c.game-game.result.now) c.from.result) ≡ length (signals (rules_of c.args.self.now) c.args.round) =
+    ap (λ (x : Described). length (signals (game_of x) c.from.result)) c.game-game.ensures
+    ∙ ap (λ k. length (signals (rules_of c.args.self.now) k)) c.from.ensures in
+    omega (arith, same, c.count-signal-end.ensures.value, c.loop-signal-test.true)

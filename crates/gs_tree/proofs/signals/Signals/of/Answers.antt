@@ -1,9 +1,9 @@
-use Rattle.std.proofs.{Common.{◌≡◌, All, arith, length, map, subst}, lemmas.Grind.{common_steps}}
+use Rattle.std.proofs.Common.{◌≡◌, All, length, map, subst, ◌∙◌, sym}
 use Rattle.std.specs.Prelude.{IsTrue, MatchOption}
-use Rattle.gs_card.specs.Rankings.{ranking_of}
-use Rattle.gs_game.specs.{Games.{game_of}, declared.game.Game.{Game as Described}}
 use Rattle.gs_model.specs.{Game.{round_count}, Signals.{signals}, ViewTree.{signal_strength}}
+use Rattle.gs_card.specs.Rankings.{ranking_of}
 use Rattle.gs_rank.specs.Hands.{IsStrength}
+use Rattle.gs_game.specs.{Games.{game_of}, Limits.{IsWithinLimits}, declared.game.Game.{Game as Described}}
 use Rattle.gs_tree.specs.{Boards.{AreBoards}, Kept.{AreKeptCards}, Masks.{AreMasks, HasMasks}, Plain.{IsPlain}, Tables.{AreTables}, Walk.{last_count}}
 use Rattle.gs_tree.proofs.signals.Signals.of.Goals as goal
 
@@ -16,9 +16,6 @@ invariant_of-result-clause-dealt c =
 pub invariant_of-result-clause-strong : goal.invariant_of-result-clause-strong
 invariant_of-result-clause-strong c =
     subst (λ (x : Described). All (IsStrength (ranking_of x.ranking)) c.in_ok-strengths.strengths.items) c.game-3.ensures c.in_ok-strengths.ensures.within
-
-pub masks_of-requires-clause-limits : goal.masks_of-requires-clause-limits
-masks_of-requires-clause-limits c = grind (arith, common_steps)
 
 pub invariant_of-result-clause-masked : goal.invariant_of-result-clause-masked
 invariant_of-result-clause-masked c =
@@ -47,3 +44,35 @@ pub invariant_of-result-clause-beside : goal.invariant_of-result-clause-beside
 invariant_of-result-clause-beside c =
     let b = c.in_ok-boards.boards in
     subst (λ (x : Described). AreBoards (game_of x) b.firsts.items b.nexts.items) c.game-4.ensures c.in_ok-boards.ensures
+
+pub masks_of-requires-clause-hands : goal.masks_of-requires-clause-hands
+masks_of-requires-clause-hands c =
+    let h = c.in_ok-hands.hands in
+    subst (λ (x : Described). AreKeptCards (game_of x) (round_count (game_of x)) h.paths h.owns.items h.publics.items h.own h.public)
+    (c.game-2.ensures ∙ sym c.game-6.ensures) c.in_ok-hands.ensures
+
+pub masks_of-requires-clause-limits : goal.masks_of-requires-clause-limits
+masks_of-requires-clause-limits c = subst (λ (x : Described). IsWithinLimits (game_of x)) (sym c.game-6.ensures) c.args.game.now.limits
+
+pub link_boards-requires-clause-limits : goal.link_boards-requires-clause-limits
+link_boards-requires-clause-limits c = subst (λ (x : Described). IsWithinLimits (game_of x)) (sym c.game-4.ensures) c.args.game.now.limits
+
+pub link_boards-requires-clause-hands : goal.link_boards-requires-clause-hands
+link_boards-requires-clause-hands c =
+    let h = c.in_ok-hands.hands in
+    subst (λ (x : Described). AreKeptCards (game_of x) (round_count (game_of x)) h.paths h.owns.items h.publics.items h.own h.public)
+    (c.game-2.ensures ∙ sym c.game-4.ensures) c.in_ok-hands.ensures
+
+pub is_plain-plain-requires : goal.is_plain-plain-requires
+is_plain-plain-requires c =
+    let h = c.in_ok-hands.hands in
+    subst (λ (x : Described). AreKeptCards (game_of x) (round_count (game_of x)) h.paths h.owns.items h.publics.items h.own h.public)
+    (c.game-2.ensures ∙ sym c.game-5.ensures) c.in_ok-hands.ensures
+
+pub strengths-requires-clause-limits : goal.strengths-requires-clause-limits
+strengths-requires-clause-limits c = subst (λ (x : Described). IsWithinLimits (game_of x)) (sym c.game-3.ensures) c.args.game.now.limits
+
+pub gather-requires-clause-all : goal.gather-requires-clause-all
+gather-requires-clause-all c =
+    subst (λ (x : Described). length c.in_ok-tables.tables.layers.items ≡ round_count (game_of x))
+    (c.game.ensures ∙ sym c.game-2.ensures) c.in_ok-tables.ensures.all

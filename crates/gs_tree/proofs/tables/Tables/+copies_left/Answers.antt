@@ -1,7 +1,7 @@
 use Rattle.std.proofs.Common.{◌≡◌, ℕ, List, length, get_or, ap, ◌∙◌, arith}
-use Rattle.gs_game.specs.Games.{game_of}
 use Rattle.gs_model.specs.{Cards.{left_after}, Game.{Game}, Signals.{parents, signal_at}}
 use Rattle.gs_model.proofs.Ranges.{length-parents}
+use Rattle.gs_game.specs.Games.{game_of}
 use Rattle.gs_tree.specs.{Layers.{last_seen}, Shown.{seen_of, cards_of}, declared.layer.Layer.{Layer}}
 use Rattle.gs_tree.proofs.{Lookups.{layer_of, parents_of, is_child, left_step, parent_read}, tables.Tables.+copies_left.Goals.{After-index-2}}
 use Rattle.gs_tree.proofs.tables.Tables.+copies_left.Goals as goal
@@ -47,3 +47,15 @@ returns-clause-left t c =
     c.take_cards-2.ensures.value
     ∙ ap (λ x. left_after x c.cards-2.result.now) (c.take_cards.ensures.value ∙ ap (left_after c.in_ok-left.left.items) c.cards.ensures)
     ∙ ap (left_after (left_after c.in_ok-left.left.items (cards_of shown.own))) c.cards-2.ensures ∙ step
+
+pub returns-clause-few : goal.returns-clause-few
+returns-clause-few t c = c.take_cards-2.ensures.few
+
+pub take_cards-requires-2 : goal.take_cards-requires-2
+take_cards-requires-2 t c = c.take_cards.ensures.few
+
+pub take_cards-requires : goal.take_cards-requires
+take_cards-requires t c = c.in_ok-left.ensures.few
+
+pub returns-clause-len : goal.returns-clause-len
+returns-clause-len t c = c.take_cards-2.ensures.len ∙ c.take_cards.ensures.len ∙ c.in_ok-left.ensures.len

@@ -1,11 +1,11 @@
 use Rattle.std.proofs.Common.{◌≡◌, ◌+◌, ◌-◌, ◌<◌, ◌++◌, ◌∷◌, [], ℕ, suc, List, length, length-append, map, get_or, sym, ap, ◌∙◌, subst, arith}
 use Rattle.std.proofs.lemmas.List.{get_or-map, length-map}
+use Rattle.std.proofs.lemmas.Grind.{common_steps}
 use Rattle.std.specs.Global.{Vec}
-use Rattle.gs_game.specs.{Games.{game_of, round_rules}, declared.game.Round.{Round}}
 use Rattle.gs_model.specs.{Betting.{even}, Game.{Game, Round as Rules}, Signals.{signals, parents}}
 use Rattle.gs_model.proofs.Ranges.{length-parents}
+use Rattle.gs_game.specs.{Games.{game_of, round_rules}, declared.game.Round.{Round}}
 use Rattle.gs_tree.specs.{Tables.{AreTables, IsLayer}, declared.layer.Layer.{Layer}}
-use Rattle.std.proofs.lemmas.Grind.{common_steps}
 use Rattle.gs_tree.proofs.Lookups.{tables_push, small_round}
 use Rattle.gs_tree.proofs.tables.Tables.of.Goals as goal
 
@@ -55,18 +55,11 @@ loop-next-preserved c =
     let R : List (Vec ℕ) → Type 0 = λ ps. AreTables g ps (ls ++ layer ∷ []) in
     let S : List Layer → Type 0 = λ x. AreTables g c.push.new.self.items x in
     let counted : c.len-count.result ≡ length (signals g (c.loop-next.next-index + 1)) =
-    omega (
-      arith,
-      c.len-count.ensures,
-      c.in_ok-parents.field-0.parents.ok.0,
-      ap (λ (x : List ℕ). length x) owned,
-      length-parents g
-          (suc (length ls)),
-      ap (λ k. length (signals g k)) (counting (length ls) c.loop-next.next-index c.loop-next.invariant.rounds),
-    ) in
+    c.len-count.ensures ∙ c.in_ok-parents.field-0.parents.ok.0 ∙ ap (λ (x : List ℕ). length x) owned ∙ length-parents g (suc (length ls))
+    ∙ ap (λ k. length (signals g k)) (counting (length ls) c.loop-next.next-index c.loop-next.invariant.rounds) in
     record {
       tables = subst S (sym c.in_ok-push-2.ensures.items) (subst R (sym c.in_ok-push.ensures.items) more);
-      rounds = omega (arith, ap (λ (x : List Layer). length x) c.in_ok-push-2.ensures.items, length-append ls (layer ∷ []), c.loop-next.invariant.rounds);
+      rounds = ap (λ (x : List Layer). length x) c.in_ok-push-2.ensures.items ∙ length-append ls (layer ∷ []) ∙ ap (λ k. k + 1) c.loop-next.invariant.rounds;
       counted = counted;
     }
 
@@ -83,3 +76,6 @@ grow-requires-clause-round c =
 
 pub returns-clause-all : goal.returns-clause-all
 returns-clause-all c = grind (arith, common_steps)
+
+pub grow-requires-clause-counted : goal.grow-requires-clause-counted
+grow-requires-clause-counted c = c.loop-next.invariant.counted ∙ ap (λ k. length (signals (game_of c.args.game.now) k)) (sym c.loop-next.invariant.rounds)

@@ -1,10 +1,11 @@
-use Rattle.std.proofs.Common.{◌≡◌, ◌+◌, ◌<◌, ◌≤◌, ◌++◌, ◌∷◌, [], ℕ, suc, List, length, map, take, take_all, get_or, sym}
-use Rattle.std.proofs.{Common.{ap, ◌∙◌, arith}, lemmas.List.{length-map}, lemmas.List.FromFn.{map-range_with_len_more}, lemmas.Grind.{common_steps}}
+use Rattle.std.proofs.Common.{subst, All, ◌≡◌, ◌+◌, ◌<◌, ◌≤◌, ◌++◌, ◌∷◌, [], ℕ, suc, List, length, map, take, take_all, get_or, sym}
+use Rattle.std.proofs.{Common.{ap, ◌∙◌, arith}, lemmas.List.{length-map}, lemmas.List.FromFn.{map-range_with_len_more}}
 use Rattle.std.specs.{Prelude.{flat_map}, List.{range_with_len}}
-use Rattle.gs_game.specs.Games.{game_of, round_rules}
 use Rattle.gs_model.specs.{Game.{Game, Round, round_at}, Signals.{Seen, Signal, signals, children, owners, showings, edge, left_by, first_child, signal_at}}
 use Rattle.gs_model.proofs.Basics.{map-map}
+use Rattle.gs_game.specs.Games.{game_of, round_rules}
 use Rattle.gs_tree.specs.{Shown.{seen_of}, Tables.{shown_in}}
+use Rattle.gs_tree.proofs.Grown.{parents_grown}
 use Rattle.gs_tree.proofs.{Pushed.{joined_more}, Grown.{shows_of, few_before, first_grown, owners_more, seen_grown, edges_grown}}
 use Rattle.gs_tree.proofs.tables.Tables.push_round.Goals.{At-loop-parent}
 use Rattle.gs_tree.proofs.tables.Tables.push_round.Goals as goal
@@ -102,13 +103,10 @@ returns-clause-layer c =
           ∙ ap (λ k. map (first_child g n) (range_with_len 0 (k + 1))) end;
     }
 
+pub push_children-requires-clause-few_copies : goal.push_children-requires-clause-few_copies
+push_children-requires-clause-few_copies c = subst (All (λ (n : ℕ). n ≤ 9)) (sym c.deref.ensures.value) c.in_ok-left.ensures.few
+
 pub returns-clause-parents : goal.returns-clause-parents
 returns-clause-parents c =
-    let g : Game = game_of c.args.game.now in
-    let n : ℕ = length c.args.self.now.layers.items in
-    let ss : List Signal = signals g n in
-    let over : length ss ≤ c.loop-parent.parent = omega (arith, c.requires.counted) in
-    c.loop-parent.invariant.parents ∙ ap (owners (λ s. children g (round_at g (suc n)) s) 0) (take_all c.loop-parent.parent ss over)
-
-pub push_children-requires-clause-few_copies : goal.push_children-requires-clause-few_copies
-push_children-requires-clause-few_copies c = grind (arith, common_steps)
+    parents_grown (game_of c.args.game.now) (length c.args.self.now.layers.items) c.loop-parent.parent c.loop-parent.grown.parents.items
+    (omega (arith, c.requires.counted, c.loop-parent-test.false)) c.loop-parent.invariant.parents
