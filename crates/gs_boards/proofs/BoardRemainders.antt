@@ -102,7 +102,7 @@ module _ (g : Game) (first : ℕ) (board : List Place) (on : AreOnBoard g first 
 
 -- the signals whose first one is before signal `n` have their sums
 pub record AreDoneBefore (g : Game) (firsts numbers : List ℕ) (n : ℕ) (sums : List ℕ) : Type 0 where
-  long : length sums ≡ last_count g
+  pub long : length sums ≡ last_count g
   each : (s : ℕ) → s < last_count g → get_or firsts s 0 < n → pos (get_or sums s 0) ≡ deal_remainder g numbers s
 
 module _ (g : Game) (firsts nexts : List ℕ) (boards : AreBoards g firsts nexts) (numbers : List ℕ) where

@@ -9,7 +9,7 @@ use gs_tree::Signals;
 use std::alloc::{AllocError, Global};
 
 /// The place of a last-round signal. Places are ordered by board, and on a board by strength.
-#[derive(Clone, Copy, Debug, PartialEq, Eq)]
+#[derive(Clone, Copy)]
 pub(crate) struct Place {
     // the first signal that shows the same public cards
     pub(crate) board: u32,

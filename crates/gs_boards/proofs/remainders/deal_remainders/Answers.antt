@@ -1,4 +1,4 @@
-use Rattle.std.proofs.Common.{◌≡◌, ◌+◌, ◌<◌, ◌∙◌, ℕ, List, Vec, ap, arith, get_or, subst, sym}
+use Rattle.std.proofs.Common.{◌≡◌, ◌+◌, ◌<◌, ◌∙◌, ℕ, List, Vec, ap, arith, get_or, length, subst, sym}
 use Rattle.std.proofs.lemmas.List.{with_items_is}
 use Rattle.std.specs.declared.alloc.Global.{Global}
 use Rattle.gs_model.specs.Game.{Game}
@@ -51,3 +51,12 @@ pub returns-clause-each : goal.returns-clause-each
 returns-clause-each c =
     all_done (rules_of c.args.signals.now) c.boards.result.0.now c.boards.result.1.now c.boards.ensures c.args.numbers.now c.loop-signal.signal
     c.loop-signal.sums.items (omega (arith, c.loop-signal-test.false, c.boards.ensures.firsts_long)) c.loop-signal.invariant
+
+pub board_remainders-requires-clause-plain : goal.board_remainders-requires-clause-plain
+board_remainders-requires-clause-plain c = c.requires.plain
+
+pub board_remainders-requires-clause-sums : goal.board_remainders-requires-clause-sums
+board_remainders-requires-clause-sums c = ap (λ (sums : List ℕ). length sums) c.deref_mut.ensures.value ∙ c.loop-signal.invariant.long
+
+pub returns-clause-long : goal.returns-clause-long
+returns-clause-long c = c.loop-signal.invariant.long

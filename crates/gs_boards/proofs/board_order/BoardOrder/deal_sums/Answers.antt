@@ -1,9 +1,15 @@
 use Rattle.std.proofs.Common.{ℕ, List, subst, sym, arith}
 use Rattle.gs_model.specs.Game.{Game}
 use Rattle.gs_tree.specs.Trees.{rules_of}
-use Rattle.gs_boards.specs.{Places.{AreApart}, declared.place.Place.{Place}}
+use Rattle.gs_boards.specs.{Places.{AreApart, AreInOrder}, declared.place.Place.{Place}}
 use Rattle.gs_boards.proofs.Deals.{ArePaidBefore, ArePaidBehind, are_apart, both_ways}
 use Rattle.gs_boards.proofs.board_order.BoardOrder.deal_sums.Goals as goal
+
+pub climb-requires-clause-order : goal.climb-requires-clause-order
+climb-requires-clause-order c = subst AreInOrder (sym c.deref.ensures.value) c.args.self.now.placed.order
+
+pub descend-requires-clause-order : goal.descend-requires-clause-order
+descend-requires-clause-order c = subst AreInOrder (sym c.deref-2.ensures.value) c.args.self.now.placed.order
 
 pub climb-requires-clause-apart : goal.climb-requires-clause-apart
 climb-requires-clause-apart c = subst AreApart (sym c.deref.ensures.value)
