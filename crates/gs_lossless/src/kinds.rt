@@ -60,9 +60,9 @@ pub(crate) fn kind_of(
         return Ok(*kind);
     }
     let kind = kinds.list.len();
-    let row = Vec::from_slice(alloc, &kinds.row)?;
     let hands = Vec::from_slice(alloc, hands)?;
     kinds.list.push(Kind { board, hands })?;
+    let row = Vec::from_slice(alloc, &kinds.row)?;
     kinds.seen.insert(row, kind)?;
     Ok(kind)
 }

@@ -23,11 +23,11 @@ fn stopped_lists(alloc: Global, classes: &Classes, round: u8) -> Result<Vec<Vec<
     ensures { IfOk result (λ v. rows v.items ≡ lists_after classes.now.lists round) }
 {
     let lists = classes.lists();
+    let last = usize::from(round) - 1;
     let mut stopped = Vec::new(alloc);
-    for list in &lists[..usize::from(round)] {
-        stopped.push(Vec::from_slice(alloc, list)?)?;
+    for place in 0..last + 2 {
+        stopped.push(Vec::from_slice(alloc, &lists[place.min(last)])?)?;
     }
-    stopped.push(Vec::from_slice(alloc, &lists[usize::from(round) - 1])?)?;
     Ok(stopped)
 }
 
@@ -58,7 +58,7 @@ pub fn stopped_classes(
 }
 
 /// Returns the first signal of a round whose deals weigh differently from those of the first member of its class. `stopped` has the signals of the game that
-/// stops after the round; their deals are compared, unless its classes are others.
+/// stops after the round. If the class lists of the first rounds are classes of that game, the deals of that game are compared; otherwise all deals.
 fn first_apart_over(
     alloc: Global,
     grouped: &Grouped<'_>,

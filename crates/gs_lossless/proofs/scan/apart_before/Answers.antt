@@ -2,6 +2,7 @@ use Rattle.std.proofs.{Common.{true≢false, ◌≡◌, ◌<◌, ◌≤◌, ◌�
 use Rattle.gs_model.specs.{Classes.{class_of, first_member, list_of}, Frame.{frame_of}, Numbering.{IsNumbered}, Signals.{signals}}
 use Rattle.gs_filter.proofs.ClassLaws.{greatest_before}
 use Rattle.gs_tree.specs.Trees.{rules_of}
+use Rattle.gs_lossless.specs.Scans.{AgreeBelow}
 use Rattle.gs_lossless.proofs.{Scanned.{agree_more, agree_self, side_classes, side_in, stood_agrees}, scan.apart_before.Goals.{Start}}
 use Rattle.gs_lossless.proofs.scan.apart_before.Goals as goal
 
@@ -12,6 +13,11 @@ module _ (c : Start) where
   long =
       let at = c.args.at.now in
       side_classes (rules_of at.signals.now) at.classes.now at.parents at.side at.round at.has
+
+  within : (0 < c.args.at.now.round) × (c.args.at.now.round ≤ length c.args.at.now.classes.now.lists)
+  within =
+      let h = side_in (frame_of (rules_of c.args.at.now.signals.now)) c.args.at.now.side c.args.at.now.round c.args.at.now.has in
+      (h.0, omega (arith, h.1, ap (λ (ps : List (List ℕ)). length ps) c.args.at.now.parents, c.args.at.now.classes.now.classes.rounds))
 
   numbered : IsNumbered (list_of c.args.at.now.classes.now.lists c.args.at.now.round)
   numbered =
@@ -104,23 +110,26 @@ loop-signal-preserved c =
           (c.in_ok-same.ensures.agrees.0 c.if-not-same.false);
     }
 
+pub returns : goal.returns
+returns c =
+    let at = c.args.at.now in
+    subst (AgreeBelow (frame_of (rules_of at.signals.now)) at.classes.now.lists at.side at.round) (omega (arith, c.loop-signal-test.false, c.loop-signal.auto))
+    c.loop-signal.invariant.agree
+
 pub first-requires-clause-top : goal.first-requires-clause-top
-first-requires-clause-top c = grind (arith, common_steps)
+first-requires-clause-top c = (within (goal.at.first-requires-clause-top c).Start).1
 
 pub first-requires-clause-some : goal.first-requires-clause-some
-first-requires-clause-some c = grind arith
+first-requires-clause-some c = (within (goal.at.first-requires-clause-some c).Start).0
 
 pub class_of-requires-clause-top : goal.class_of-requires-clause-top
-class_of-requires-clause-top c = grind arith
-
-pub returns : goal.returns
-returns c = grind arith
+class_of-requires-clause-top c = (within (goal.at.class_of-requires-clause-top c).Start).1
 
 pub class_of-requires-clause-some : goal.class_of-requires-clause-some
-class_of-requires-clause-some c = grind arith
+class_of-requires-clause-some c = (within (goal.at.class_of-requires-clause-some c).Start).0
 
 pub classes-requires-clause-top : goal.classes-requires-clause-top
-classes-requires-clause-top c = grind arith
+classes-requires-clause-top c = (within (goal.at.classes-requires-clause-top c).Start).1
 
 pub classes-requires-clause-some : goal.classes-requires-clause-some
-classes-requires-clause-some c = grind arith
+classes-requires-clause-some c = (within (goal.at.classes-requires-clause-some c).Start).0
