@@ -24,7 +24,7 @@ module _ (kinds : List Kind) (last : Kind) where
     same = λ d. subst (λ (x : Kind). IsPermutation x.hands.items row) (sym (get_or_append_left kinds (last ∷ []) d kind k.within)) (k.same d);
   }
 
-  kind_last : (kind : ℕ) (row : List ℕ) → kind ≡ length kinds → IsPermutation last.hands.items row → IsKindOf (kinds ++ last ∷ []) kind row
+  pub kind_last : (kind : ℕ) (row : List ℕ) → kind ≡ length kinds → IsPermutation last.hands.items row → IsKindOf (kinds ++ last ∷ []) kind row
   kind_last kind row e h = record {
     within = omega (arith, e, length_push kinds last);
     same = λ d. subst (λ (x : Kind). IsPermutation x.hands.items row) (sym (get_or_push kinds last d kind (sym e))) h;

@@ -82,6 +82,13 @@ whole n new old e f =
     ap (λ (xs : List ℕ). take n (new ++ xs)) (drop_all (length new) old (omega (arith, e))) ∙ ap (take n) (append-nil new)
     ∙ take_all n new (omega (arith, e, f))
 
+-- the board that is read at a place is one of the game
+pub read_board : (g : Game) (by_rank : Bool) (boards read : List Board) (place : ℕ) (board : Board) → All (IsBoard g by_rank) boards → read ≡ boards
+    → place < length read → board ≡ get_or read place board → IsBoard g by_rank board
+read_board g by_rank boards read place board each e l at =
+    subst (IsBoard g by_rank) (sym (at ∙ ap (λ (bs : List Board). get_or bs place board) e))
+    (each place board (subst (λ (bs : List Board). place < length bs) e l))
+
 -- the kinds after the board that is read at a place
 pub known_after : (boards read : List Board) (keys hands now : List ℕ) (place : ℕ) (board : Board) (kinds more : List Kind) → read ≡ boards → now ≡ hands
     → place < length read → board ≡ get_or read place board → AreHands board keys hands

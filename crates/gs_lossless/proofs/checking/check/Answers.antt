@@ -1,11 +1,24 @@
 use Rattle.std.proofs.Common.{arith}
+use Rattle.gs_model.specs.{Frame.{frame_of}, Lossless.{IsLossless}}
+use Rattle.gs_tree.specs.Trees.{rules_of}
+use Rattle.gs_lossless.proofs.checking.check.Goals.{Joined-not-branch, then-not-branch+in_ok-first_unlike, else-not-branch}
 use Rattle.gs_lossless.proofs.checking.check.Goals as goal
 
-pub returns-in_err-first_unlike-clause-single : goal.returns-in_err-first_unlike-clause-single
-returns-in_err-first_unlike-clause-single c = grind arith
+-- what passed is lossless, by the first check or by the second
+passed : (c : Joined-not-branch) → IsLossless (frame_of (rules_of c.args.signals.now)) c.args.classes.now.lists
+passed c = elim c.if-not-branch.branch [
+  | then-not-branch+in_ok-first_unlike w ↦ w.in_ok-first_unlike.ensures.lossless
+  | else-not-branch w ↦ c.in_ok-settles.ensures w.if-not-branch.false
+]
 
 pub returns-in_err-first_unlike-clause-refuted : goal.returns-in_err-first_unlike-clause-refuted
 returns-in_err-first_unlike-clause-refuted c = grind arith
 
+pub invariant_of-result : goal.invariant_of-result
+invariant_of-result c = record { parents = c.requires; lossless = passed (goal.at.invariant_of-result c).Joined-not-branch }
+
 pub returns-clause-lossless : goal.returns-clause-lossless
-returns-clause-lossless c = grind arith
+returns-clause-lossless c = passed (goal.at.returns-clause-lossless c).Joined-not-branch
+
+pub returns-in_err-first_unlike-clause-single : goal.returns-in_err-first_unlike-clause-single
+returns-in_err-first_unlike-clause-single c = grind arith

@@ -1,7 +1,8 @@
 use Rattle.std.proofs.Common.{◌∙◌, ◌++◌, ℕ, List, inr, refl, ap, subst, sym, arith}
 use Rattle.std.specs.{Global.{Vec}, List.Sorted.{IsPermutation}}
-use Rattle.gs_lossless.specs.{Hands.{KeepsKinds}, declared.kinds.Kind.{Kind}}
-use Rattle.gs_lossless.proofs.Kept.{kept_more, kind_moved}
+use Rattle.gs_lossless.specs.{Hands.{IsKindOf, KeepsKinds}, declared.kinds.Kind.{Kind}}
+use Rattle.std.proofs.lemmas.List.Sorted.{IsPermutation-refl}
+use Rattle.gs_lossless.proofs.Kept.{kept_more, kind_last, kind_moved}
 use Rattle.gs_lossless.proofs.kinds.kind_of.Goals as goal
 
 pub returns-in-Some-clause-kind : goal.returns-in-Some-clause-kind
@@ -38,8 +39,15 @@ returns-clause-list c = inr (record {
   hands_are = c.in_ok-hands.ensures.items;
 })
 
-pub returns-clause-kind : goal.returns-clause-kind
-returns-clause-kind c = grind arith
-
 pub returns-in-Some-clause-list : goal.returns-in-Some-clause-list
 returns-in-Some-clause-list c = grind arith
+
+pub returns-clause-kind : goal.returns-clause-kind
+returns-clause-kind c =
+    let hands : List ℕ = c.args.hands.now in
+    let made : Vec ℕ = c.in_ok-hands.hands in
+    let kinds : List Kind = c.args.kinds.now.list.items in
+    let last : Kind = record { board = c.args.board; hands = made } in
+    subst (λ (ks : List Kind). IsKindOf ks c.len-kind.result hands) (sym c.in_ok-push.ensures.items)
+    (kind_last kinds last c.len-kind.result hands (c.len-kind.ensures ∙ c.args.kinds.now.list.ok.0)
+    (subst (IsPermutation made.items) c.in_ok-hands.ensures.items (IsPermutation-refl made.items)))

@@ -15,7 +15,8 @@ returns-then-last-part-2 c =
     let at : last ≡ get_or xs (length xs - 1) last = c.index_mut-last.ensures.value ∙ ap (λ k. get_or xs (k - 1) last) n in
     let o : last.outcome ≡ c.args.part.outcome = omega (arith, ints, c.if-last-part-2.true) in
     ap (λ k. set xs (k - 1) next) n
-    ∙ join_last xs last c.args.part (omega arith) at ((exact last c.args.part).1 (c.if-last-part.true, o))
+    ∙ join_last xs last c.args.part (subst (λ k. 0 < k) n c.if-count-gt0.true) at
+    ((exact last c.args.part).1 (c.if-last-part.true, o))
 
 pub returns : goal.returns
 returns c =

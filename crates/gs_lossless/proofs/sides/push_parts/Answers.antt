@@ -1,4 +1,4 @@
-use Rattle.std.proofs.{Common.{◌≡◌, ◌<◌, ◌^◌, ◌++◌, ◌∷◌, [], List, ap, length, map, sym, ◌∙◌, subst, append_assoc}, lemmas.List.Elements.{All-tail}}
+use Rattle.std.proofs.{Common.{◌≡◌, ◌<◌, ◌^◌, ◌++◌, ◌∷◌, [], List, ap, length, map, sym, ◌∙◌, subst, append_assoc}, lemmas.List.Elements.{All-head, All-tail}}
 use Rattle.std.specs.Prelude.{All}
 use Rattle.gs_model.specs.Deals.{Deal}
 use Rattle.gs_lossless.specs.{Amounts.{deal_part}, declared.parts.Part.{Part}}
@@ -22,3 +22,13 @@ loop-deal-preserved c =
       inside = All-tail inside deal rest (subst (All inside) first c.loop-deal.invariant.inside);
       few = All-tail light deal rest (subst (All light) first c.loop-deal.invariant.few);
     }
+
+pub part_of-requires-clause-in_range : goal.part_of-requires-clause-in_range
+part_of-requires-clause-in_range c =
+    let inside : Deal → Type 0 = λ d. d.two < length c.args.keys.now in
+    All-head inside c.in-Some.deal c.next.new.self (subst (All inside) c.in-Some.ensures.steps c.loop-deal.invariant.inside)
+
+pub part_of-requires-clause-few : goal.part_of-requires-clause-few
+part_of-requires-clause-few c =
+    let light : Deal → Type 0 = λ d. d.weight < 2 ^ 32 in
+    All-head light c.in-Some.deal c.next.new.self (subst (All light) c.in-Some.ensures.steps c.loop-deal.invariant.few)

@@ -39,3 +39,11 @@ loop-place-preserved c =
 
 pub loop-place-init : goal.loop-place-init
 loop-place-init c = grind (arith, common_steps)
+
+pub returns : goal.returns
+returns c =
+    let part = deal_part c.args.keys.now c.args.by_outcome in
+    let at : ℕ → List Part = λ x. map part (filter (λ (d : Deal). d.one == x) (deals (rules_of c.args.signals.now))) in
+    let first = c.args.run.first in
+    let all : c.loop-place.place ≡ c.args.run.end = omega (arith, c.loop-place.auto, c.loop-place-test.false, c.requires.ordered) in
+    c.loop-place.invariant ∙ ap (λ (n : ℕ). flat_map at (range_with_len first (n - first))) all

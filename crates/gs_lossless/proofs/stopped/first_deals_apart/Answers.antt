@@ -1,7 +1,7 @@
-use Rattle.std.proofs.Common.{ℕ, Option, sym, ◌∙◌, subst, arith}
+use Rattle.std.proofs.Common.{◌≤◌, ℕ, Option, sym, ◌∙◌, subst, arith}
 use Rattle.std.specs.Prelude.{IfOk, IfSome}
 use Rattle.gs_game.specs.{Games.{game_of}, GoingOn.{StopsAfter}, declared.valid.ValidGame.{ValidGame}}
-use Rattle.gs_model.specs.Frame.{frame_of}
+use Rattle.gs_model.specs.{Frame.{frame_of}, Game.{round_count}}
 use Rattle.gs_tree.specs.Trees.{rules_of}
 use Rattle.gs_lossless.specs.{Scans.{IsFirstApart}, declared.sides.Side.TheVariants.{Deals}}
 use Rattle.gs_lossless.proofs.Scanned.{side_signals, side_top}
@@ -28,8 +28,24 @@ returns c =
     subst (λ (n : ℕ). IfOk c.first_apart.result (IsFirstApart (frame_of g) c.args.grouped.now.classes.now.lists Deals c.args.round n)) all
     c.first_apart.ensures
 
+pub returns-in-Some : goal.returns-in-Some
+returns-in-Some c = c.first_apart_over.ensures
+
 pub invariant_of-stopped : goal.invariant_of-stopped
-invariant_of-stopped c = grind arith
+invariant_of-stopped c =
+    let s = c.in_ok-stopped.stopped in
+    record {
+      listed = s.listed;
+      ranked = s.ranked;
+      beside = s.beside;
+      dealt = s.dealt;
+      strong = s.strong;
+      masked = s.masked;
+      even = s.even;
+      counted = s.counted;
+    }
 
 pub stopped-requires : goal.stopped-requires
-stopped-requires c = grind arith
+stopped-requires c =
+    subst (λ (v : ValidGame). c.args.round ≤ round_count (game_of v.game)) (sym c.game.ensures)
+    (omega (arith, c.if-round-rounds.true, c.rounds.ensures.value))

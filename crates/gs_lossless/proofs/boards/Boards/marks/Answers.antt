@@ -5,7 +5,7 @@ use Rattle.gs_model.specs.{Game.{Game, round_count}, Signals.{signals}}
 use Rattle.gs_tree.specs.{Trees.{rules_of}, Walk.{last_count}}
 use Rattle.gs_lossless.specs.{Firsts.{AreAlikeMarks}, Boards.{seat_signals}, Hands.{AreHands, IsKindOf}, declared.board.Board.{Board}}
 use Rattle.gs_lossless.specs.{declared.board.Seat.{Seat}, declared.kinds.Kind.{Kind}}
-use Rattle.gs_lossless.proofs.Marked.{IsKnown, MayMark, known_after, like_known, marks_after, may_read, unmarked, whole}
+use Rattle.gs_lossless.proofs.Marked.{IsKnown, MayMark, known_after, like_known, marks_after, may_read, read_board, unmarked, whole}
 use Rattle.gs_lossless.proofs.boards.Boards.marks.Goals.{After-index-like, In_ok-kind}
 use Rattle.gs_lossless.proofs.boards.Boards.marks.Goals as goal
 
@@ -86,11 +86,21 @@ loop-place-preserved c =
           (goal.at.loop-place-preserved c).In_ok-kind;
     }
 
+pub list_hands-requires : goal.list_hands-requires
+list_hands-requires c =
+    let board = read_board (rules_of c.args.self.now.signals.now) c.args.self.now.by_rank c.args.self.now.list.items c.deref-board-items.result.now
+    c.loop-place.place c.board-item.result c.args.self.now.each c.deref-board-items.ensures.value c.loop-place-test.true c.board-item.is in
+    λ k d l. subst (λ n. (get_or c.board-item.result.seats.items k d).signal < n) (sym c.requires) (board.within k d l)
+
 pub mark_board-requires-clause-within : goal.mark_board-requires-clause-within
-mark_board-requires-clause-within c = grind arith
+mark_board-requires-clause-within c =
+    let board = read_board (rules_of c.args.self.now.signals.now) c.args.self.now.by_rank c.args.self.now.list.items c.deref-board-items.result.now
+    c.loop-place.place c.board-item.result c.args.self.now.each c.deref-board-items.ensures.value c.loop-place-test.true c.board-item.is in
+    let long = ap (λ (l : List ℕ). length l) c.deref_mut.ensures.value ∙ c.loop-place.invariant.marks_are.long in
+    subst (All (λ (s : Seat). s.signal < length c.deref_mut.result.now)) (sym c.deref-in-loop-place.ensures.value)
+    (λ k d l. subst (λ n. (get_or c.board-item.result.seats.items k d).signal < n) (sym long) (board.within k d l))
 
 pub mark_board-requires-clause-hands : goal.mark_board-requires-clause-hands
-mark_board-requires-clause-hands c = grind arith
-
-pub list_hands-requires : goal.list_hands-requires
-list_hands-requires c = grind arith
+mark_board-requires-clause-hands c =
+    ap (λ (l : List ℕ). length l) c.deref-in-loop-place-2.ensures.value ∙ c.in_ok-list_hands.ensures.long
+    ∙ ap (λ (l : List Seat). length l) (sym c.deref-in-loop-place.ensures.value)

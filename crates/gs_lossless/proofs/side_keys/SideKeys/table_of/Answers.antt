@@ -1,4 +1,4 @@
-use Rattle.std.proofs.Common.{◌≡◌, ◌∙◌, ◌<◌, ℕ, List, true, ap, arith, get_or, subst, sym}
+use Rattle.std.proofs.Common.{◌≡◌, ◌∙◌, ◌<◌, ℕ, List, true, ap, arith, get_or, length, subst, sym}
 use Rattle.std.proofs.lemmas.Option.{IfSome_then}
 use Rattle.gs_tree.specs.{Trees.{rules_of}, Walk.{last_count, shows_same}}
 use Rattle.gs_lossless.specs.declared.rivals.Table.{Table}
@@ -21,3 +21,10 @@ returns-in_err-first-clause-same c = grind arith
 
 pub returns-in_err-first-clause-within : goal.returns-in_err-first-clause-within
 returns-in_err-first-clause-within c = grind arith
+
+pub returns-clause-within : goal.returns-clause-within
+returns-clause-within c =
+    let lookup = c.in_ok-first.ensures.lookup in
+    let within : c.args.signal < last_count (rules_of c.args.self.now.signals.now) = omega (arith, lookup.3.0, c.boards.ensures.firsts_long) in
+    IfSome_then c.place_of.result c.place_of.ensures
+    (λ place found. (subst (λ (ts : List Table). place < length ts) c.deref.ensures.value found.0, within))
