@@ -6,7 +6,7 @@ use Rattle.std.proofs.lemmas.List.Sorted.{IsPermutation-refl}
 use Rattle.std.specs.{Prelude.{min, ◌&&◌}, List.{enumerate_from}, List.Sorted.{IsPermutation}, Int.{bit_at}}
 use Rattle.gs_game.proofs.Ways.{Single, single_after, ways_one}
 use Rattle.gs_lossless.specs.Alike.{AreAlike, AreStandIns, seen, seen_by}
-use Rattle.gs_model.specs.{Deals.{deal_of, deal_weight, deals, own_ways, path_weight, same_public}, Cards.{left_after, ways}}
+use Rattle.gs_model.specs.{Deals.{deal_of, deal_weight, own_ways, path_weight, same_public}, Cards.{left_after, ways}}
 use Rattle.gs_model.specs.{Game.{Game, round_count}, Outcome.{outcome}}
 use Rattle.gs_model.specs.{Signals.{Signal, edge, left_by, own_cards, public_cards, signal_at, signals}, ViewTree.{signal_outcome, signal_strength}}
 use Rattle.gs_model.proofs.{Basics.{flat_map-same}, Beside.{length-left_by}, Exchanged.{and_both, cell, map-flat_map}}

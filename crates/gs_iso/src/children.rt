@@ -56,8 +56,8 @@ fn edge_marks<'a>(
         return Ok(CowSlice::Borrowed(numbers));
     }
     let count = signals.count(round);
-    let mut seen = IndexSet::new(alloc);
     let mut marks = Vec::with_capacity(alloc, count as usize)?;
+    let mut seen = IndexSet::new(alloc);
     for signal in 0..count {
         let child = Child {
             edge: signals.edge(round, signal),

@@ -68,11 +68,10 @@ fn classes_each(
     for (at, number) in items.numbers.iter().enumerate() {
         let key = items.key(at);
         let item = noted(last, *number, at as u32);
-        if let Some(class) = items.class_again(&classes, item, key) {
-            classes.push(class)?;
-            continue;
-        }
-        let class = number_of(seen, key)?;
+        let class = match items.class_again(&classes, item, key) {
+            Some(class) => class,
+            None => number_of(seen, key)?,
+        };
         classes.push(class)?;
     }
     Ok(classes)

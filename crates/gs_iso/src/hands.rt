@@ -22,9 +22,9 @@ fn stand_ins_by_hand(
     ensures { IfOk result (λ v. AreStandIns (rules_of signals.now) keys.now v.items) }
 {
     let (boards, _) = signals.boards();
-    let mut seen = HashMap::new(alloc);
     let count = signals.count(signals.rounds());
     let mut firsts = Vec::with_capacity(alloc, count as usize)?;
+    let mut seen = HashMap::new(alloc);
     for signal in 0..count {
         let place = signal as usize;
         let board = (boards[place], signals.strength(signal));

@@ -1,9 +1,10 @@
 //! Leaves, signatures and numbers of last-round signals.
 
-ghost use Rattle.std.specs.Prelude.{◌≡◌, ◌<◌, ◌^◌, All, IfOk, OnOk, map, unsigned_abs};
+ghost use Rattle.std.specs.Prelude.{◌≡◌, ◌+◌, ◌<◌, ◌≤◌, ◌^◌, All, IfOk, OnOk, map, nat_eq, unsigned_abs};
+ghost use Rattle.indexmap.specs.IndexSet.{IsUnique, index_set_len};
 ghost use Rattle.gs_model.specs.{Game.{round_count}, Signals.{signal_at}, ViewTree.{leaves}};
 ghost use Rattle.gs_tree.specs.{Trees.{rules_of}, Walk.{last_count}};
-ghost use Rattle.gs_iso.specs.{Orders.{leaf_mark, leaf_of}, Numbers.{IsLeafSignature, IsNumbering}};
+ghost use Rattle.gs_iso.specs.{KeyNumbers.{IsNumberOf, StayIn, same_parts}, Orders.{leaf_mark, leaf_of}, Numbers.{IsLeafSignature, IsNumbering}};
 
 use crate::hands::stand_ins_at;
 use crate::nodes::Leaf;
@@ -70,14 +71,27 @@ fn mark_leaves(marks: &mut Vec<u64>, signals: &Signals, signal: u32) -> Result<(
     Ok(())
 }
 
-/// Replaces the content of `signature` by the marks of the leaves under a last-round signal, in ascending order.
-fn sign_leaves(signature: &mut Vec<u64>, signals: &Signals, signal: u32) -> Result<(), AllocError>
-    requires { signal < last_count (rules_of signals.now) }
-    ensures { OnOk result (IsLeafSignature (rules_of signals.now) signal signature.new.items) }
+/// Returns the number of a last-round signal's signature, in order of first occurrence: the marks of the leaves under the signal in ascending order.
+/// Replaces the content of `signature` by it.
+fn signature_number(
+    alloc: Global,
+    seen: &mut IndexSet<Vec<u64>>,
+    signature: &mut Vec<u64>,
+    signals: &Signals,
+    signal: u32,
+) -> Result<u32, AllocError>
+    requires in_range { signal < last_count (rules_of signals.now) }
+    requires few { index_set_len seen.old + 1 < 2 ^ 32 }
+    requires unique { IsUnique (same_parts nat_eq) seen.old }
+    ensures signs { OnOk result (IsLeafSignature (rules_of signals.now) signal signature.new.items) }
+    ensures kept { OnOk result (StayIn seen.old.keys seen.new.keys) }
+    ensures number { IfOk result (IsNumberOf nat_eq seen.new.keys signature.new.items) }
+    ensures few { OnOk result (index_set_len seen.new ≤ index_set_len seen.old + 1) }
+    ensures unique { OnOk result (IsUnique (same_parts nat_eq) seen.new) }
 {
     mark_leaves(signature, signals, signal)?;
     signature.sort_unstable();
-    Ok(())
+    number_of_list(alloc, seen, signature)
 }
 
 /// Returns a number for each last-round signal: equal exactly where the signals are isomorphic.
@@ -86,19 +100,19 @@ pub(crate) fn leaf_numbers(alloc: Global, signals: &Signals) -> Result<Vec<u32>,
     ensures { IfOk result (λ v. IsNumbering (rules_of signals.now) (round_count (rules_of signals.now)) v.items) }
 {
     let count = signals.count(signals.rounds());
-    let keys = vec![in alloc; 0; count as usize]?;
-    let mut numbers = stand_ins_at(alloc, signals, &keys)?;
+    let mut numbers = {
+        let keys = vec![in alloc; 0; count as usize]?;
+        stand_ins_at(alloc, signals, &keys)?
+    };
     let mut seen = IndexSet::new(alloc);
     let mut signature = Vec::new(alloc);
     for signal in 0..count {
         let first = numbers[signal as usize];
-        if first < signal {
-            let number = numbers[first as usize];
-            numbers[signal as usize] = number;
-            continue;
-        }
-        sign_leaves(&mut signature, signals, signal)?;
-        let number = number_of_list(alloc, &mut seen, &signature)?;
+        let number = if first < signal {
+            numbers[first as usize]
+        } else {
+            signature_number(alloc, &mut seen, &mut signature, signals, signal)?
+        };
         numbers[signal as usize] = number;
     }
     Ok(numbers)

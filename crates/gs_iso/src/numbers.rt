@@ -41,8 +41,6 @@ pub fn number_of_list<P: Copy + Eq + Hash + Drop>(
     if let Some((index, _found)) = lists.get_full(list) {
         return Ok(index as u32 + 1);
     }
-    let mut key = Vec::with_capacity(alloc, list.len())?;
-    key.extend_from_slice(list)?;
-    let number = number_of(lists, key)?;
-    Ok(number)
+    let key = Vec::from_slice(alloc, list)?;
+    number_of(lists, key)
 }

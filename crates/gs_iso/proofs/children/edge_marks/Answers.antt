@@ -1,7 +1,7 @@
 use Rattle.std.proofs.Common.{ℕ, ap, arith, get_or, sym}
 use Rattle.gs_tree.specs.Trees.{rules_of}
 use Rattle.gs_iso.specs.Numbers.{child_part}
-use Rattle.gs_iso.proofs.{FirstSeen.{seen_more}, Below.{marks_light}, Exact.{child_eq, child_exact}}
+use Rattle.gs_iso.proofs.{FirstSeen.{seen_more, seen_none}, Below.{marks_light}, Exact.{child_eq, child_exact}}
 use Rattle.gs_iso.proofs.children.edge_marks.Goals as goal
 
 pub loop-signal-preserved : goal.loop-signal-preserved
@@ -23,4 +23,6 @@ returns c = record {
 }
 
 pub loop-signal-init : goal.loop-signal-init
-loop-signal-init c = grind arith
+loop-signal-init c =
+    let key = child_part (rules_of c.args.signals.now) c.args.round c.args.numbers.now in
+    seen_none child_eq child_exact key _ _ c.new-seen.ensures.empty c.in_ok-marks.ensures.items

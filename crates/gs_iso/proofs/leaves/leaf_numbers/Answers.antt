@@ -1,49 +1,54 @@
-use Rattle.std.proofs.{Common.{◌≡◌, ◌<◌, ◌∙◌, ◌↔◌, List, ℕ, ap, arith, get_or, length, subst, sym, take}, lemmas.Bool.Decides.{Decides-eqb}}
+use Rattle.std.proofs.{Common.{◌≡◌, ◌+◌, ◌<◌, ◌∙◌, ◌↔◌, List, ℕ, ap, arith, get_or, length, replicate, rules, set, subst, sym, take}, lemmas.Bool.Decides.{Decides-eqb}}
 use Rattle.std.proofs.lemmas.List.{get_or-take, get_or_read, take_all}
 use Rattle.std.specs.Prelude.{nat_eq}
 use Rattle.gs_lossless.specs.Alike.{AreAlike, AreStandIns}
 use Rattle.gs_model.specs.{Game.{round_count}, Isomorphism.{Isomorphic}, Signals.{signal_at, signals}}
-use Rattle.gs_tree.specs.Trees.{rules_of}
+use Rattle.gs_tree.specs.{Trees.{rules_of}, Walk.{last_count}}
 use Rattle.gs_iso.specs.Numbers.{IsLeafSignature}
 use Rattle.gs_iso.proofs.{Numbered.{AreNumbered, numbered_again, numbered_more, numbers_are}, Alike.{leaf_law, signature_like}}
-use Rattle.gs_iso.proofs.{Becoming.{becoming_more, becoming_none}, Rounds.{isomorphic_last}}
+use Rattle.gs_iso.proofs.{Becoming.{AreBecoming, becoming_more, becoming_none}, Rounds.{isomorphic_last}}
+use Rattle.gs_iso.proofs.leaves.leaf_numbers.Goals.{then-first-signal, else-first-signal+in_ok-number}
 use Rattle.gs_iso.proofs.leaves.leaf_numbers.Goals as goal
 
 pub loop-signal-init : goal.loop-signal-init
 loop-signal-init c =
     let g = rules_of c.args.signals.now in
-    let stands = subst (λ (ks : List ℕ). AreStandIns g ks c.in_ok-numbers.numbers.items) c.deref.ensures.value c.in_ok-numbers.ensures in
-    becoming_none g c.in_ok-keys.keys.items c.new-seen.result.keys c.in_ok-numbers.numbers.items stands c.new-seen.ensures.empty
+    let zeros : List ℕ = replicate (last_count g) 0 in
+    let all : c.count-count.result ≡ last_count g = c.count-count.ensures.value ∙ ap (λ n. length (signals g n)) c.rounds.ensures.value in
+    let read : c.deref.result.now ≡ zeros = c.deref.ensures.value ∙ c.in_ok-keys.ensures.items_if_clones_equal (λ y k. search rules)
+    ∙ ap (λ n. replicate n 0) all in
+    let stands = subst (λ (ks : List ℕ). AreStandIns g ks c.in_ok-numbers.numbers.items) read c.in_ok-numbers.ensures in
+    becoming_none g zeros c.new-seen.result.keys c.in_ok-numbers.numbers.items stands c.new-seen.ensures.empty
 
 pub loop-signal-preserved : goal.loop-signal-preserved
 loop-signal-preserved c =
     let g = rules_of c.args.signals.now in
     let h = c.loop-signal.invariant in
-    let n = c.in_ok-number.ensures in
-    let here : c.loop-signal.signal < length (signals g (round_count g)) =
-    omega (arith, c.loop-signal-test.true, c.count-count.ensures.value, ap (λ n. length (signals g n)) c.rounds.ensures.value) in
-    let signs = subst (IsLeafSignature g c.loop-signal.signal) (sym c.deref-in-loop-signal.ensures.value) c.in_ok-sign_leaves.ensures in
-    becoming_more g c.in_ok-keys.keys.items c.loop-signal.seen.keys c.number_of_list.new.lists.keys c.loop-signal.numbers.items c.loop-signal.signal
-    c.in_ok-number.number h here
-    (λ e. numbered_more nat_eq Decides-eqb (IsLeafSignature g) _ _ _ _ _ _ _ h.done signs n.kept n.number n.few n.unique e)
-
-pub loop-signal-preserved-then-first-signal : goal.loop-signal-preserved-then-first-signal
-loop-signal-preserved-then-first-signal c =
-    let g = rules_of c.args.signals.now in
-    let h = c.loop-signal.invariant in
-    let keys = c.in_ok-keys.keys.items in
+    let keys : List ℕ = replicate (last_count g) 0 in
     let numbers = c.loop-signal.numbers.items in
     let signal = c.loop-signal.signal in
-    let j = c.index-first.result.now in
-    let n = c.index-number.result.now in
     let here : signal < length (signals g (round_count g)) =
     omega (arith, c.loop-signal-test.true, c.count-count.ensures.value, ap (λ n. length (signals g n)) c.rounds.ensures.value) in
-    let first : j ≡ get_or numbers signal 0 = get_or_read numbers signal j (omega (arith, here, h.long)) c.index-first.ensures 0 in
-    let like : AreAlike g keys signal j = subst (λ k. AreAlike g keys signal k) (sym first) (h.alike signal (omega arith) here) in
-    let read : n ≡ get_or (take signal numbers) j n = c.index-number.ensures ∙ sym (get_or-take signal numbers j n c.if-first-signal.true) in
-    becoming_more g keys c.loop-signal.seen.keys c.loop-signal.seen.keys numbers signal n h here
-    (λ e. numbered_again nat_eq Decides-eqb (IsLeafSignature g) _ _ _ _ j n h.done c.if-first-signal.true read
-    (signature_like g keys signal j here (omega (arith, c.if-first-signal.true, here)) like) e)
+    elim c.if-first-signal.branch [
+      | then-first-signal w ↦
+          let j = c.index-first.result.now in
+          let n = w.index.result.now in
+          let first : j ≡ get_or numbers signal 0 = get_or_read numbers signal j (omega (arith, here, h.long)) c.index-first.ensures 0 in
+          let like : AreAlike g keys signal j = subst (λ k. AreAlike g keys signal k) (sym first) (h.alike signal (omega arith) here) in
+          let read : n ≡ get_or (take signal numbers) j n = w.index.ensures ∙ sym (get_or-take signal numbers j n w.if-first-signal.true) in
+          subst (λ ks. AreBecoming g keys ks (set numbers signal c.if-first-signal.number) (signal + 1)) (sym (ap (λ s. s.keys) w.seen-is))
+          (subst (λ k. AreBecoming g keys c.loop-signal.seen.keys (set numbers signal k) (signal + 1)) (sym w.number-is)
+          (becoming_more g keys c.loop-signal.seen.keys c.loop-signal.seen.keys numbers signal n h here
+          (λ e. numbered_again nat_eq Decides-eqb (IsLeafSignature g) _ _ _ _ j n h.done w.if-first-signal.true read
+          (signature_like g keys signal j here (omega (arith, w.if-first-signal.true, here)) like) e)))
+      | else-first-signal+in_ok-number w ↦
+          let n = w.in_ok-number.ensures in
+          let seen = w.signature_number.new.seen.keys in
+          subst (λ ks. AreBecoming g keys ks (set numbers signal c.if-first-signal.number) (signal + 1)) (sym (ap (λ s. s.keys) w.seen-is))
+          (subst (λ k. AreBecoming g keys seen (set numbers signal k) (signal + 1)) (sym w.number-is)
+          (becoming_more g keys c.loop-signal.seen.keys seen numbers signal w.in_ok-number.number h here
+          (λ e. numbered_more nat_eq Decides-eqb (IsLeafSignature g) _ _ _ _ _ _ _ h.done n.signs n.kept n.number n.few n.unique e)))
+    ]
 
 pub returns : goal.returns
 returns c =
@@ -63,17 +68,11 @@ returns c =
           (leaf_law g i j a b ha hb)) i j li lj tt;
     }
 
-pub index_mut-requires-in-loop-signal : goal.index_mut-requires-in-loop-signal
-index_mut-requires-in-loop-signal c = grind arith
-
 pub index_mut-requires : goal.index_mut-requires
 index_mut-requires c = grind arith
 
-pub sign_leaves-requires : goal.sign_leaves-requires
-sign_leaves-requires c = grind arith
-
-pub index-number-requires : goal.index-number-requires
-index-number-requires c = grind arith
-
 pub index-first-requires : goal.index-first-requires
 index-first-requires c = grind arith
+
+pub signature_number-requires-clause-in_range : goal.signature_number-requires-clause-in_range
+signature_number-requires-clause-in_range c = grind arith

@@ -1,6 +1,7 @@
-use Rattle.std.proofs.Common.{◌≡◌, ◌+◌, ◌-◌, ◌++◌, ◌∙◌, Some, true, ap, arith, slice_get, subst, sym}
+use Rattle.std.proofs.{Common.{◌≡◌, ◌+◌, ◌-◌, ◌∙◌, Err, Ok, Result, Some, true, ap, arith, slice_get, subst, sym}, lemmas.Result.{on_ok_weaker}}
+use Rattle.std.specs.Prelude.{IfOk}
 use lib.Pointwise.{pointwise}
-use Rattle.gs_iso.specs.KeyNumbers.{same_parts}
+use Rattle.gs_iso.specs.KeyNumbers.{IsNumberOf, same_parts}
 use Rattle.gs_iso.proofs.{Numbered.{find_passes, slice_get-insert}, Grown.{parts_insert, parts_stay}}
 use Rattle.gs_iso.proofs.numbers.number_of_list.Goals as goal
 
@@ -17,26 +18,30 @@ returns-in-Some-clause-number g c =
     }
 
 pub returns-clause-kept : goal.returns-clause-kept
-returns-clause-kept g c = λ i k e.
-    subst (λ ks. slice_get ks i ≡ Some k) (sym c.in_ok-number.ensures.grown)
-    (slice_get-insert (same_parts g.P.PartialEq.eq) c.args.lists.now.keys c.extend_from_slice.new.self i k e)
+returns-clause-kept g c = on_ok_weaker c.number_of.result
+    (λ grown i k e. subst (λ ks. slice_get ks i ≡ Some k) (sym grown)
+    (slice_get-insert (same_parts g.P.PartialEq.eq) c.args.lists.now.keys c.in_ok-key.key i k e)) c.number_of.ensures.grown
+
+-- what holds of a value by two facts
+by_both : {X E : Type 0} (r : Result X E) (P Q R : X → Type 0) → ((x : X) → P x → Q x → R x) → IfOk r P → IfOk r Q → IfOk r R
+by_both (Ok x) P Q R f p q = f x p q
+by_both (Err e) P Q R f p q = q
 
 pub returns-clause-number : goal.returns-clause-number
 returns-clause-number g c =
-    let n = c.in_ok-number.ensures in
-    let whole = c.in_ok-extend_from_slice.ensures.items ∙ ap (λ l. l ++ c.args.list.now) c.in_ok-key.ensures.items in
-    record {
-      some = n.some;
-      key = n.stored.0;
-      stands = n.stored.1;
-      same = subst (λ l. pointwise g.P.PartialEq.eq l n.stored.0.items ≡ true) whole n.stored.2;
-    }
+    let keys = c.number_of.new.keys.keys in
+    by_both c.number_of.result _ _ (λ n. IsNumberOf g.P.PartialEq.eq keys c.args.list.now n)
+    (λ n some stored. record {
+      some = some;
+      key = stored.0;
+      stands = stored.1;
+      same = subst (λ l. pointwise g.P.PartialEq.eq l stored.0.items ≡ true) c.in_ok-key.ensures.items stored.2;
+    }) c.number_of.ensures.some c.number_of.ensures.stored
 
 pub returns-in-Some-clause-grown : goal.returns-in-Some-clause-grown
 returns-in-Some-clause-grown g c = parts_stay g.P.PartialEq.eq c.args.lists.now.keys c.args.list.now (sym c.in-Some.ensures.found)
 
 pub returns-clause-grown : goal.returns-clause-grown
-returns-clause-grown g c =
-    let whole = c.in_ok-extend_from_slice.ensures.items ∙ ap (λ l. l ++ c.args.list.now) c.in_ok-key.ensures.items in
-    parts_insert g.P.PartialEq.eq c.args.lists.now.keys c.number_of.new.keys.keys c.extend_from_slice.new.self c.args.list.now whole
-    c.in_ok-number.ensures.grown
+returns-clause-grown g c = on_ok_weaker c.number_of.result
+    (λ grown. parts_insert g.P.PartialEq.eq c.args.lists.now.keys c.number_of.new.keys.keys c.in_ok-key.key c.args.list.now c.in_ok-key.ensures.items grown)
+    c.number_of.ensures.grown
