@@ -1,6 +1,6 @@
 -- Matchings of equal members, pairings and bijections.
-use Rattle.std.proofs.Common.{◌≡◌, ℕ, ◌+◌, ◌<◌, ◌==◌, ◌||◌, List, [], ◌∷◌, ◌++◌, length, map, get_or, refl, sym, ap, ◌∙◌, subst, arith, Bool, true, false}
-use Rattle.std.proofs.{Common.{true≢false, cond, eqb, IsPermutation, length-append, ⊎_elim}, lemmas.Bool.{cases_eq}, lemmas.Bool.Decides.{Decides-eqb}}
+use Rattle.std.proofs.Common.{◌≡◌, ℕ, ◌+◌, ◌<◌, ◌≤◌, ◌==◌, ◌||◌, List, [], ◌∷◌, ◌++◌, length, map, get_or, refl, sym, ap, ◌∙◌, subst, arith, Bool, true, false}
+use Rattle.std.proofs.{Common.{true≢false, cond, eqb, IsPermutation, length-append, ⊎_elim}, lemmas.Bool.{cases_eq, cases_lt}, lemmas.Bool.Decides.{Decides-eqb}}
 use Rattle.std.proofs.lemmas.List.{get_or-map, get_or_default, get_or_push, get_or_read, length-map, same_lists}
 use Rattle.std.proofs.{lemmas.List.Elements.{All-push, AllZip-get_or, length_all_zip}, lemmas.List.Folds.{Any-from_list_any, list_any-append, list_any_at}}
 use Rattle.std.proofs.lemmas.List.FromFn.{get_or-map-range_with_len, length-map-range_with_len, length-range_with_len, get_or-range_with_len}
@@ -105,6 +105,19 @@ module _ {X : Type 0} (eq : X → X → Bool) (xs ys : List X) where
         (λ same. subst (λ b. joins (edges ++ (left, right) ∷ []) left b ≡ true) (sym same) (joins_last edges left right))
         (λ ne. joins_kept edges (left, right) left b (h.row b d (omega (arith, l, ne)) e))
         (cases_eq b right);
+  }
+
+  -- a row that is done is joined as those before it
+  pub row_done : (left done : ℕ) (edges : List (ℕ × ℕ)) → AreRowEdges left done edges → length ys ≤ done → AreEqualEdges eq xs ys (left + 1) edges
+  row_done left done edges h all = record {
+    only = h.before.only;
+    all = λ a b d l m e. ⊎_elim
+        (λ (less : a < left). h.before.all a b d less m e)
+        (λ (at : left ≤ a).
+        let is : a ≡ left = omega (arith, l, at) in
+        subst (λ k. joins edges k b ≡ true) (sym is)
+        (h.row b d (omega (arith, m, all)) (subst (λ k. eq (get_or xs k d) (get_or ys b d) ≡ true) is e)))
+        (cases_lt a left);
   }
 
 -- ---- pairings and bijections

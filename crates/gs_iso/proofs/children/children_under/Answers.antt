@@ -7,6 +7,9 @@ use Rattle.gs_tree.specs.Trees.{rules_of}
 use Rattle.gs_iso.specs.Numbers.{child_part}
 use Rattle.gs_iso.proofs.children.children_under.Goals as goal
 
+none : (n : ℕ) → 0 ≡ n - n
+none n = omega arith
+
 pub edge-requires-clause-in_range : goal.edge-requires-clause-in_range
 edge-requires-clause-in_range c =
     let g = rules_of c.args.signals.now in
@@ -43,3 +46,9 @@ loop-child-preserved c =
     ∙ ap (λ edge. map part (range_with_len first n) ++ here edge ∷ []) c.edge.ensures
     ∙ sym (map-range_with_len_more part first n c.loop-child.child from)
     ∙ ap (λ m. map part (range_with_len first m)) more
+
+pub loop-child-init : goal.loop-child-init
+loop-child-init c =
+    let part = child_part (rules_of c.args.signals.now) (c.args.round + 1) c.args.below.now in
+    let first = c.children-first.result.0 in
+    c.in_ok-children.ensures.items ∙ ap (λ n. map part (range_with_len first n)) (none first)

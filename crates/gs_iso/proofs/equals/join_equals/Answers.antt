@@ -1,5 +1,5 @@
 use Rattle.std.proofs.Common.{◌+◌, ◌∙◌, ℕ, Vec, Global, ap, arith, subst, sym}
-use Rattle.gs_iso.proofs.{Pairs.{AreRowEdges, row_alike, row_apart}, equals.join_equals.Goals.{then-eq+in_ok-push, else-eq}}
+use Rattle.gs_iso.proofs.{Pairs.{AreRowEdges, row_alike, row_apart, row_done}, equals.join_equals.Goals.{then-eq+in_ok-push, else-eq}}
 use Rattle.gs_iso.proofs.equals.join_equals.Goals as goal
 
 pub loop-right-preserved : goal.loop-right-preserved
@@ -19,3 +19,8 @@ loop-right-preserved g c =
           (row_apart eq xs ys left right c.loop-right.edges.items c.index-ones-left.result c.index-twos-right.result lx
           (omega arith) c.index-ones-left.is c.index-twos-right.is (sym c.eq.ensures ∙ w.if-eq.false) c.loop-right.invariant)
     ]
+
+pub returns : goal.returns
+returns g c =
+    row_done g.P.PartialEq.eq c.args.ones.now c.args.twos.now c.args.left c.loop-right.right c.loop-right.edges.items c.loop-right.invariant
+    c.loop-right-test.false

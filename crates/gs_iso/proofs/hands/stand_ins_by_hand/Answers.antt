@@ -1,4 +1,4 @@
-use Rattle.std.proofs.Common.{◌≡◌, ◌+◌, ◌<◌, ℕ, List, ap, arith, get_or, length, subst, sym}
+use Rattle.std.proofs.Common.{◌≡◌, ◌+◌, ◌<◌, ◌∙◌, ℕ, List, ap, arith, get_or, length, subst, sym}
 use Rattle.gs_model.specs.{Game.{Game}, Signals.{signals}}
 use Rattle.gs_tree.specs.{Trees.{rules_of}, Walk.{last_count}}
 use Rattle.gs_iso.proofs.Handed.{AreHanded, finds_more, hand_at, handed_all, handed_next}
@@ -41,3 +41,8 @@ bounds-masks-place c = grind arith
 
 pub strength-requires : goal.strength-requires
 strength-requires c = grind arith
+
+pub bounds-boards-place : goal.bounds-boards-place
+bounds-boards-place c =
+    let all = c.count-count.ensures.value ∙ ap (λ k. length (signals (rules_of c.args.signals.now) k)) c.rounds.ensures.value in
+    subst (λ n. c.loop-signal.signal < n) (all ∙ sym c.boards.ensures.firsts_long) c.loop-signal-test.true

@@ -7,8 +7,19 @@ use Rattle.gs_tree.specs.{Trees.{rules_of}, Walk.{last_count}}
 use Rattle.gs_iso.specs.Numbers.{IsLeafSignature}
 use Rattle.gs_iso.proofs.{Numbered.{AreNumbered, numbered_again, numbered_more, numbers_are}, Alike.{leaf_law, signature_like}}
 use Rattle.gs_iso.proofs.{Becoming.{AreBecoming, becoming_more, becoming_none}, Rounds.{isomorphic_last}}
-use Rattle.gs_iso.proofs.leaves.leaf_numbers.Goals.{then-first-signal, else-first-signal+in_ok-number}
+use Rattle.gs_iso.proofs.leaves.leaf_numbers.Goals.{After-count-count, then-first-signal, else-first-signal+in_ok-number}
 use Rattle.gs_iso.proofs.leaves.leaf_numbers.Goals as goal
+
+-- the signals are those of the last round
+all : (c : After-count-count) → c.count-count.result ≡ last_count (rules_of c.args.signals.now)
+all c = c.count-count.ensures.value ∙ ap (λ n. length (signals (rules_of c.args.signals.now) n)) c.rounds.ensures.value
+
+-- a signal has a place in a list with an entry for each
+below_len : (n count most long len : ℕ) → n < count → count ≡ most → long ≡ most → len ≡ long → n < len
+below_len n count most long len l a b e = omega (arith, l, a, b, e)
+
+earlier : (first signal len : ℕ) → first < signal → signal < len → first < len
+earlier first signal len l m = omega (arith, l, m)
 
 pub loop-signal-init : goal.loop-signal-init
 loop-signal-init c =
@@ -69,10 +80,22 @@ returns c =
     }
 
 pub index_mut-requires : goal.index_mut-requires
-index_mut-requires c = grind arith
+index_mut-requires c =
+    let h = c.loop-signal.invariant in
+    below_len c.loop-signal.signal _ _ _ _ c.loop-signal-test.true (all (goal.at.index_mut-requires c).After-count-count) h.long c.loop-signal.numbers.ok.0
 
 pub index-first-requires : goal.index-first-requires
-index-first-requires c = grind arith
+index-first-requires c =
+    let h = c.loop-signal.invariant in
+    below_len c.loop-signal.signal _ _ _ _ c.loop-signal-test.true (all (goal.at.index-first-requires c).After-count-count) h.long
+    c.loop-signal.numbers.ok.0
+
+pub index-requires : goal.index-requires
+index-requires c =
+    let h = c.loop-signal.invariant in
+    earlier c.index-first.result.now c.loop-signal.signal _ c.if-first-signal.true
+    (below_len c.loop-signal.signal _ _ _ _ c.loop-signal-test.true (all (goal.at.index-requires c).After-count-count) h.long c.loop-signal.numbers.ok.0)
 
 pub signature_number-requires-clause-in_range : goal.signature_number-requires-clause-in_range
-signature_number-requires-clause-in_range c = grind arith
+signature_number-requires-clause-in_range c =
+    subst (λ n. c.loop-signal.signal < n) (all (goal.at.signature_number-requires-clause-in_range c).After-count-count) c.loop-signal-test.true

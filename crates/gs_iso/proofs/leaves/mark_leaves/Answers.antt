@@ -1,5 +1,5 @@
 use Rattle.std.proofs.Common.{◌≡◌, ◌==◌, ◌++◌, ◌<◌, ◌^◌, ◌∷◌, [], ℕ, ℤ, List, zero, suc, ap, map, refl, sym, ◌∙◌, subst, append_assoc, arith}
-use Rattle.std.proofs.lemmas.List.Elements.{All-map, All-tail}
+use Rattle.std.proofs.lemmas.{List.{append-nil}, List.Elements.{All-map, All-tail}}
 use Rattle.std.specs.Prelude.{All, filter, unsigned_abs}
 use Rattle.gs_model.specs.{Deals.{Deal, deals, path_weight}, Game.{round_count}, Signals.{signal_at}}
 use Rattle.gs_model.proofs.Facing.{leaves_are_deals}
@@ -68,3 +68,9 @@ returns-clause-small c =
     subst (All P) (sym (leaves_are_deals g c.args.signal c.requires).2)
     (All-map P (leaf_of (path_weight g.copies s)) (filter (λ (d : Deal). d.one == c.args.signal) (deals g))
     (c.loop-deal.invariant.small (subst (All is_small) (sym c.in-None.ensures.steps.0) none_is_small)))
+
+pub returns-clause-marks : goal.returns-clause-marks
+returns-clause-marks c =
+    let mark : Deal → ℕ = λ d. leaf_mark (leaf_of c.path_weight-path.result d) in
+    let marks : List ℕ = c.loop-deal.marks.items in
+    sym (append-nil marks) ∙ ap (λ (ds : List Deal). marks ++ map mark ds) (sym c.in-None.ensures.steps.0) ∙ c.loop-deal.invariant.done

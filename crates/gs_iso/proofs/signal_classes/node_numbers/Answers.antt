@@ -1,10 +1,21 @@
 use Rattle.std.proofs.Common.{◌≡◌, ◌+◌, ◌-◌, ◌<◌, ◌∷◌, [], ◌∙◌, ℕ, List, Vec, Global, ap, arith, get_or, length, length-append, subst, sym}
-use Rattle.gs_model.specs.{Game.{round_count}, Rows.{rows}}
+use Rattle.gs_model.specs.{Game.{Game, round_count}, Rows.{rows}}
 use Rattle.gs_filter.proofs.RowLaws.{length-rows, row_read}
 use Rattle.gs_tree.specs.Trees.{rules_of}
 use Rattle.gs_iso.specs.Numbers.{IsNumbering}
 use Rattle.gs_iso.proofs.Listed.{rows_more}
 use Rattle.gs_iso.proofs.signal_classes.node_numbers.Goals as goal
+
+-- one list alone is that of the last round
+first_row : (g : Game) (vs : List (Vec ℕ Global)) (last : Vec ℕ Global) → vs ≡ last ∷ [] → IsNumbering g (round_count g) last.items
+    → (k : ℕ) → k < length vs → IsNumbering g (round_count g - k) (get_or (rows vs) k [])
+first_row g vs last e h k l =
+    let one : length vs ≡ 1 = ap (λ (xs : List (Vec ℕ Global)). length xs) e in
+    let none : k ≡ 0 = omega (arith, l, one) in
+    let whole : round_count g ≡ round_count g - 0 = omega arith in
+    subst (λ (xs : List (Vec ℕ Global)). IsNumbering g (round_count g - k) (get_or (rows xs) k [])) (sym e)
+    (subst (λ n. IsNumbering g (round_count g - n) (get_or (rows (last ∷ [])) n [])) (sym none)
+    (subst (λ r. IsNumbering g r last.items) whole h))
 
 pub child_numbers-requires-clause-numbers : goal.child_numbers-requires-clause-numbers
 child_numbers-requires-clause-numbers c =
@@ -48,4 +59,9 @@ returns c =
     }
 
 pub loop-done-init : goal.loop-done-init
-loop-done-init c = grind arith
+loop-done-init c =
+    let made = c.in_ok-numbers.ensures.items in
+    record {
+      long = ap (λ (vs : List (Vec ℕ Global)). length vs) made;
+      each = first_row (rules_of c.args.signals.now) c.in_ok-numbers.numbers.items c.in_ok-last.last made c.in_ok-last.ensures;
+    }

@@ -1,6 +1,8 @@
-use Rattle.std.proofs.Common.{List, ℕ, subst, sym, arith}
-use Rattle.gs_model.specs.{Classes.{IsClasses}, Rows.{rows}}
-use Rattle.gs_filter.specs.Filter.{AreParents}
+use Rattle.std.proofs.Common.{◌≡◌, List, ℕ, subst, sym, arith}
+use Rattle.std.proofs.lemmas.Result.{IfOk-weaker}
+use Rattle.std.specs.Prelude.{IfOk}
+use Rattle.gs_model.specs.{Classes.{IsClasses}, Rows.{rows}, SignalClasses.{IsSignalClasses}}
+use Rattle.gs_filter.specs.Filter.{AreParents, Filter}
 use Rattle.gs_tree.specs.Trees.{rules_of}
 use Rattle.gs_lossless.proofs.Descent.{are_parents}
 use Rattle.gs_iso.proofs.Whole.{are_classes}
@@ -16,3 +18,13 @@ of_filter-requires-clause-classes c =
 
 pub class_lists-requires : goal.class_lists-requires
 class_lists-requires c = grind arith
+
+pub returns-clause-classes : goal.returns-clause-classes
+returns-clause-classes c =
+    let g = rules_of c.args.signals.now in
+    IfOk-weaker c.of_filter.result (λ (v : Filter). v.lists ≡ rows c.in_ok-lists.lists.items) (λ (v : Filter). IsSignalClasses g v.lists)
+    (λ v e. subst (IsSignalClasses g) (sym e) c.in_ok-lists.ensures) c.of_filter.ensures.lists
+
+pub returns-clause-parents : goal.returns-clause-parents
+returns-clause-parents c =
+    subst (λ (ps : List (List ℕ)). IfOk c.of_filter.result (λ (v : Filter). v.parents ≡ ps)) c.parents.ensures c.of_filter.ensures.parents
