@@ -38,12 +38,13 @@ pub(crate) fn number_members(
         let signal = next;
         next = nexts[signal as usize];
         let first = firsts[signal as usize];
-        if first < signal {
-            numbers[signal as usize] = numbers[first as usize];
-            continue;
-        }
-        let sums = at.sums(alloc, signal)?;
-        numbers[signal as usize] = number_of_list(alloc, &mut seen, &sums)?;
+        let number = if first < signal {
+            numbers[first as usize]
+        } else {
+            let sums = at.sums(alloc, signal)?;
+            number_of_list(alloc, &mut seen, &sums)?
+        };
+        numbers[signal as usize] = number;
     }
     Ok(())
 }

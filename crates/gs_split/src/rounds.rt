@@ -83,16 +83,15 @@ pub(crate) fn round_classes(alloc: Global, keys: &TurnKeys<'_>) -> Result<Vec<u3
     ensures classes { IfOk result (λ v. IsKeyClasses (turn_key keys.now.before.now keys.now.above.now keys.now.parents.now keys.now.numbers.now) v.items) }
 {
     let mut last = vec![in alloc; 0; KEPT]?;
-    let mut seen = IndexSet::new(alloc);
     let mut classes = Vec::with_capacity(alloc, keys.numbers.len())?;
+    let mut seen = IndexSet::new(alloc);
     for at in 0..keys.numbers.len() {
         let key = key_at(keys, at);
         let item = noted(&mut last, key, at as u32);
-        if let Some(class) = class_again(keys, &classes, item, key) {
-            classes.push(class)?;
-            continue;
-        }
-        let class = number_of(&mut seen, key)?;
+        let class = match class_again(keys, &classes, item, key) {
+            Some(class) => class,
+            None => number_of(&mut seen, key)?,
+        };
         classes.push(class)?;
     }
     Ok(classes)

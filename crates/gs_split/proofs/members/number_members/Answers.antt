@@ -1,11 +1,12 @@
-use Rattle.std.proofs.Common.{◌≡◌, ◌<◌, List, arith, get_or, length, refl, subst, sym}
+use Rattle.std.proofs.Common.{◌≡◌, ◌<◌, ℕ, List, Vec, Global, ap, arith, get_or, length, refl, set, subst, sym}
 use Rattle.gs_lossless.specs.{declared.parts.Part.{Part}, Amounts.{AreAmounts}, declared.side_keys.SideKeys.{SideKeys}}
 use Rattle.gs_model.specs.{Classes.{list_of}, Frame.{frame_of, signal_count}, Signals.{signals}}
 use Rattle.gs_tree.specs.Trees.{rules_of}
 use Rattle.gs_lossless.proofs.{Merge.{part_decides}, Scanned.{side_classes, side_signals}}
 use Rattle.gs_filter.proofs.Linked.{member_first}
 use Rattle.gs_iso.proofs.Numbered.{number_leads}
-use Rattle.gs_split.proofs.{Agreed.{part_eq}, MemberNumbers.{number_stood, numbered_all, numbered_first, numbering_more}}
+use Rattle.gs_split.proofs.{Agreed.{part_eq}, MemberNumbers.{AreNumbering, number_stood, numbered_all, numbered_first, numbering_more}}
+use Rattle.gs_split.proofs.members.number_members.Goals.{then-first-signal, else-first-signal+in_ok-sums+in_ok-number}
 use Rattle.gs_split.proofs.members.number_members.Goals as goal
 
 -- the list of the round has a class for each of its signals
@@ -27,21 +28,6 @@ loop-next-init c =
           (member_first lists at.round c.args.class c.first-next.result c.first-next.ensures.member c.first-next.ensures.value);
     }
 
-pub loop-next-preserved-then-first-signal : goal.loop-next-preserved-then-first-signal
-loop-next-preserved-then-first-signal c =
-    let at = c.args.at.now in
-    let f = frame_of (rules_of at.signals.now) in
-    let lists = at.classes.now.lists in
-    let h = c.loop-next.invariant in
-    let s = c.loop-next.next in
-    let l : s < length c.args.nexts.now = c.loop-next-test.true in
-    let stand = c.requires.firsts in
-    let here = number_stood f lists at.side at.round c.args.class c.args.numbers.now c.args.firsts.now c.loop-next.seen.keys c.loop-next.numbers s h stand
-    (omega (arith, l, stand.long, counted at, all at, c.requires.nexts.long)) (omega (arith, l, c.requires.nexts.long))
-    (omega (arith, l, h.long, c.requires.numbers)) c.if-first-signal.true in
-    numbering_more f lists at.side at.round c.args.class c.args.numbers.now c.loop-next.seen.keys c.loop-next.seen.keys c.loop-next.numbers c.args.nexts.now s
-    (get_or c.loop-next.numbers (get_or c.args.firsts.now s 0) 0) h c.requires.nexts l here (λ i k e. e) (omega arith) h.numbered.distinct
-
 pub sums-requires : goal.sums-requires
 sums-requires c = omega (arith, c.loop-next-test.true, c.requires.nexts.long, all c.args.at.now)
 
@@ -52,12 +38,31 @@ loop-next-preserved c =
     let lists = at.classes.now.lists in
     let h = c.loop-next.invariant in
     let s = c.loop-next.next in
-    let n = c.in_ok-numbers.ensures in
-    let more = c.number_of_list.new.lists.keys in
-    let signs = subst (λ (ps : List Part). AreAmounts f lists at.side at.round s ps) (sym c.deref.ensures.value) c.in_ok-sums.ensures in
-    let here = number_leads part_eq part_decides (AreAmounts f lists at.side at.round) more c.deref.result.now s c.in_ok-numbers.field-0 n.number signs in
-    numbering_more f lists at.side at.round c.args.class c.args.numbers.now c.loop-next.seen.keys more c.loop-next.numbers c.args.nexts.now s
-    c.in_ok-numbers.field-0 h c.requires.nexts c.loop-next-test.true here n.kept n.few n.unique
+    let l : s < length c.args.nexts.now = c.loop-next-test.true in
+    let old = c.loop-next.seen.keys in
+    let old_numbers = c.args.numbers.now in
+    let numbers = c.loop-next.numbers in
+    let next = get_or c.args.nexts.now s 0 in
+    let more : List (Vec Part Global) → ℕ → Type 0 = λ ks number. AreNumbering f lists at.side at.round c.args.class old_numbers ks (set numbers s number) next in
+    elim c.if-first-signal.branch [
+      | then-first-signal w ↦
+          let stand = c.requires.firsts in
+          let here = number_stood f lists at.side at.round c.args.class old_numbers c.args.firsts.now old numbers s h stand
+          (omega (arith, l, stand.long, counted at, all at, c.requires.nexts.long)) (omega (arith, l, c.requires.nexts.long))
+          (omega (arith, l, h.long, c.requires.numbers)) w.if-first-signal.true in
+          let made = numbering_more f lists at.side at.round c.args.class old_numbers old old numbers c.args.nexts.now s
+          (get_or numbers (get_or c.args.firsts.now s 0) 0) h c.requires.nexts l here (λ i k e. e) (omega arith) h.numbered.distinct in
+          subst (λ ks. more ks c.if-first-signal.number) (sym (ap (λ x. x.keys) w.seen-is)) (subst (more old) (sym w.number-is) made)
+      | else-first-signal+in_ok-sums+in_ok-number w ↦
+          let n = w.in_ok-number.ensures in
+          let keys = w.number_of_list.new.lists.keys in
+          let number = w.in_ok-number.number in
+          let signs = subst (λ (ps : List Part). AreAmounts f lists at.side at.round s ps) (sym w.deref.ensures.value) w.in_ok-sums.ensures in
+          let here = number_leads part_eq part_decides (AreAmounts f lists at.side at.round) keys w.deref.result.now s number n.number signs in
+          let made = numbering_more f lists at.side at.round c.args.class old_numbers old keys numbers c.args.nexts.now s number h c.requires.nexts l here
+          n.kept n.few n.unique in
+          subst (λ ks. more ks c.if-first-signal.number) (sym (ap (λ x. x.keys) w.seen-is)) (subst (more keys) (sym w.number-is) made)
+    ]
 
 pub returns-clause-members : goal.returns-clause-members
 returns-clause-members c =
@@ -69,9 +74,6 @@ returns-clause-members c =
 pub loop-next-smaller : goal.loop-next-smaller
 loop-next-smaller c = grind arith
 
-pub bounds-numbers-signal-in-loop-next : goal.bounds-numbers-signal-in-loop-next
-bounds-numbers-signal-in-loop-next c = grind arith
-
 pub number_of_list-requires-clause-few : goal.number_of_list-requires-clause-few
 number_of_list-requires-clause-few c = grind arith
 
@@ -80,6 +82,3 @@ returns-clause-others c = grind arith
 
 pub bounds-firsts-signal : goal.bounds-firsts-signal
 bounds-firsts-signal c = grind arith
-
-pub loop-next-smaller-then-first-signal : goal.loop-next-smaller-then-first-signal
-loop-next-smaller-then-first-signal c = grind arith

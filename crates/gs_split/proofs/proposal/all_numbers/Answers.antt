@@ -60,4 +60,8 @@ loop-round-preserved c =
     }
 
 pub returns : goal.returns
-returns c = grind arith
+returns c =
+    let i = c.loop-round.invariant in
+    let first : c.loop-round.round ≡ 1 = omega (arith, i.some, c.loop-round-test.false) in
+    subst (λ r. AreFairFrom (frame_of (rules_of c.args.grouped.now.signals.now)) c.args.grouped.now.classes.now.lists r (rows c.loop-round.numbers.items)) first
+    i.fair

@@ -1,4 +1,6 @@
-use Rattle.std.proofs.{lemmas.Grind.{common_steps}, Common.{◌≡◌, ◌∙◌, ◌≤◌, ℕ, List, ap, arith, length, sym}, lemmas.Result.{IfOk-weaker}}
+use Rattle.std.proofs.Common.{◌≡◌, ◌∙◌, ◌+◌, ◌≤◌, ◌∷◌, [], ℕ, List, ap, arith, below_more, get_or, length, sym}
+use Rattle.std.proofs.lemmas.{List.{get_or_append_left, get_or_push, length_push}, Result.{IfOk-weaker}}
+use Rattle.gs_filter.proofs.RowLaws.{length-rows}
 use Rattle.gs_model.specs.{Classes.{list_of}, Frame.{frame_of, signal_count}, Game.{round_count}, Signals.{signals}}
 use Rattle.gs_model.proofs.{Ranges.{signal_count_is}, Walked.{last_round_of}}
 use Rattle.gs_tree.specs.{Trees.{rules_of}}
@@ -55,4 +57,20 @@ returns c = λ side has.
     (all ∙ c.count-count.ensures.value) c.loop-signal.invariant.long c.loop-signal.invariant.each)
 
 pub loop-signal-preserved : goal.loop-signal-preserved
-loop-signal-preserved c = grind (arith, common_steps)
+loop-signal-preserved c =
+    let firsts = c.loop-signal.firsts.items in
+    let s = c.loop-signal.signal in
+    let put = c.in_ok-push.ensures.items in
+    let long = c.loop-signal.invariant.long in
+    record {
+      long = ap (λ (l : List ℕ). length l) put ∙ length_push firsts s ∙ ap (λ k. k + 1) long;
+      each = below_more _ _
+          (λ k l. ap (λ (fs : List ℕ). get_or fs k 0) put ∙ get_or_append_left firsts (s ∷ []) 0 k (omega (arith, l, long)) ∙ c.loop-signal.invariant.each k l)
+          (ap (λ (fs : List ℕ). get_or fs s 0) put ∙ get_or_push firsts s 0 s long);
+    }
+
+pub bounds-lists-from : goal.bounds-lists-from
+bounds-lists-from c =
+    let all = c.args.grouped.now.classes.now.classes.rounds ∙ ap (λ (ps : List (List ℕ)). length ps) c.args.grouped.now.parents in
+    let long = ap (λ (ls : List (List ℕ)). length ls) c.lists.ensures.value in
+    omega (arith, c.from.ensures, c.requires.some, c.requires.top, all, length-rows c.lists.result.now, long)

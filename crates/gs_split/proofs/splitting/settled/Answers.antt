@@ -1,5 +1,5 @@
-use Rattle.std.proofs.Common.{◌∙◌, Bool, List, arith, rules, subst, sym}
-use Rattle.gs_model.specs.Frame.{frame_of}
+use Rattle.std.proofs.Common.{◌∙◌, ℕ, Bool, List, arith, rules, subst, sym}
+use Rattle.gs_model.specs.{Classes.{IsClasses}, Frame.{frame_of}}
 use Rattle.gs_model.proofs.{Ranges.{in_range}, Walked.{last_round_of}}
 use Rattle.gs_tree.specs.Trees.{rules_of}
 use Rattle.gs_lossless.proofs.{Descent.{playable}, Settled.{over}}
@@ -18,10 +18,17 @@ pub loop-total-init : goal.loop-total-init
 loop-total-init c =
     let g = rules_of c.args.signals.now in
     record {
-      parents = search rules;
+      parents = c.in_ok-classes.ensures.parents;
       known = none_known (frame_of g) c.in_ok-classes.classes.lists c.in_ok-known.known.items c.from.result
           (c.in_ok-known.ensures.items_if_clones_equal (λ y k. search rules)) (omega (arith, c.from.ensures, c.rounds.ensures.value, last_round_of g));
-      underway = search rules;
+      underway = record {
+        old = c.args.from.now.lists;
+        classes = subst (λ (ps : List (List ℕ)). IsClasses ps c.args.from.now.lists) c.requires c.class_total-total.ensures.classes;
+        refines = λ round s t some le both. both.same;
+        keeps = λ other lossless refines. refines;
+        turn = c.in_ok-classes.ensures.turn;
+        counted = c.class_total-total.ensures.value;
+      };
     }
 
 pub turn-requires-in-loop-total-clause-known : goal.turn-requires-in-loop-total-clause-known
