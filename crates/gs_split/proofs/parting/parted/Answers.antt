@@ -1,4 +1,4 @@
-use Rattle.std.proofs.Common.{◌≡◌, List, ℕ, subst, sym}
+use Rattle.std.proofs.Common.{◌≡◌, ◌∙◌, List, ℕ, subst, sym}
 use Rattle.gs_model.specs.{Classes.{ClassLists, IsClasses}, Frame.{frame_of}, Rows.{rows}}
 use Rattle.gs_filter.specs.Filter.{AreParents, Filter}
 use Rattle.gs_tree.specs.Trees.{rules_of}
@@ -24,3 +24,9 @@ returns-clause-parted c =
     let new = rows c.in_ok-lists.lists.items in
     if_ok c.of_filter.result (λ (v : Filter). v.lists ≡ new) (λ (v : Filter). AreParted f old numbers v.lists)
     (λ v e. subst (λ (lists : ClassLists). AreParted f old numbers lists) (sym e) c.in_ok-lists.ensures) c.of_filter.ensures.lists
+
+pub returns-clause-parents : goal.returns-clause-parents
+returns-clause-parents c =
+    let ps = (frame_of (rules_of c.args.grouped.now.signals.now)).parents in
+    if_ok c.of_filter.result (λ (v : Filter). v.parents ≡ rows c.parents.result.now) (λ (v : Filter). v.parents ≡ ps) (λ v e. e ∙ c.parents.ensures)
+    c.of_filter.ensures.parents

@@ -1,4 +1,4 @@
-use Rattle.std.proofs.Common.{◌≡◌, ◌<◌, ℕ, List, ap, arith, get_or, length, refl, slice_set, subst, ◌∙◌}
+use Rattle.std.proofs.Common.{◌≡◌, ◌<◌, ℕ, List, ap, arith, get_or, length, refl, slice_set, subst, sym, ◌∙◌}
 use Rattle.std.proofs.lemmas.{Grind.{common_steps}, List.{length-set}}
 use Rattle.std.specs.Prelude.{◌+◌, ◌*◌, ◌%◌, ◌^◌}
 use Rattle.gs_split.specs.Proposal.{child_term, mixed}
@@ -38,3 +38,10 @@ index_mut-requires c = grind arith
 
 pub index-requires : goal.index-requires
 index-requires c = grind arith
+
+pub returns-clause-each : goal.returns-clause-each
+returns-clause-each c =
+    let i = c.loop-child.invariant in
+    let end : c.loop-child.child ≡ length c.args.parents.now = omega (arith, c.loop-child-test.false, c.loop-child.auto.child-end) in
+    λ s l. i.each s (subst (λ n. s < n) (sym i.long) l)
+    ∙ ap (λ n. terms_to c.args.parents.now c.args.classes.now c.args.numbers.now n s % 2 ^ 32) end

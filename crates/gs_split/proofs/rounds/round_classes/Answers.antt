@@ -1,4 +1,4 @@
-use Rattle.std.proofs.Common.{◌+◌, ◌∷◌, ◌++◌, ◌∙◌, [], ℕ, List, ap, subst, sym}
+use Rattle.std.proofs.Common.{◌+◌, ◌∷◌, ◌++◌, ◌∙◌, [], ℕ, List, ap, arith, subst, sym}
 use Rattle.gs_iso.specs.KeyNumbers.{HasClassOf}
 use Rattle.gs_iso.proofs.FirstSeen.{AreSeen, seen_again, seen_more, seen_none}
 use Rattle.gs_split.specs.Turns.{turn_key}
@@ -25,3 +25,10 @@ loop-at-preserved c =
           (seen_more key_eq key_exact key _ _ _ _ _ _ _ c.loop-at.invariant (sym c.key_at-key.ensures) n.stored n.grown n.few n.unique n.some
           (c.in_ok-push.ensures.items ∙ ap (λ k. c.loop-at.classes.items ++ k ∷ []) w.class-is))
     ]
+
+pub returns-clause-long : goal.returns-clause-long
+returns-clause-long c =
+    omega (arith, c.loop-at.invariant.long, c.loop-at-test.false, c.loop-at.auto.at-end)
+
+pub returns-clause-classes : goal.returns-clause-classes
+returns-clause-classes c = c.loop-at.invariant.seen.grouped

@@ -1,12 +1,13 @@
-use Rattle.std.proofs.Common.{◌≡◌, ◌≤◌, ◌<◌, ◌∙◌, ◌+◌, ◌++◌, ℕ, true, false, List, ap, arith, drop, get_or, length, refl, subst, sym, take}
-use Rattle.std.proofs.lemmas.Grind.{common_steps}
+use Rattle.std.proofs.Common.{◌≡◌, ◌≤◌, ◌<◌, ◌∙◌, ◌+◌, ◌++◌, ℕ, true, false, List, ap, arith, drop, get_or, length, refl, replicate, rules, subst, sym, take}
+use Rattle.std.proofs.lemmas.List.{length-replicate}
+use Rattle.gs_filter.specs.Members.{AreNextMembers}
 use Rattle.gs_filter.proofs.ClassLaws.{class_at, count_fits}
-use Rattle.gs_model.specs.{Classes.{class_count, class_of}, Frame.{frame_of, signal_count}}
+use Rattle.gs_model.specs.{Classes.{ClassLists, IsClass, class_count, class_of}, Frame.{frame_of, signal_count}}
 use Rattle.gs_lossless.proofs.{Marked.{whole}, Scanned.{side_classes, side_signals}, SideOf.{as_asked}}
 use Rattle.gs_lossless.specs.{declared.sides.Side.{Side}, Amounts.{AreSideFirsts, HasSide}}
 use Rattle.gs_tree.specs.Trees.{rules_of}
 use Rattle.gs_split.specs.Turns.{AreMemberNumbers, AreSettled, AreSideNumbers}
-use Rattle.gs_split.proofs.{MemberNumbers.{AreDone, done_all, done_more, done_settled}, sides.numbers_by_class.Goals.{In_ok-at, Start}}
+use Rattle.gs_split.proofs.{MemberNumbers.{AreDone, done_all, done_more, done_none, done_settled}, sides.numbers_by_class.Goals.{In_ok-at, Start}}
 use Rattle.gs_split.proofs.sides.numbers_by_class.Goals as goal
 
 -- what is known of the stand-ins
@@ -21,6 +22,10 @@ top c = omega (arith, c.requires.top, c.args.grouped.now.classes.now.classes.rou
 -- a round has few classes
 few : (c : Start) → class_count c.args.grouped.now.classes.now.lists c.args.round < 4294967296
 few c = count_fits c.args.grouped.now.classes.now c.args.round c.requires.some (top c)
+
+-- the class behind the classes before
+next_class : (lists : ClassLists) (round before n : ℕ) → before < n → n ≡ class_count lists round → IsClass lists round (before + 1)
+next_class lists round before n l all = (omega arith, omega (arith, l, all))
 
 pub overflow_cast-before : goal.overflow_cast-before
 overflow_cast-before c = omega (
@@ -115,20 +120,42 @@ returns c =
       same = done_all f lists c.in_ok-at.at.side c.args.round c.loop-before.before (length numbers) numbers i.done refl within;
     }))
 
-pub loop-before-init : goal.loop-before-init
-loop-before-init c = grind (arith, common_steps)
-
 pub number_members-requires-clause-firsts : goal.number_members-requires-clause-firsts
 number_members-requires-clause-firsts c =
     let at = c.in_ok-at.ensures in
     as_asked (λ s k a m. AreSideFirsts (frame_of (rules_of s)) k.lists a m c.args.firsts.now) (sym at.signals) (sym at.classes) (refl, sym at.side.1)
     (stands (goal.at.number_members-requires-clause-firsts c).In_ok-at)
 
-pub number_members-requires-clause-class : goal.number_members-requires-clause-class
-number_members-requires-clause-class c = grind arith
-
-pub number_members-requires-clause-nexts : goal.number_members-requires-clause-nexts
-number_members-requires-clause-nexts c = grind arith
-
 pub next_members-requires-clause-top : goal.next_members-requires-clause-top
 next_members-requires-clause-top c = grind arith
+
+pub loop-before-init : goal.loop-before-init
+loop-before-init c =
+    let lists = c.args.grouped.now.classes.now.lists in
+    let numbers = c.in_ok-numbers.numbers.items in
+    let start = (goal.at.loop-before-init c).Start in
+    let len : c.len.result ≡ length c.in_ok-nexts.nexts.items = c.len.ensures ∙ c.in_ok-nexts.nexts.ok.0 in
+    let none : numbers ≡ replicate c.len.result 0 = c.in_ok-numbers.ensures.items_if_clones_equal (λ y k. search rules) in
+    record {
+      long = ap (λ (l : List ℕ). length l) none ∙ length-replicate c.len.result 0 ∙ len;
+      done = done_none (frame_of (rules_of c.args.grouped.now.signals.now)) lists c.in_ok-at.at.side c.args.round c.len.result numbers
+          (len ∙ c.in_ok-nexts.ensures.long) none
+          (λ s l. (class_at c.args.grouped.now.classes.now c.args.round c.requires.some (top start) s l).0);
+    }
+
+pub number_members-requires-clause-class : goal.number_members-requires-clause-class
+number_members-requires-clause-class c =
+    let at = c.in_ok-at.ensures in
+    as_asked (λ s t a m. IsClass t.lists m (c.loop-before.before + 1)) {a = c.in_ok-at.at.side} (sym at.signals) (sym at.classes) (refl, sym at.side.1)
+    (next_class c.args.grouped.now.classes.now.lists c.args.round c.loop-before.before (length c.args.settled.now) c.loop-before-test.true
+    c.requires.settled.long)
+
+pub number_members-requires-clause-nexts : goal.number_members-requires-clause-nexts
+number_members-requires-clause-nexts c =
+    let at = c.in_ok-at.ensures in
+    as_asked (λ s t a m. AreNextMembers t.lists m c.deref.result.now) {a = c.in_ok-at.at.side} (sym at.signals) (sym at.classes) (refl, sym at.side.1)
+    (subst (AreNextMembers c.args.grouped.now.classes.now.lists c.args.round) (sym c.deref.ensures.value) c.in_ok-nexts.ensures)
+
+pub number_members-requires-clause-numbers : goal.number_members-requires-clause-numbers
+number_members-requires-clause-numbers c =
+    ap (λ (l : List ℕ). length l) c.deref_mut.ensures.value ∙ c.loop-before.invariant.long ∙ ap (λ (l : List ℕ). length l) (sym c.deref.ensures.value)

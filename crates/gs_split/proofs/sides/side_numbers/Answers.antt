@@ -51,3 +51,19 @@ numbers_by_class-requires-clause-firsts c =
     let f = frame_of (rules_of c.args.grouped.now.signals.now) in
     subst (λ (l : List ℕ). (side : Side) → HasSide f side c.args.round → AreSideFirsts f c.args.grouped.now.classes.now.lists side c.args.round l)
     (sym c.deref-3.ensures.value) c.in_ok-firsts.ensures
+
+pub numbers_by_class-requires-clause-settled : goal.numbers_by_class-requires-clause-settled
+numbers_by_class-requires-clause-settled c =
+    let lists = c.args.grouped.now.classes.now.lists in
+    subst (AreSettled lists c.args.round c.deref-3.result.now) (sym c.deref-4.ensures.value)
+    (subst (λ (l : List ℕ). AreSettled lists c.args.round l c.in_ok-settled.settled.items) (c.deref.ensures.value ∙ sym c.deref-3.ensures.value)
+    c.in_ok-settled.ensures)
+
+pub numbers_by_class-requires-clause-some : goal.numbers_by_class-requires-clause-some
+numbers_by_class-requires-clause-some c = c.requires.some
+
+pub numbers_by_class-requires-clause-top : goal.numbers_by_class-requires-clause-top
+numbers_by_class-requires-clause-top c = c.requires.top
+
+pub settled_classes-requires-clause-top : goal.settled_classes-requires-clause-top
+settled_classes-requires-clause-top c = top (goal.at.settled_classes-requires-clause-top c).Start

@@ -1,4 +1,4 @@
-use Rattle.std.proofs.Common.{◌∙◌, ℕ, Bool, List, arith, rules, subst, sym}
+use Rattle.std.proofs.Common.{◌-◌, ◌<◌, ◌^◌, ◌∙◌, ℕ, Bool, List, arith, rules, subst, sym}
 use Rattle.gs_model.specs.{Classes.{IsClasses}, Frame.{frame_of}}
 use Rattle.gs_model.proofs.{Ranges.{in_range}, Walked.{last_round_of}}
 use Rattle.gs_tree.specs.Trees.{rules_of}
@@ -6,6 +6,10 @@ use Rattle.gs_lossless.proofs.{Descent.{playable}, Settled.{over}}
 use Rattle.gs_split.specs.Turns.{AreKnown}
 use Rattle.gs_split.proofs.{Known.{none_known}, Splits.{ended, one_more}}
 use Rattle.gs_split.proofs.splitting.settled.Goals as goal
+
+-- more classes leave fewer to come
+less : (total now : ℕ) → total < now → now < 2 ^ 40 → 2 ^ 40 - now < 2 ^ 40 - total
+less total now more few = omega (arith, more, few)
 
 pub turn-requires-clause-known : goal.turn-requires-clause-known
 turn-requires-clause-known c =
@@ -60,5 +64,23 @@ returns-clause-coarsest c =
     ended f (in_range g p) c.args.from.now.lists now.lists c.loop-total.total k c.loop-total.invariant.underway (omega (arith, last_round_of g, p.some))
     (omega (arith, c.loop-total-test.false, c.class_total.ensures.value))
 
+pub loop-total-smaller : goal.loop-total-smaller
+loop-total-smaller c =
+    let n = c.class_total-total-in-loop-total in
+    less c.loop-total.total n.result
+    (subst (λ k. c.loop-total.total < k) (c.class_total.ensures.value ∙ sym n.ensures.value) c.loop-total-test.true) n.ensures.few
+
+pub known_rounds-requires-clause-before : goal.known_rounds-requires-clause-before
+known_rounds-requires-clause-before c = c.loop-total.invariant.parents
+
+pub known_rounds-requires-clause-parents : goal.known_rounds-requires-clause-parents
+known_rounds-requires-clause-parents c = c.in_ok-finer.ensures.parents
+
 pub known_rounds-requires-clause-turned : goal.known_rounds-requires-clause-turned
-known_rounds-requires-clause-turned c = grind arith
+known_rounds-requires-clause-turned c = c.in_ok-finer.ensures.turn
+
+pub turn-requires-in-loop-total-clause-parents : goal.turn-requires-in-loop-total-clause-parents
+turn-requires-in-loop-total-clause-parents c = c.loop-total.invariant.parents
+
+pub returns-clause-parents : goal.returns-clause-parents
+returns-clause-parents c = c.loop-total.invariant.parents
