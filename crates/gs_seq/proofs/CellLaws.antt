@@ -7,9 +7,10 @@ use Rattle.std.specs.{Prelude.{All}, declared.alloc.Global.{Global}}
 use Rattle.gs_filter.specs.Filter.{Filter}
 use Rattle.gs_game.specs.{Games.{game_of}, Seen.{end_of}, declared.positions.End.{End as StoredEnd}, declared.valid.ValidGame.{ValidGame}}
 use Rattle.gs_lossless.specs.declared.checking.Lossless.{Lossless}
-use Rattle.gs_model.specs.{Classes.{class_count, classes_in}, Deals.{deals}, Frame.{end_count, last_round, round_of}, Positions.{End, at_end}}
+use Rattle.gs_model.specs.{Classes.{ClassLists, class_count, classes_in}, Deals.{deals}, Frame.{Frame, end_count, last_round, round_of}}
+use Rattle.gs_model.specs.Positions.{End, at_end}
 use Rattle.gs_model.proofs.{Ranges.{deals_weigh}, Basics.{sum_by-map}}
-use Rattle.gs_seq.specs.{Cells.{AreCounts, cell_count, meets, pair_count}, Games.{frame_in}, Rows.{AreRows, AreRowsIn, pairs_of}, declared.pair.Pair.{Pair}}
+use Rattle.gs_seq.specs.{Cells.{AreCounts, cell_count, meets, pair_count}, Games.{frame_in}, Rows.{AreRows, AreRowsIn, IsRow, pairs_of}, declared.pair.Pair.{Pair}}
 use Rattle.gs_seq.proofs.{Ends.{end_reads, end_round, length-ends}, Meeting.{rows_long}, Points.{walked}, RowRoom.{table}, Singles.{made_count}}
 use Rattle.gs_seq.proofs.SlotLaws.{class_few, over}
 
@@ -28,6 +29,16 @@ pushed P xs x n long before here k d l = ⊎_elim
 pub pushed_to : {X : Type 0} (P : ℕ → X → Type 0) (xs ys : List X) (x : X) (n : ℕ) → ys ≡ xs ++ x ∷ [] → length xs ≡ n
     → ((k : ℕ) (d : X) → k < n → P k (get_or xs k d)) → P n x → (k : ℕ) (d : X) → k < n + 1 → P k (get_or ys k d)
 pushed_to P xs ys x n put long before here k d l = subst (λ zs. P k (get_or zs k d)) (sym put) (pushed P xs x n long before here k d l)
+
+-- the rows that were made for each class of a round in turn
+pub rows_made : (f : Frame) (lists : ClassLists) (round n : ℕ) (rows : List (Vec Pair Global)) → length rows ≡ n → n ≡ class_count lists round
+    → ((k : ℕ) (d : Vec Pair Global) → k < n → IsRow f lists round (k + 1) (get_or rows k d).items) → AreRowsIn f lists round rows
+rows_made f lists round n rows long all each = record {
+  long = long ∙ all;
+  row = λ c d class. (
+      let back : c - 1 + 1 ≡ c = omega (arith, class.0) in
+      subst (λ j. IsRow f lists round j (get_or rows (c - 1) d).items) back (each (c - 1) d (omega (arith, class.0, class.1, all))));
+}
 
 -- what holds of each item, by the number of the first and by place, holds with one more before them
 begun_before : {X : Type 0} (P : ℕ → X → Type 0) (xs : List X) (x : X) (n : ℕ) → ((k : ℕ) (d : X) → k < length xs → P (n + 1 + k) (get_or xs k d)) → P n x

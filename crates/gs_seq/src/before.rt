@@ -91,7 +91,8 @@ fn rows_by(alloc: Global, at: &StoppedRound<'_>) -> Result<Vec<Vec<Pair>>, Alloc
     stopped_rows(alloc, at, &deals)
 }
 
-/// Returns the rows of a round before the last from the signals of the game that stops after it, if it has the same classes of the round.
+/// Returns the rows of a round before the last, made from the game that stops after it. `stopped` has the signals of that game.
+/// Returns `None` if the class lists of the first rounds are not classes of that game.
 fn rows_over(
     alloc: Global,
     signals: &Signals,
@@ -119,7 +120,8 @@ fn rows_over(
     Ok(Some(rows_by(alloc, &at)?))
 }
 
-/// Returns the rows of a round before the last from the game that stops after it, unless the rounds up to it deal a player more than one own card.
+/// Returns the rows of a round before the last, made from the game that stops after it. Returns `None` if there is no such game, or if the class lists of the
+/// first rounds are not classes of it.
 fn rows_from(
     alloc: Global,
     signals: &Signals,
@@ -139,7 +141,7 @@ fn rows_from(
     rows_over(alloc, signals, classes, round, &stopped)
 }
 
-/// Returns the rows of a round before the last. Walks all deals if no game stops after the round.
+/// Returns the rows of a round before the last. Walks all deals if they cannot be made from a game that stops after the round.
 fn rows_at(
     alloc: Global,
     signals: &Signals,

@@ -9,6 +9,7 @@ use crate::numbers::{PlanAtEnd, plus, scaled};
 use crate::pair::Pair;
 use crate::pairs::Pairs;
 use crate::plan::Plan;
+use crate::weighing::{chips_times, stake_of};
 use gs_game::{End, EndKind};
 
 /// Returns what an end pays a player in the deals of a pair.
@@ -17,14 +18,12 @@ fn pays(player: u8, end: End, pair: Pair) -> i128
     requires moderate { unsigned_abs pair.signed ≤ 9 * pair.weight }
     ensures { result ≡ pair_pays player (end_of end) pair }
 {
-    let put = i128::from(end.put);
-    let folder = match end.kind {
-        EndKind::Folded1 => 1,
-        EndKind::Folded2 => 2,
-        EndKind::Show => return put * i128::from(pair.signed),
-    };
-    let stake = if player == folder { -put } else { put };
-    stake * i128::from(pair.weight)
+    let weight = i128::from(pair.weight);
+    match end.kind {
+        EndKind::Folded1 => chips_times(stake_of(player, 1, end.put), weight),
+        EndKind::Folded2 => chips_times(stake_of(player, 2, end.put), weight),
+        EndKind::Show => chips_times(i128::from(end.put), i128::from(pair.signed)),
+    }
 }
 
 /// Returns `number` times what an end pays a player in the deals of a pair.

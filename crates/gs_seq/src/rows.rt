@@ -198,8 +198,8 @@ fn rows_listed(alloc: Global, lossless: &Lossless) -> Result<Vec<Vec<Vec<Pair>>>
 {
     let signals = lossless.signals();
     let last = signals.rounds();
-    let mut rows = Vec::with_capacity(alloc, usize::from(last))?;
-    rows.push(rows_in(alloc, signals, lossless.classes(), last)?)?;
+    let of_last = rows_in(alloc, signals, lossless.classes(), last)?;
+    let mut rows = vec![in alloc; of_last]?;
     for round in (1..last).rev() {
         let above = rows_above(alloc, lossless, round, &rows[0])?;
         rows.insert(0, above)?;

@@ -58,7 +58,7 @@ fn signed_along(row: &[Pair], numbers: &[u64]) -> i128
 }
 
 /// Returns what a fold pays a player in chips: the player who folds loses what was put in, and the other wins it.
-fn stake_of(player: u8, folder: u8, put: u16) -> i128
+pub(crate) fn stake_of(player: u8, folder: u8, put: u16) -> i128
     ensures value { result ≡ stake player folder put }
     ensures small { unsigned_abs result ≤ 65535 }
 {
@@ -66,8 +66,8 @@ fn stake_of(player: u8, folder: u8, put: u16) -> i128
     if player == folder { -chips } else { chips }
 }
 
-/// Returns chips times a sum along a row.
-fn chips_times(chips: i128, sum: i128) -> i128
+/// Returns chips times a weight, or times a sum of weights.
+pub(crate) fn chips_times(chips: i128, sum: i128) -> i128
     requires chips { unsigned_abs chips ≤ 65535 }
     requires sum { unsigned_abs sum < 2 ^ 90 }
     ensures { result ≡ chips *ℤ sum }

@@ -2,7 +2,7 @@ use Rattle.std.proofs.Common.{◌+◌, ◌∙◌, Vec, sym, arith}
 use Rattle.std.specs.declared.alloc.Global.{Global}
 use Rattle.gs_tree.specs.Trees.{rules_of}
 use Rattle.gs_seq.specs.{Games.{frame_in}, Rows.{IsRow}, declared.pair.Pair.{Pair}}
-use Rattle.gs_seq.proofs.{CellLaws.{pushed_to}, SlotLaws.{over}}
+use Rattle.gs_seq.proofs.{CellLaws.{pushed_to, rows_made}, SlotLaws.{over}}
 use Rattle.gs_seq.proofs.before.stopped_rows.Goals as goal
 use Rattle.gs_model.proofs.Walked.{last_round_of}
 
@@ -29,4 +29,9 @@ pub row_by-requires-clause-signals : goal.row_by-requires-clause-signals
 row_by-requires-clause-signals c = c.requires.signals
 
 pub returns : goal.returns
-returns c = grind arith
+returns c =
+    let rows = c.loop-before.rows in
+    rows_made (frame_in c.args.at.now.signals.now.game.now) c.args.at.now.classes.now.lists c.args.at.now.round c.loop-before.before rows.items
+    (sym rows.ok.0 ∙ c.loop-before.invariant.long)
+    (omega (arith, c.loop-before-test.false, c.loop-before.auto, c.classes-count.ensures))
+    c.loop-before.invariant.row

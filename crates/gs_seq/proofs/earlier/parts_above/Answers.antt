@@ -1,14 +1,17 @@
-use Rattle.std.proofs.{Common.{◌≡◌, ◌+◌, ◌-◌, ◌∙◌, Vec, [], ap, arith, get_or, subst, sym}, lemmas.{Grind.{common_steps}, List.{get_or-map}}}
+use Rattle.std.proofs.Common.{◌≡◌, ◌+◌, ◌-◌, ◌∙◌, Vec, [], ap, arith, flat_map, get_or, map, subst, sym}
+use Rattle.std.proofs.lemmas.{Grind.{common_steps}, List.{get_or-map, take_all}}
 use Rattle.std.specs.{declared.alloc.Global.{Global}, Prelude.{All}}
 use Rattle.gs_model.specs.Classes.{IsClass}
-use Rattle.gs_seq.specs.{Rows.{row_at}, declared.pair.Pair.{Pair}}
+use Rattle.gs_seq.specs.{Rows.{part_up, row_at}, declared.pair.Pair.{Pair}}
 use Rattle.gs_seq.proofs.earlier.parts_above.Goals as goal
 
 pub loop-class-preserved : goal.loop-class-preserved
 loop-class-preserved c = grind (arith, common_steps)
 
 pub returns : goal.returns
-returns c = grind (arith, common_steps)
+returns c =
+    c.loop-class.invariant ∙ ap (λ ks. flat_map (λ k. map (part_up c.args.classes.now c.args.round) (row_at c.args.rows.now k)) ks)
+    (take_all c.loop-class.class-index c.args.below.now (omega (arith, c.loop-class-test.false)))
 
 pub overflow_sub-class : goal.overflow_sub-class
 overflow_sub-class c = grind arith

@@ -2,7 +2,7 @@ use Rattle.std.proofs.Common.{◌≡◌, ◌+◌, ◌-◌, ◌∙◌, ℕ, Vec, 
 use Rattle.gs_filter.specs.Filter.{Filter}
 use Rattle.gs_model.specs.Classes.{class_count}
 use Rattle.gs_seq.specs.{Games.{frame_in}, Rows.{IsRow, below_class}, declared.pair.Pair.{Pair}}
-use Rattle.gs_seq.proofs.CellLaws.{pushed_to}
+use Rattle.gs_seq.proofs.CellLaws.{pushed_to, rows_made}
 use Rattle.gs_seq.proofs.earlier.rows_above.Goals as goal
 
 pub row_above-requires-clause-below : goal.row_above-requires-clause-below
@@ -43,4 +43,9 @@ pub row_above-requires-clause-class : goal.row_above-requires-clause-class
 row_above-requires-clause-class c = grind arith
 
 pub returns : goal.returns
-returns c = grind arith
+returns c =
+    let rows = c.loop-before.above in
+    rows_made (frame_in c.args.lossless.now.signals.now.game.now) c.args.lossless.now.classes.now.lists c.args.round c.loop-before.before rows.items
+    (sym rows.ok.0 ∙ c.loop-before.invariant.long)
+    (omega (arith, c.loop-before-test.false, c.loop-before.auto, c.classes-count.ensures, ap (λ (x : Filter). class_count x.lists c.args.round) c.classes-classes.ensures.held))
+    c.loop-before.invariant.row

@@ -1,9 +1,13 @@
-use Rattle.std.proofs.{lemmas.Grind.{common_steps}, Common.{◌≡◌, ◌+◌, sum_by, ap, sym, ◌∙◌, subst, arith, ⊎_elim}, lemmas.Bool.{cases_eq}}
+use Rattle.std.proofs.{lemmas.Grind.{common_steps}, Common.{◌≡◌, ◌+◌, ◌<◌, ◌≤◌, ℕ, sum_by, ap, sym, ◌∙◌, subst, arith, ⊎_elim}, lemmas.Bool.{cases_eq}}
 use Rattle.gs_model.specs.{Classes.{class_count, first_member}, Frame.{choices_at, last_step, round_of}, Plans.{lift, number_before}, Positions.{at_point}}
 use Rattle.gs_seq.specs.{Faults.{FlowsAt}, Games.{frame_in}, Slots.{plan_of}, Sources.{MatchSource}}
 use Rattle.gs_seq.proofs.{Leaks.{RowAt, class_sum, row_at}, Points.{Reads, point_reads, round_in}, SlotLaws.{over, slots_own_before}}
 use Rattle.gs_seq.proofs.flows.first_leak_at.Goals.{After-len-moves, After-from, In-loop-before}
 use Rattle.gs_seq.proofs.flows.first_leak_at.Goals as goal
+
+-- what holds of the first classes holds of one more
+one_more : (P : ℕ → Type 0) (n : ℕ) → ((k : ℕ) → 0 < k → k ≤ n → P k) → P (n + 1) → (k : ℕ) → 0 < k → k ≤ n + 1 → P k
+one_more P n before here k some l = ⊎_elim (λ e. subst P (sym e) here) (λ other. before k some (omega (arith, l, other))) (cases_eq k (n + 1))
 
 -- what the point says
 reads : (c : After-len-moves) → Reads (frame_in c.args.game.now) c.args.point c.index-points-point.result
@@ -44,6 +48,11 @@ sums c =
           (first_member lists (round_of f (at_point q)) (c.loop-before.before + 1)))
           c.requires.own;
     }
+
+-- where the two are equal, the class has no leak
+flows : (c : After-from) → c.total_from.result ≡ c.from.result → FlowsAt (frame_in c.args.game.now) c.args.classes.now.lists c.args.player
+    (plan_of (frame_in c.args.game.now) c.args.classes.now.lists c.args.total c.args.weights.now) c.args.point (c.loop-before.before + 1)
+flows c e = sym (sums c).sum ∙ e ∙ (sums c).came
 
 pub classes-before-end-requires-clause-some : goal.classes-before-end-requires-clause-some
 classes-before-end-requires-clause-some c =
@@ -95,12 +104,8 @@ pub loop-before-preserved : goal.loop-before-preserved
 loop-before-preserved c =
     let f = frame_in c.args.game.now in
     let lists = c.args.classes.now.lists in
-    let s = sums (goal.at.loop-before-preserved c).After-from in
-    λ k some l. ⊎_elim
-    (λ here. subst (FlowsAt f lists c.args.player (plan_of f lists c.args.total c.args.weights.now) c.args.point) (sym here)
-    (sym s.sum ∙ c.if-total_from-from.false ∙ s.came))
-    (λ other. c.loop-before.invariant k some (omega (arith, l, other)))
-    (cases_eq k (c.loop-before.before + 1))
+    one_more (FlowsAt f lists c.args.player (plan_of f lists c.args.total c.args.weights.now) c.args.point) c.loop-before.before c.loop-before.invariant
+    (flows (goal.at.loop-before-preserved c).After-from c.if-total_from-from.false)
 
 pub returns : goal.returns
 returns c =

@@ -1,6 +1,7 @@
-use Rattle.std.proofs.{Common.{arith, ◌≡◌, ap, ◌∙◌, refl, subst}, lemmas.Grind.{common_steps}, lemmas.Result.{IfOk-weaker}}
+use Rattle.std.proofs.{Common.{arith, ◌≡◌, ap, ◌∙◌, refl, subst, sym}, lemmas.Result.{IfOk-weaker}}
 use Rattle.std.specs.Prelude.{MatchOption, Option, Some}
 use Rattle.gs_boards.specs.declared.board_order.BoardOrder.{BoardOrder}
+use Rattle.gs_filter.specs.Filter.{Filter}
 use Rattle.gs_model.specs.Frame.{last_round}
 use Rattle.gs_tree.specs.{Plain.{IsPlain}, Trees.{rules_of}, Walk.{last_count}, declared.signals.Signals.{Signals}}
 use Rattle.gs_seq.specs.{Games.{frame_in}, Rows.{IsSingleIn}, Singles.{HasSumsOf}}
@@ -34,7 +35,9 @@ returns-then-are_made-clause-single c =
     (λ o h b is. single) c.of.ensures
 
 pub are_made-requires : goal.are_made-requires
-are_made-requires c = grind (arith, common_steps)
+are_made-requires c =
+    ap (λ (x : Filter). x.parents) c.classes.ensures.held ∙ c.args.lossless.now.parents
+    ∙ ap (λ (x : Signals). (frame_in x.game.now).parents) (sym c.signals-signals.ensures.held)
 
 pub returns-else-are_made-clause-single : goal.returns-else-are_made-clause-single
 returns-else-are_made-clause-single c = grind arith

@@ -1,7 +1,7 @@
 use Rattle.std.proofs.Common.{◌+◌, ◌∙◌, Vec, sym, arith}
 use Rattle.std.specs.declared.alloc.Global.{Global}
 use Rattle.gs_seq.specs.{Games.{frame_in}, Rows.{IsRow}, declared.pair.Pair.{Pair}}
-use Rattle.gs_seq.proofs.CellLaws.{pushed_to}
+use Rattle.gs_seq.proofs.CellLaws.{pushed_to, rows_made}
 use Rattle.gs_seq.proofs.rows.class_rows.Goals as goal
 
 pub class_row-requires-clause-class : goal.class_row-requires-clause-class
@@ -22,4 +22,9 @@ pub class_row-requires-clause-lossless : goal.class_row-requires-clause-lossless
 class_row-requires-clause-lossless c = grind arith
 
 pub returns : goal.returns
-returns c = grind arith
+returns c =
+    let rows = c.loop-before.rows in
+    rows_made (frame_in c.args.deals.now.signals.now.game.now) c.args.deals.now.classes.now.lists c.args.deals.now.round c.loop-before.before rows.items
+    (sym rows.ok.0 ∙ c.loop-before.invariant.long)
+    (omega (arith, c.loop-before-test.false, c.loop-before.auto, c.classes-count.ensures))
+    c.loop-before.invariant.row

@@ -1,4 +1,5 @@
-use Rattle.std.proofs.{Common.{◌≡◌, ◌+◌, ◌-◌, ◌++◌, ◌∷◌, [], ℕ, List, Vec, Global, ap, get_or, length, sym, ◌∙◌, subst, arith}, lemmas.Grind.{common_steps}}
+use Rattle.std.proofs.Common.{◌≡◌, ◌+◌, ◌-◌, ◌∷◌, [], ℕ, List, Vec, Global, ap, get_or, length, sym, ◌∙◌, subst, arith}
+use Rattle.gs_filter.specs.Filter.{Filter}
 use Rattle.gs_model.specs.{Frame.{last_round}, Lossless.{IsLossless}}
 use Rattle.gs_model.proofs.Walked.{last_round_of}
 use Rattle.gs_tree.specs.{Trees.{rules_of}, declared.signals.Signals.{Signals}}
@@ -16,19 +17,19 @@ rows_in-requires-clause-top c = omega (arith, c.rounds-last.ensures.value, last_
 pub loop-round-init : goal.loop-round-init
 loop-round-init c =
     let s = c.args.lossless.now in
-    let first = c.in_ok-rows_in.field-0 in
+    let first = c.in_ok-of_last.of_last in
     let round : ℕ = c.rounds-last.result in
     let last : round ≡ last_round (frame_in s.signals.now.game.now) =
     c.rounds-last.ensures.value ∙ sym (last_round_of (rules_of c.signals-signals.result.now))
     ∙ ap (λ (x : Signals). last_round (frame_in x.game.now)) c.signals-signals.ensures.held in
-    let items : c.push.new.self.items ≡ first ∷ [] = c.in_ok-push.ensures.items ∙ ap (λ xs. xs ++ first ∷ []) c.in_ok-rows.ensures.items in
+    let items : c.in_ok-rows.rows.items ≡ first ∷ [] = c.in_ok-rows.ensures.items in
     let here = held_by s c.signals-signals.result.now c.classes.result.now (λ f lists. AreRowsIn f lists round first.items) c.signals-signals.ensures.held
-    c.classes.ensures.held c.in_ok-rows_in.ensures in
+    c.classes.ensures.held c.in_ok-of_last.ensures in
     record {
       some = c.rounds-last.ensures.some;
       within = omega (arith, last);
       long = omega (arith, ap (λ (xs : List (Vec (Vec Pair Global) Global)). length xs) items, last);
-      each = put_before (λ j (v : Vec (Vec Pair Global) Global). AreRowsOf s j v.items) [] c.push.new.self.items first round items
+      each = put_before (λ j (v : Vec (Vec Pair Global) Global). AreRowsOf s j v.items) [] c.in_ok-rows.rows.items first round items
           (λ k d l. absurd (omega arith)) here;
     }
 
@@ -85,7 +86,9 @@ returns-clause-rows c =
     }
 
 pub rows_in-requires-clause-parents : goal.rows_in-requires-clause-parents
-rows_in-requires-clause-parents c = grind (arith, common_steps)
+rows_in-requires-clause-parents c =
+    ap (λ (x : Filter). x.parents) c.classes.ensures.held ∙ c.args.lossless.now.parents
+    ∙ ap (λ (x : Signals). (frame_in x.game.now).parents) (sym c.signals-signals.ensures.held)
 
 pub rows_above-requires-clause-some : goal.rows_above-requires-clause-some
 rows_above-requires-clause-some c = grind arith

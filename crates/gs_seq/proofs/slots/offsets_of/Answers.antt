@@ -1,4 +1,5 @@
-use Rattle.std.proofs.{Common.{◌≡◌, ◌+◌, ◌<◌, ap, sym, ◌∙◌, ⊎_elim, arith, below_more}, lemmas.Grind.{common_steps}}
+use Rattle.std.proofs.Common.{◌≡◌, ◌+◌, ◌<◌, ◌∷◌, [], ℕ, List, ap, get_or, length, sym, ◌∙◌, ⊎_elim, arith, below_more}
+use Rattle.std.proofs.lemmas.{Grind.{common_steps}, List.{get_or_append_left, get_or_push}}
 use Rattle.gs_game.specs.declared.positions.Point.{Point}
 use Rattle.gs_model.specs.Frame.{player_at, point_count}
 use Rattle.gs_seq.specs.{Games.{frame_in}, Slots.{slots_before}}
@@ -79,11 +80,18 @@ loop-point-preserved c =
           (λ two. w.push-is ∙ c.loop-point.invariant.two_is ∙ ap (λ p. slots_before f lists p q) (sym two))
           (players c.args.game.now q in_range)
     ] in
+    let offsets = c.loop-point.offsets.items in
+    let here = c.if-player-eq1.push in
+    let long : length offsets ≡ q = sym c.loop-point.offsets.ok.0 ∙ c.loop-point.invariant.long in
+    let put = c.in_ok-push.ensures.items in
     record {
-      long = grind (arith, common_steps);
+      long = omega (arith, c.in_ok-push.ensures.len, c.loop-point.invariant.long);
       one_is = omega (arith, c.slots_at.ensures, c.loop-point.invariant.one_is, slots_more f lists 1 q);
       two_is = omega (arith, c.slots_at-in-loop-point.ensures, c.loop-point.invariant.two_is, slots_more f lists 2 q);
-      first = below_more _ _ (λ k l. grind (arith, common_steps, c.loop-point.invariant.first k l)) (grind (arith, common_steps, chosen));
+      first = below_more _ _
+          (λ k l. ap (λ (os : List ℕ). get_or os k 0) put ∙ get_or_append_left offsets (here ∷ []) 0 k (omega (arith, l, long))
+          ∙ c.loop-point.invariant.first k l)
+          (ap (λ (os : List ℕ). get_or os q 0) put ∙ get_or_push offsets here 0 q long ∙ chosen);
     }
 
 pub bounds-points-point-in-loop-point : goal.bounds-points-point-in-loop-point

@@ -1,5 +1,31 @@
-use Rattle.std.proofs.Common.{arith}
+use Rattle.std.proofs.Common.{rules, ◌≡◌, ◌<◌, ◌+◌, ◌∙◌, arith, below_more, length, of_z, pos, to_z}
+use Rattle.std.proofs.lemmas.List.{get_or-set_other, get_or-set_same}
+use Rattle.std.specs.Int.{w128}
+use Rattle.gs_seq.specs.{Abstracts.{abstract_frame, lists_of}, Payoffs.{number_sum}}
+use Rattle.gs_seq.proofs.Signed.{read_back}
 use Rattle.gs_seq.proofs.form.Abstract.pay_all.Goals as goal
+
+pub loop-before-preserved : goal.loop-before-preserved
+loop-before-preserved c =
+    let f = abstract_frame c.args.self.now in
+    let lists = lists_of c.args.self.now in
+    let sums = c.loop-before.sums in
+    let n = c.loop-before.before in
+    let put = to_z w128 (of_z w128 c.paid.result) in
+    let paid : put ≡ number_sum f lists c.args.player c.args.numbers.now c.args.end (n + 1) = read_back c.paid.result _ (search rules) c.paid.ensures in
+    let within : n < length sums = omega (
+      arith,
+      c.loop-before-test.true,
+      c.end_class_total-before-end.ensures,
+      c.requires.room,
+      c.loop-before.auto.sums,
+    ) in
+    record {
+      here = below_more _ _
+          (λ k l. get_or-set_other sums n k put (pos 0) (omega (arith, l)) ∙ c.loop-before.invariant.here k l)
+          (get_or-set_same sums n put (pos 0) within ∙ paid);
+      behind = λ i l. get_or-set_other sums n i put (pos 0) (omega (arith, l)) ∙ c.loop-before.invariant.behind i (omega (arith, l));
+    }
 
 pub returns-clause-behind : goal.returns-clause-behind
 returns-clause-behind c = grind arith

@@ -1,5 +1,5 @@
-use Rattle.std.proofs.{Common.{◌≡◌, ◌+◌, ◌-◌, ◌<◌, ◌++◌, List, ℤ, length, take, get_or, pos, ap, ◌∙◌, arith}, lemmas.Grind.{common_steps}}
-use Rattle.std.proofs.lemmas.List.{get_or_append_left, get_or-append_right, length-take-le}
+use Rattle.std.proofs.Common.{◌≡◌, ◌+◌, ◌-◌, ◌<◌, ◌≤◌, ◌++◌, List, ℤ, length, take, get_or, pos, ap, ◌∙◌, arith}
+use Rattle.std.proofs.lemmas.List.{get_or_append_left, get_or-append_right, get_or-drop, length-take-le}
 use Rattle.std.specs.Prelude.{◌*ℤ◌}
 use borrow.Rule.Slice.PartMut.{mid_len, post_of}
 use Rattle.gs_boards.specs.Boards.{paid}
@@ -55,4 +55,16 @@ returns-clause-here c = λ k class. (
     (w.walked c.args.player c.requires.some c.requires.two) c.requires.end c.requires.last w.in_range w.classes same k class.0)
 
 pub returns-clause-behind : goal.returns-clause-behind
-returns-clause-behind c = grind (arith, common_steps)
+returns-clause-behind c = λ i l. (
+    let sums = c.args.sums.now in
+    let new : List ℤ = c.deal_sums.new.sums in
+    let stop = c.end_class_total-stop.result in
+    let after = post_of 0 (stop - 0) sums in
+    let here = mid_len 0 stop sums (omega (arith, c.end_class_total-stop.ensures, c.requires.room)) in
+    let long : length new ≡ stop = omega (arith, c.deal_sums.auto.sums, here) in
+    let over : stop ≤ i = omega (arith, l, c.end_class_total-stop.ensures) in
+    let back : i - 0 ≡ i = omega arith in
+    let at : stop - 0 + (i - stop) ≡ i = omega (arith, over) in
+    get_or-append_right (take 0 sums) (new ++ after) 0 i (pos 0) (length-take-le 0 sums (omega arith)) (omega arith)
+    ∙ ap (λ j. get_or (new ++ after) j (pos 0)) back ∙ get_or-append_right new after stop i (pos 0) long over
+    ∙ get_or-drop (stop - 0) sums (i - stop) (pos 0) ∙ ap (λ j. get_or sums j (pos 0)) at)
