@@ -66,7 +66,9 @@ returns-clause-firsts c =
     subst (AreFirstBefore f c.args.classes.now.lists c.args.player c.loop-point.weights.items) all c.loop-point.invariant.firsts
 
 pub put_first-requires-clause-firsts : goal.put_first-requires-clause-firsts
-put_first-requires-clause-firsts c = grind arith
+put_first-requires-clause-firsts c =
+    subst (λ xs. AreFirstBefore (frame_in c.args.game.now) c.args.classes.now.lists c.args.player xs c.loop-point.point) (sym c.deref_mut.ensures.value)
+    c.loop-point.invariant.firsts
 
 pub loop-point-init : goal.loop-point-init
 loop-point-init c = grind (arith, common_steps)
@@ -78,10 +80,13 @@ pub bounds-points-point : goal.bounds-points-point
 bounds-points-point c = grind (arith, common_steps)
 
 pub put_first-requires-clause-clear : goal.put_first-requires-clause-clear
-put_first-requires-clause-clear c = grind arith
+put_first-requires-clause-clear c =
+    subst (IsClear (slots_before (frame_in c.args.game.now) c.args.classes.now.lists c.args.player c.loop-point.point)) (sym c.deref_mut.ensures.value)
+    c.loop-point.invariant.clear
 
 pub put_first-requires-clause-offsets : goal.put_first-requires-clause-offsets
-put_first-requires-clause-offsets c = grind arith
+put_first-requires-clause-offsets c = c.requires.offsets
 
 pub put_first-requires-clause-in_range : goal.put_first-requires-clause-in_range
-put_first-requires-clause-in_range c = grind arith
+put_first-requires-clause-in_range c =
+    subst (λ n. c.loop-point.point < n) c.point_total-point-end.ensures c.loop-point-test.true

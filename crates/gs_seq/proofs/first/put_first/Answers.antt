@@ -1,5 +1,5 @@
 use Rattle.gs_seq.proofs.{Points.{length-points}, Choices.{some_move}, Firsts.{first_came, first_kept, first_put, first_room, slots_own}, Leaks.{RowAt, row_at}}
-use Rattle.std.proofs.Common.{◌≡◌, ◌+◌, ◌-◌, ◌*◌, ◌<◌, ◌≤◌, ◌^◌, length, get_or, set, ap, sym, ◌∙◌, subst, arith, ⊎_elim, get_or-set_other}
+use Rattle.std.proofs.Common.{◌≡◌, ◌+◌, ◌-◌, ◌*◌, ◌<◌, ◌≤◌, ◌^◌, ℕ, length, get_or, set, ap, sym, ◌∙◌, subst, arith, ⊎_elim, get_or-set_other}
 use Rattle.std.proofs.{Math.Nat.{mul-le-mul_right}, lemmas.Bool.{cases_eq}}
 use Rattle.gs_game.specs.Games.{game_of}
 use Rattle.gs_model.specs.{Classes.{IsClass, class_count, first_member}, Frame.{last_step, move_count, round_of}}
@@ -89,6 +89,19 @@ offset_bounds-weights-first c = omega (arith, inside (goal.at.offset_bounds-weig
 pub bounds-weights-first : goal.bounds-weights-first
 bounds-weights-first c = omega (arith, inside (goal.at.bounds-weights-first c).In-loop-before)
 
+again : (n : ℕ) → n ≡ n + 1 - 1
+again n = omega arith
+
+unlike : (k n : ℕ) → k < n → k ≡ n → ⊥
+unlike k n l same = omega (arith, l, same)
+
+-- a slot before a row is not in it
+before_slot : (k slot start n : ℕ) → k < start → slot ≡ start + n → k ≡ slot → ⊥
+before_slot k slot start n l e same = omega (arith, l, e, same)
+
+under : (k n : ℕ) → k ≤ n + 1 → (k ≡ n + 1 → ⊥) → k ≤ n
+under k n l other = omega (arith, l, other)
+
 pub loop-before-preserved : goal.loop-before-preserved
 loop-before-preserved c =
     let at = (goal.at.loop-before-preserved c).In-loop-before in
@@ -104,25 +117,26 @@ loop-before-preserved c =
     let weights = c.loop-before.weights in
     let came = c.first_came.result in
     let slot = get_or c.args.offsets.now q 0 + before * c.len-moves.result in
-    let place : slot ≡ slots_before f lists p q + before * move_count f q = omega (arith, r.starts, ap (λ n. before * n) r.many) in
-    let one : before + 1 - 1 ≡ before = omega arith in
-    let slot_is : slot ≡ slots_before f lists p q + (before + 1 - 1) * move_count f q = omega (arith, place, ap (λ k. k * move_count f q) one) in
+    let start = slots_before f lists p q in
+    let place : slot ≡ start + before * move_count f q =
+    ap (λ n. n + before * c.len-moves.result) r.starts ∙ ap (λ n. start + before * n) r.many in
+    let slot_is : slot ≡ start + (before + 1 - 1) * move_count f q = place ∙ ap (λ k. start + k * move_count f q) (again before) in
     let ranged = in_range (game_of g.game) (playable g) in
     let classes = over f c.args.classes.now c.requires.parents in
     let is : came ≡ number_before f (lift f lists (plan_of f lists 1 weights)) (last_step f p (at_point q)) (round_of f (at_point q))
     (first_member lists (round_of f (at_point q)) (before + 1)) =
     first_came f ranged lists classes p w q c.requires.in_range c.requires.own (before + 1) (class at) c.args.weights.now weights c.requires.firsts
     c.loop-before.invariant.kept c.point_source-source.result (source at) came c.first_came.ensures in
-    let clear : IsClear slot weights = λ k lk. c.loop-before.invariant.clear k (omega (arith, place, lk)) in
-    let same : AgreeBefore slot weights (set weights slot came) = λ j lj. get_or-set_other weights slot j came 0 (omega (arith, lj)) in
+    let clear : IsClear slot weights = λ k lk. c.loop-before.invariant.clear k (subst (λ n. n ≤ k) place lk) in
+    let same : AgreeBefore slot weights (set weights slot came) = λ j lj. get_or-set_other weights slot j came 0 (unlike j slot lj) in
     record {
-      kept = λ k lk. get_or-set_other weights slot k came 0 (omega (arith, lk, place)) ∙ c.loop-before.invariant.kept k lk;
+      kept = λ k lk. get_or-set_other weights slot k came 0 (before_slot k slot start (before * move_count f q) lk place) ∙ c.loop-before.invariant.kept k lk;
       here = λ k lo hi. ⊎_elim
           (λ e. subst (λ n. IsFirstAt f lists p (set weights slot came) q n) (sym e)
-          (first_put f ranged lists classes p w q c.requires.in_range c.requires.own (before + 1) (omega arith, omega (arith, r.below)) weights slot came
+          (first_put f ranged lists classes p w q c.requires.in_range c.requires.own (before + 1) (class at) weights slot came
           slot_is (inside at).0 is clear))
           (λ other.
-          let less : k ≤ before = omega arith in
+          let less : k ≤ before = under k before hi other in
           first_kept f ranged lists classes p w q c.requires.in_range c.requires.own k (lo, omega (arith, r.below, less)) slot weights
           (set weights slot came) some
           (omega (arith, place, mul-le-mul_right (move_count f q) less)) same (c.loop-before.invariant.here k lo less))

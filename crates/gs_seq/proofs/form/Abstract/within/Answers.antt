@@ -1,4 +1,4 @@
-use Rattle.std.proofs.{Common.{◌≡◌, List, Vec, ap, refl, sym, true, ◌∙◌, subst, arith, ⊎_elim}, lemmas.Result.{err_from_is_err_and}}
+use Rattle.std.proofs.{Common.{◌≡◌, ◌≤◌, ℕ, List, Vec, ap, refl, sym, true, ◌∙◌, subst, arith, ⊎_elim}, lemmas.Result.{err_from_is_err_and}}
 use Rattle.std.specs.{declared.alloc.Global.{Global}, Prelude.{All, IfErr, None, Option, Some, is_some}}
 use Rattle.gs_filter.specs.Filter.{Filter}
 use Rattle.gs_game.specs.declared.valid.ValidGame.{ValidGame}
@@ -14,6 +14,9 @@ too_long : (most : Limits) (f : Frame) (lists : ClassLists) (e : SeqStop) → Is
 too_long most f lists (TooManySequences player count) h = h
 too_long most f lists (TooManyCells count) h = ⊎_elim (λ one. absurd one) (λ two. absurd two.1) h
 too_long most f lists Memory h = tt
+
+fewer : (n most top : ℕ) → n ≤ most → most ≤ top → n ≤ top
+fewer n most top l m = omega (arith, l, m)
 
 -- what holds of the game and classes as they are called here holds of those that came in
 moved : (c : After-game-game) (P : Frame → ClassLists → Type 0) → P (frame_in c.game-game.result.now) c.classes-classes.result.now.lists
@@ -76,7 +79,7 @@ invariant_of-result c =
     let at = (goal.at.invariant_of-result c).After-game-game in
     let sequences = few (goal.at.invariant_of-result c).In_ok-count in
     record {
-      few = record { one = omega (arith, sequences.one, c.requires); two = omega (arith, sequences.two, c.requires) };
+      few = record { one = fewer _ _ _ sequences.one c.requires; two = fewer _ _ _ sequences.two c.requires };
       placed = moved at (λ f lists. AreOffsets f lists c.in_ok-offsets.offsets.items) c.in_ok-offsets.ensures;
       ones = moved at (λ f lists. c.in_ok-one.one ≡ slot_count f lists 1) c.in_ok-one.ensures.one;
       twos = moved at (λ f lists. c.in_ok-one.two ≡ slot_count f lists 2) c.in_ok-one.ensures.two;
