@@ -1,5 +1,5 @@
 -- A reduced fraction by what it is crosswise.
-use Rattle.std.proofs.Common.{◌≡◌, ℕ, ◌-◌, ◌*◌, ◌<◌, ℤ, pos, negsuc, ◌*ℤ◌, ltb, eqb, cond, sum_by, ◌&&◌, arith, refl, sym, ap, subst, ◌∙◌}
+use Rattle.std.proofs.Common.{◌≡◌, ℕ, ◌*◌, ◌<◌, ℤ, pos, negsuc, ◌*ℤ◌, ltb, eqb, cond, sum_by, ◌&&◌, arith, refl, sym, ap, subst, ◌∙◌}
 use Rattle.std.proofs.{Math.Nat.{dvd-mul_left, eq-one_of_dvd-one}, lemmas.Nat.Gcd.{dvd_refl}, lemmas.Bool.{and_parts, ltb-true, eqb-true, false≢true}}
 use Rattle.std.specs.{Prelude.{IsTrue}, Int.{IsGcd, ◌∣◌}, Int.RustNames.{unsigned_abs}}
 use Rattle.gs_frac.specs.{Gcd.{gcd_of}, Texts.{limit, is_fraction}, declared.value.Fraction.{Fraction}}

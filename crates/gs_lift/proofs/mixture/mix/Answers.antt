@@ -1,7 +1,9 @@
-use Rattle.std.proofs.{Common.{◌<◌, List, ap, sym, subst, ◌∙◌, arith, map}, lemmas.Grind.{common_steps}}
+use Rattle.std.proofs.Common.{◌<◌, List, ap, sym, subst, ◌∙◌, arith, map}
 use Rattle.std.specs.List.{AllByRecursion}
-use Rattle.gs_game.specs.declared.positions.Arrow.{Arrow}
-use Rattle.gs_seq.specs.{Abstracts.{abstract_frame, lists_of}, Plans.{lifted}}
+use Rattle.gs_game.specs.declared.{positions.Arrow.{Arrow}, valid.ValidGame.{ValidGame}}
+use Rattle.gs_model.specs.Frame.{point_count}
+use Rattle.gs_seq.specs.{Abstracts.{abstract_frame, lists_of}, Games.{frame_in}, Plans.{lifted}}
+use Rattle.gs_seq.proofs.Points.{length-points}
 use Rattle.gs_lift.proofs.{Mixed.{mixed_all, mixed_long, mixed_more, mixed_none}, Moves.{moves_at, small_at}}
 use Rattle.gs_lift.proofs.mixture.mix.Goals as goal
 
@@ -58,7 +60,12 @@ returns c =
     c.loop-choice.out c.loop-choice-test.false (read ∙ r.letters) c.loop-choice.invariant
 
 pub bounds-points-spot : goal.bounds-points-spot
-bounds-points-spot c = grind (arith, common_steps)
+bounds-points-spot c = omega (
+  arith,
+  c.requires.point,
+  length-points c.game.result.now c.points.result.now c.points.ensures,
+  ap (λ (g : ValidGame). point_count (frame_in g)) c.game.ensures,
+)
 
 pub share-requires-clause-plan : goal.share-requires-clause-plan
 share-requires-clause-plan c = grind arith

@@ -1,6 +1,6 @@
-use Rattle.std.proofs.{Common.{arith}, lemmas.Grind.{common_steps}}
-use Rattle.std.proofs.{Common.{◌≡◌, get_or, sym, ◌∙◌, subst, MatchResult}, lemmas.Bool.{false≢true}, lemmas.Result.{err_from_is_err_and}}
+use Rattle.std.proofs.{Common.{◌≡◌, arith, get_or, sym, ◌∙◌, subst, MatchResult}, lemmas.Bool.{false≢true}, lemmas.Result.{err_from_is_err_and}}
 use Rattle.gs_tree.specs.declared.signals.Signals.{Signals}
+use Rattle.gs_seq.proofs.Points.{length-points}
 use Rattle.gs_lift.specs.{Queries.{IsFaultOf, IsQuerySpot, IsTextOfSignal, signals_of}, declared.fault.QueryFault.TheVariants.{Round, Signal}}
 use Rattle.gs_lift.proofs.{Held.{signals_held}, Spots.{PointAt, line_fault, names_found, names_none, point_at}}
 use Rattle.gs_lift.proofs.query.locate.Goals.{After-index-points-point, After-signals-signals}
@@ -67,7 +67,15 @@ returns-else-is_signal c =
     (c.in_ok-point.point, (found at.After-index-points-point).own, λ h. false≢true (sym c.if-is_signal.false ∙ c.is_signal.ensures.1 h))
 
 pub bounds-points-point-in_ok-point : goal.bounds-points-point-in_ok-point
-bounds-points-point-in_ok-point c = grind (arith, common_steps)
+bounds-points-point-in_ok-point c = omega (
+  arith,
+  c.in_ok-point.ensures.in_range,
+  length-points c.game-game.result.now c.points.result.now c.points.ensures,
+)
 
 pub bounds-points-point : goal.bounds-points-point
-bounds-points-point c = grind (arith, common_steps)
+bounds-points-point c = omega (
+  arith,
+  c.in_ok-point.ensures.in_range,
+  length-points c.game-game.result.now c.points.result.now c.points.ensures,
+)
