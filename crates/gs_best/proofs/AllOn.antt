@@ -45,6 +45,59 @@ module _ (f : Frame) (r : InRange f) (lists : ClassLists) (k : IsClasses f.paren
       ∙ sym (ap (λ b. cond b (came_by (set xs slot came)) 0) (not_eq m (move q c) other)))
       (cases_eq m (move q c))
 
+-- weights once the classes of a point up to the `n`th are written; `old` are those before
+pub record ArePutTo (f : Frame) (lists : ClassLists) (player : ℕ) (move : ℕ → ℕ → ℕ) (q n : ℕ) (old new : List ℕ) : Type 0 where
+  pub kept : AgreeBefore (slots_before f lists player q) old new
+  pub here : (c : ℕ) → 0 < c → c ≤ n → IsPutAt f lists player move new q c
+  pub clear : IsClear (slots_before f lists player q + n * move_count f q) new
+
+-- one more class of the point
+module _ (f : Frame) (r : InRange f) (lists : ClassLists) (k : IsClasses f.parents lists) (player : ℕ) (w : IsWalked f player) (move : ℕ → ℕ
+    → ℕ) (q : ℕ) (l : q < point_count f) (own : player_at f q ≡ player) (n : ℕ)
+    (h : IsClass lists (round_of f (at_point q)) (n + 1)) (in_moves : move q (n + 1) < move_count f q) (old xs : List ℕ) (slot came : ℕ)
+    (at : slot ≡ slot_of f lists q (n + 1) (move q (n + 1))) where
+  there : slot ≡ slots_before f lists player q + (n * move_count f q + move q (n + 1))
+  there =
+      let one : n + 1 - 1 ≡ n = omega arith in
+      omega (arith, at, ap (λ p. slots_before f lists p q) own, ap (λ i. i * move_count f q) one)
+
+  next_row : (n + 1) * move_count f q ≡ n * move_count f q + move_count f q
+  next_row = omega arith
+
+  pub slot_inside : length xs ≡ slot_count f lists player → slot < length xs
+  slot_inside long = omega (
+    arith,
+    there,
+    in_moves,
+    next_row,
+    slots_own f lists player q own,
+    slots_le f lists player (q + 1) (point_count f) (omega (arith, l)),
+    mul-le-mul_right (move_count f q) h.1,
+    long,
+  )
+
+  pub put_next : length xs ≡ slot_count f lists player
+      → came ≡ number_before f (lift f lists (plan_of f lists 1 xs)) (last_step f player (at_point q)) (round_of f (at_point q))
+      (first_member lists (round_of f (at_point q)) (n + 1))
+      → AgreeBefore (slots_before f lists player q) old xs → ((c : ℕ) → 0 < c → c ≤ n → IsPutAt f lists player move xs q c)
+      → IsClear (slots_before f lists player q + n * move_count f q) xs → ArePutTo f lists player move q (n + 1) old (set xs slot came)
+  put_next long is kept here clear =
+      let one : (n + 1 - 1) * move_count f q ≡ n * move_count f q = ap (λ i. i * move_count f q) (let e : n + 1 - 1 ≡ n = omega arith in e) in
+      record {
+        kept = λ i li. get_or-set_other xs slot i came 0 (omega (arith, li, there)) ∙ kept i li;
+        here = λ c lo hi. ⊎_elim
+            (λ (e : c ≡ n + 1). subst (λ i. IsPutAt f lists player move (set xs slot came) q i) (sym e)
+            (put_here f r lists k player w move q l own (n + 1) h xs slot came at in_moves (slot_inside long) is (λ i li. clear i (omega (arith, li, one)))))
+            (λ (other : c ≡ n + 1 → ⊥).
+            let less : c ≤ n = omega (arith, hi, other) in
+            put_kept f r lists k player w move q l own c (lo, omega (arith, h.1, less)) slot xs (set xs slot came)
+            (omega (arith, there, mul-le-mul_right (move_count f q) less)) (λ j lj. get_or-set_other xs slot j came 0 (omega (arith, lj))) (here c lo less))
+            (cases_eq c (n + 1));
+        clear = λ i li.
+            (let after : slot < i = omega (arith, there, in_moves, next_row, li) in
+            get_or-set_other xs slot i came 0 (omega (arith, after)) ∙ clear i (omega (arith, next_row, li)));
+      }
+
 -- one more point of the player
 pub puts_more : (f : Frame) (r : InRange f) (lists : ClassLists) (k : IsClasses f.parents lists) (player : ℕ) (w : IsWalked f player) (move : ℕ → ℕ
     → ℕ) (q : ℕ) (xs ys : List ℕ)

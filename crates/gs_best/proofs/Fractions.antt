@@ -1,6 +1,6 @@
 -- The lower part of a fraction.
-use Rattle.std.proofs.{Common.{◌≡◌, ℕ, ◌<◌, ◌&&◌, ◌*◌, sym, ap, ◌∙◌, arith}, lemmas.Bool.{and_parts, false≢true}, lemmas.Int.{ints}}
-use Rattle.std.specs.Prelude.{ℤ, pos, ◌+ℤ◌, ◌*ℤ◌, negsuc, unsigned_abs, IsTrue, nat_lt}
+use Rattle.std.proofs.{Common.{◌≡◌, ℕ, ◌+◌, ◌<◌, ◌≤◌, ◌&&◌, ◌*◌, sym, ap, ◌∙◌, arith}, lemmas.Bool.{and_parts, false≢true}, lemmas.Int.{ints}}
+use Rattle.std.specs.Prelude.{ℤ, pos, ◌+ℤ◌, ◌-ℤ◌, ◌*ℤ◌, negsuc, unsigned_abs, IsTrue, nat_lt}
 use borrow.Author.Differences.{abs_is, product_is}
 use borrow.Author.Tests.{ltb-true}
 use Rattle.gs_frac.specs.{declared.value.Fraction.{Fraction}, Texts.{is_fraction, limit}}
@@ -24,6 +24,9 @@ over_scale m n scale z e is = e ∙ ap (λ x. pos m *ℤ x) is ∙ omega (arith,
 
 pub turned_sum : (a x p a' p' : ℤ) → a ≡ x → a' ≡ a → p' ≡ p → a' +ℤ p' ≡ x +ℤ p
 turned_sum a x p a' p' e f g = omega (arith, ints)
+
+pub abs_difference : (x y : ℤ) → unsigned_abs (x -ℤ y) ≤ unsigned_abs x + unsigned_abs y
+abs_difference x y = omega (arith, ints, abs_is x, abs_is y, abs_is (x -ℤ y))
 
 -- the same number over the same scale
 pub over_turn : (num den num' den' : ℤ) (x : Fraction) → IsOver num den x → num ≡ num' → den ≡ den' → IsOver num' den' x

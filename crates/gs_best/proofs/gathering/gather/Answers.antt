@@ -20,3 +20,6 @@ returns c =
     let F = gathered_below (abstract_frame a) (lists_of a) c.args.row.round c.args.from (row_from c.args.row.values.now c.args.row.start) in
     λ e le. by_class F c.loop-class.sums c.loop-class.class (pos 0) c.loop-class.invariant e le.0
     (omega (arith, le.1, c.class_total-class-end.ensures.value, c.loop-class-test.false))
+
+pub sum_below-requires-clause-row : goal.sum_below-requires-clause-row
+sum_below-requires-clause-row c = c.requires.row

@@ -1,5 +1,6 @@
-use Rattle.std.proofs.Common.{ℕ, List, length, ap, arith}
+use Rattle.std.proofs.{Common.{ℕ, List, length, ap, ◌∙◌, arith}, lemmas.Int.{to_z-of_z}}
 use Rattle.std.specs.Prelude.{ℤ}
+use mir.Syntax.{w128}
 use Rattle.gs_model.specs.{Frame.{round_of}, Positions.{at_end}}
 use Rattle.gs_seq.specs.Abstracts.{abstract_frame, lists_of}
 use Rattle.gs_seq.proofs.Forms.{form_walked}
@@ -26,3 +27,12 @@ payoff_in-requires-clause-numbers c =
 pub returns-clause-room : goal.returns-clause-room
 returns-clause-room c =
     rows_written (abstract_frame c.args.form.now) (lists_of c.args.form.now) c.args.scratch.now c.payoff_in.new.numbers c.payoff_in.new.sums c.requires.room
+
+pub returns-clause-paid : goal.returns-clause-paid
+returns-clause-paid c = to_z-of_z w128 c.payoff_in.result (record { sfits = c.payoff_in.type_inv }) ∙ c.payoff_in.ensures
+
+pub payoff_in-requires-clause-x : goal.payoff_in-requires-clause-x
+payoff_in-requires-clause-x c = c.requires.one
+
+pub payoff_in-requires-clause-y : goal.payoff_in-requires-clause-y
+payoff_in-requires-clause-y c = c.requires.two

@@ -1,4 +1,4 @@
-use Rattle.std.proofs.{Common.{◌≡◌, ◌*◌, sym, ap, ◌∙◌, subst, arith, to_z, of_z}, lemmas.Int.{to_z-of_z}}
+use Rattle.std.proofs.{Common.{◌≡◌, ◌*◌, ◌^◌, ◌≤◌, sym, ap, ◌∙◌, subst, arith, to_z, of_z}, lemmas.Int.{to_z-of_z}}
 use Rattle.std.specs.Prelude.{ℤ, pos, ◌+ℤ◌, ◌-ℤ◌, ◌*ℤ◌, unsigned_abs}
 use mir.Syntax.{w128}
 use Rattle.gs_game.specs.Games.{game_of}
@@ -86,19 +86,34 @@ returns-clause-verdict c =
     ∙ ap (λ z. pos gap2.1 *ℤ (pos y.total *ℤ s2 +ℤ z)) paid)
 
 pub plans_pay-paid-requires-clause-two : goal.plans_pay-paid-requires-clause-two
-plans_pay-paid-requires-clause-two c = grind arith
+plans_pay-paid-requires-clause-two c = c.requires.two
 
 pub plans_pay-paid-requires-clause-one : goal.plans_pay-paid-requires-clause-one
-plans_pay-paid-requires-clause-one c = grind arith
+plans_pay-paid-requires-clause-one c = c.requires.one
 
 pub plans_pay-paid-requires-clause-room : goal.plans_pay-paid-requires-clause-room
-plans_pay-paid-requires-clause-room c = grind arith
+plans_pay-paid-requires-clause-room c = c.best_total-2.ensures.rows
 
 pub best_total-requires-2-clause-laid : goal.best_total-requires-2-clause-laid
-best_total-requires-2-clause-laid c = grind arith
+best_total-requires-2-clause-laid c = c.best_total.ensures.laid
 
 pub best_total-requires-2-clause-rows : goal.best_total-requires-2-clause-rows
-best_total-requires-2-clause-rows c = grind arith
+best_total-requires-2-clause-rows c = c.best_total.ensures.rows
 
 pub invariant_of-second : goal.invariant_of-second
-invariant_of-second c = grind arith
+invariant_of-second c = record { some = omega arith; two = omega arith; plan = c.requires.one }
+
+pub judged-requires-clause-first : goal.judged-requires-clause-first
+judged-requires-clause-first c = subst (λ z. unsigned_abs z ≤ 2 ^ 74) (sym (to_z-of_z w128 c.best_total.result (record { sfits = c.best_total.type_inv }))) c.best_total.ensures.small
+
+pub judged-requires-clause-second : goal.judged-requires-clause-second
+judged-requires-clause-second c = subst (λ z. unsigned_abs z ≤ 2 ^ 74) (sym (to_z-of_z w128 c.best_total-2.result (record { sfits = c.best_total-2.type_inv }))) c.best_total-2.ensures.small
+
+pub best_total-requires-clause-laid : goal.best_total-requires-clause-laid
+best_total-requires-clause-laid c = c.lay_out.ensures
+
+pub invariant_of-first : goal.invariant_of-first
+invariant_of-first c = record { some = omega arith; two = omega arith; plan = c.requires.two }
+
+pub returns-clause-room : goal.returns-clause-room
+returns-clause-room c = c.work.view_is

@@ -1,6 +1,6 @@
-use Rattle.std.proofs.Common.{◌*◌, ◌^◌, ◌<◌, arith}
+use Rattle.std.proofs.Common.{◌≡◌, ◌*◌, ◌^◌, ◌<◌, subst, arith}
 use Rattle.gs_model.specs.Frame.{move_count}
-use Rattle.gs_best.specs.{ClassTotals.{total_worth}, Spots.{frame_on, lists_on, totals_on}}
+use Rattle.gs_best.specs.{Rows.{AreSums}, ClassTotals.{total_worth}, Spots.{frame_on, lists_on, totals_on}}
 use Rattle.gs_best.proofs.{Greatest.{sum_fits, sum_step}, Modest.{worth_modest, worths_modest}}
 use Rattle.gs_best.proofs.merging.sum_moves.Goals as goal
 
@@ -30,3 +30,12 @@ read_worths-read-requires-clause-numbers c = grind arith
 
 pub read_worths-read-requires-clause-row : goal.read_worths-read-requires-clause-row
 read_worths-read-requires-clause-row c = grind arith
+
+pub returns : goal.returns
+returns c = λ e le.
+    let at = c.args.at.now in
+    let worth = total_worth (frame_on at) (lists_on at) (totals_on at) in
+    let all : c.loop-choice.choice ≡ move_count (frame_on at) at.point =
+    omega (arith, c.loop-choice-test.false, c.loop-choice.auto.choice-end, c.move_total-choice-end.ensures.value) in
+    let some : 0 < c.loop-choice.choice = omega (arith, c.loop-choice-test.false, c.move_total-choice-end.ensures.some) in
+    subst (λ n. AreSums (frame_on at) (lists_on at) worth at.point n c.loop-choice.sums) all (c.loop-choice.invariant some) e le

@@ -1,9 +1,8 @@
 use Rattle.std.proofs.{lemmas.Grind.{common_steps}, Common.{◌≡◌, ◌*◌, ap, ◌∙◌, arith, to_z, of_z}, lemmas.Int.{fits_signed_from_abs, ints, to_z-of_z}}
 use Rattle.std.specs.Prelude.{pos, ◌+ℤ◌, ◌-ℤ◌, ◌*ℤ◌, ◌<ℤ◌, unsigned_abs}
-use borrow.Author.Differences.{abs_is}
 use mir.Syntax.{w128}
 use Rattle.gs_model.proofs.{Sparse.{abs_sum}, Choose.{products_positive}}
-use Rattle.gs_best.proofs.{Fractions.{over_scale, over_turn, turned_sum}, Totals.{scaled_small}}
+use Rattle.gs_best.proofs.{Fractions.{abs_difference, over_scale, over_turn, turned_sum}, Totals.{scaled_small}}
 use Rattle.gs_best.proofs.numbers.judged.Goals.{After-scaled-scale, After-scaled, After-minus-gap1, After-scaled-2, After-plus-gap2}
 use Rattle.gs_best.proofs.numbers.judged.Goals as goal
 
@@ -35,32 +34,16 @@ second c = c.scaled-2.ensures ∙ ap (λ z. pos c.args.totals.1 *ℤ z)
 gap_one : (c : After-minus-gap1) → c.scaled.result ≡ pos c.args.totals.0 *ℤ c.args.best.0
     → to_z w128 (of_z w128 c.minus-gap1.result) ≡ pos c.args.totals.0 *ℤ c.args.best.0 -ℤ c.args.paid
 gap_one c is =
-    let gap : c.minus-gap1.result ≡ pos c.args.totals.0 *ℤ c.args.best.0 -ℤ c.args.paid =
-    omega (
-      arith,
-      ints,
-      c.minus-gap1.ensures,
-      is,
-      to_z-of_z w128 c.scaled.result (record { sfits = c.scaled.type_inv }),
-      to_z-of_z w128 c.args.paid
-          c.ranges.paid,
-    ) in
-    to_z-of_z w128 c.minus-gap1.result (record { sfits = c.minus-gap1.type_inv }) ∙ gap
+    to_z-of_z w128 c.minus-gap1.result (record { sfits = c.minus-gap1.type_inv }) ∙ c.minus-gap1.ensures
+    ∙ ap (λ z. z -ℤ to_z w128 (of_z w128 c.args.paid)) (to_z-of_z w128 c.scaled.result (record { sfits = c.scaled.type_inv }) ∙ is)
+    ∙ ap (λ z. pos c.args.totals.0 *ℤ c.args.best.0 -ℤ z) (to_z-of_z w128 c.args.paid c.ranges.paid)
 
 gap_two : (c : After-plus-gap2) → c.scaled-2.result ≡ pos c.args.totals.1 *ℤ c.args.best.1
     → to_z w128 (of_z w128 c.plus-gap2.result) ≡ pos c.args.totals.1 *ℤ c.args.best.1 +ℤ c.args.paid
 gap_two c is =
-    let gap : c.plus-gap2.result ≡ pos c.args.totals.1 *ℤ c.args.best.1 +ℤ c.args.paid =
-    omega (
-      arith,
-      ints,
-      c.plus-gap2.ensures,
-      is,
-      to_z-of_z w128 c.scaled-2.result (record { sfits = c.scaled-2.type_inv }),
-      to_z-of_z w128 c.args.paid
-          c.ranges.paid,
-    ) in
-    to_z-of_z w128 c.plus-gap2.result (record { sfits = c.plus-gap2.type_inv }) ∙ gap
+    to_z-of_z w128 c.plus-gap2.result (record { sfits = c.plus-gap2.type_inv }) ∙ c.plus-gap2.ensures
+    ∙ turned_sum c.scaled-2.result (pos c.args.totals.1 *ℤ c.args.best.1) c.args.paid _ _ is
+    (to_z-of_z w128 c.scaled-2.result (record { sfits = c.scaled-2.type_inv })) (to_z-of_z w128 c.args.paid c.ranges.paid)
 
 pub plus-gap2-requires : goal.plus-gap2-requires
 plus-gap2-requires c =
@@ -82,17 +65,12 @@ fraction-requires-3-clause-positive c = positive (goal.at.fraction-requires-3-cl
 pub fraction-requires-2-clause-fits : goal.fraction-requires-2-clause-fits
 fraction-requires-2-clause-fits c =
     let at = goal.at.fraction-requires-2-clause-fits c in
-    let x0 = pos c.args.totals.0 *ℤ c.args.best.0 in
     let gap = ap unsigned_abs (gap_one at.After-minus-gap1 (first at.After-scaled)) in
     omega (
       arith,
-      ints,
       gap,
-      abs_is (x0 -ℤ c.args.paid),
-      abs_is x0,
-      abs_is c.args.paid,
-      scaled_small c.args.totals.0 c.args.best.0 c.requires.one.1
-          c.requires.first,
+      abs_difference (pos c.args.totals.0 *ℤ c.args.best.0) c.args.paid,
+      scaled_small c.args.totals.0 c.args.best.0 c.requires.one.1 c.requires.first,
       c.requires.paid,
     )
 
@@ -123,7 +101,18 @@ returns c =
     }
 
 pub minus-gap1-requires : goal.minus-gap1-requires
-minus-gap1-requires c = grind (arith, common_steps)
+minus-gap1-requires c =
+    let x = pos c.args.totals.0 *ℤ c.args.best.0 in
+    let read : to_z w128 (of_z w128 c.scaled.result) -ℤ to_z w128 (of_z w128 c.args.paid) ≡ x -ℤ c.args.paid =
+    ap (λ z. z -ℤ to_z w128 (of_z w128 c.args.paid)) (to_z-of_z w128 c.scaled.result (record { sfits = c.scaled.type_inv }) ∙ first c)
+    ∙ ap (λ z. x -ℤ z) (to_z-of_z w128 c.args.paid c.ranges.paid) in
+    omega (
+      arith,
+      ap unsigned_abs read,
+      abs_difference x c.args.paid,
+      scaled_small c.args.totals.0 c.args.best.0 c.requires.one.1 c.requires.first,
+      c.requires.paid,
+    )
 
 pub scaled-requires-2 : goal.scaled-requires-2
 scaled-requires-2 c = grind (arith, common_steps)

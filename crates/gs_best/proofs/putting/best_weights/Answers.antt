@@ -26,3 +26,6 @@ put_moves-requires-clause-moves c = grind arith
 
 pub put_moves-requires-clause-places : goal.put_moves-requires-clause-places
 put_moves-requires-clause-places c = grind arith
+
+pub put_moves-requires-clause-long : goal.put_moves-requires-clause-long
+put_moves-requires-clause-long c = omega (arith, c.deref_mut.ensures.len, c.in_ok-weights.ensures.len, c.sequences-count.ensures)

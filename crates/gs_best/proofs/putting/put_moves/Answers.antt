@@ -47,3 +47,6 @@ returns c =
 
 pub put_point-requires-clause-moves : goal.put_point-requires-clause-moves
 put_point-requires-clause-moves c = grind arith
+
+pub put_point-requires-clause-places : goal.put_point-requires-clause-places
+put_point-requires-clause-places c = c.requires.places

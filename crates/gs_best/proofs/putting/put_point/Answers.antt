@@ -1,11 +1,10 @@
-use Rattle.std.proofs.Common.{◌≡◌, ◌+◌, ◌-◌, ◌*◌, ◌<◌, ◌≤◌, length, get_or, set, sym, ap, ◌∙◌, subst, arith, ⊎_elim, get_or-set_other}
-use Rattle.std.proofs.{Math.Nat.{mul-le-mul_right}, lemmas.Bool.{cases_eq}}
+use Rattle.std.proofs.Common.{◌≡◌, ◌+◌, ◌-◌, ◌*◌, ◌<◌, get_or, refl, ap, ◌∙◌, arith}
 use Rattle.gs_model.specs.{Classes.{IsClass, class_count, first_member}, Frame.{last_step, move_count, point_count, round_of}, Plans.{lift, number_before}}
 use Rattle.gs_model.specs.Positions.{at_point}
-use Rattle.gs_seq.specs.{Abstracts.{abstract_frame, lists_of}, Firsts.{AgreeBefore, IsClear}, Slots.{plan_of, slot_of, slots_before}}
+use Rattle.gs_seq.specs.{Abstracts.{abstract_frame, lists_of}, Slots.{plan_of, slot_of, slots_before}}
 use Rattle.gs_seq.proofs.{Firsts.{slots_own}, SlotLaws.{slots_le}, Forms.{form_classes, form_in_range, form_walked}}
-use Rattle.gs_best.specs.{Tables.{moves_of, start_of}, Puts.{IsPutAt}}
-use Rattle.gs_best.proofs.{PointStarts.{place_before}, AllOn.{put_here, put_kept}, putting.put_point.Goals.{After-class_total-before-end, In-loop-before}}
+use Rattle.gs_best.specs.Tables.{moves_of, start_of}
+use Rattle.gs_best.proofs.{PointStarts.{place_before}, AllOn.{put_next}, putting.put_point.Goals.{After-class_total-before-end, After-coming-came, After-slot-slot, In-loop-before}}
 use Rattle.gs_best.proofs.putting.put_point.Goals as goal
 
 -- the round's classes, and the one at hand
@@ -62,64 +61,37 @@ coming-came-requires-clause-long c =
 pub slot-slot-requires-clause-choice : goal.slot-slot-requires-clause-choice
 slot-slot-requires-clause-choice c = let at = (goal.at.slot-slot-requires-clause-choice c).In-loop-before in omega (arith, pick at, in_moves at)
 
-pub loop-before-preserved : goal.loop-before-preserved
-loop-before-preserved c =
+-- where its weight goes, and what comes there
+at_slot : (c : After-slot-slot) → c.slot-slot.result ≡ slot_of (abstract_frame c.args.form.now) (lists_of c.args.form.now) c.args.point (c.loop-before.before + 1)
+    (moves_of (abstract_frame c.args.form.now) (lists_of c.args.form.now) c.args.picks.now c.args.point (c.loop-before.before + 1))
+at_slot c = c.slot-slot.ensures.value
+    ∙ ap (slot_of (abstract_frame c.args.form.now) (lists_of c.args.form.now) c.args.point (c.loop-before.before + 1)) (pick (goal.at.After-slot-slot c).In-loop-before)
+
+came_is : (c : After-coming-came) → c.coming-came.result ≡ number_before (abstract_frame c.args.form.now)
+    (lift (abstract_frame c.args.form.now) (lists_of c.args.form.now) (plan_of (abstract_frame c.args.form.now) (lists_of c.args.form.now) 1 c.loop-before.weights))
+    (last_step (abstract_frame c.args.form.now) c.args.player (at_point c.args.point)) (round_of (abstract_frame c.args.form.now) (at_point c.args.point))
+    (first_member (lists_of c.args.form.now) (round_of (abstract_frame c.args.form.now) (at_point c.args.point)) (c.loop-before.before + 1))
+came_is c =
     let f = abstract_frame c.args.form.now in
     let lists = lists_of c.args.form.now in
     let q = c.args.point in
-    let p = c.args.player in
-    let before = c.loop-before.before in
-    let here = (goal.at.loop-before-preserved c).In-loop-before in
-    let class = class here in
-    let in_moves = in_moves here in
-    let move = moves_of f lists c.args.picks.now in
-    let weights = c.loop-before.weights in
-    let came = c.coming-came.result in
-    let slot = c.slot-slot.result in
-    let many = move_count f q in
-    let ranged = form_in_range c.args.form.now in
-    let sound = form_classes c.args.form.now in
-    let w = form_walked c.args.form.now p c.requires.some c.requires.two in
-    let whose = ap (λ p. slots_before f lists p q) c.requires.own in
-    let at : slot ≡ slot_of f lists q (before + 1) (move q (before + 1)) = c.slot-slot.ensures.value ∙ ap (slot_of f lists q (before + 1)) (pick here) in
-    let one : before + 1 - 1 ≡ before = omega arith in
-    let there : slot ≡ slots_before f lists p q + (before * many + move q (before + 1)) = omega (arith, at, whose, ap (λ k. k * many) one) in
-    let row : (before + 1) * many ≡ before * many + many = omega arith in
-    let rows = mul-le-mul_right many class.1 in
-    let inside : slot < length weights = omega (
-      arith,
-      there,
-      in_moves,
-      slots_own f lists p q c.requires.own,
-      slots_le f lists p (q + 1) (point_count f)
-          (omega (arith, c.requires.point)),
-      rows,
-      row,
-      c.loop-before.auto.weights,
-      c.requires.long,
-    ) in
-    let is : came ≡ number_before f (lift f lists (plan_of f lists 1 weights)) (last_step f p (at_point q)) (round_of f (at_point q))
-    (first_member lists (round_of f (at_point q)) (before + 1)) =
     c.coming-came.ensures
-    ∙ ap (λ p. number_before f (lift f lists (plan_of f lists 1 weights)) (last_step f p (at_point q)) (round_of f (at_point q))
-    (first_member lists (round_of f (at_point q)) (before + 1))) c.requires.own in
-    let clear : IsClear (slots_before f lists p q + (before + 1 - 1) * many) weights = λ k lk. c.loop-before.invariant.clear k
-    (omega (arith, lk, ap (λ k. k * many) one)) in
-    let same : AgreeBefore slot weights (set weights slot came) = λ j lj. get_or-set_other weights slot j came 0 (omega (arith, lj)) in
-    record {
-      kept = λ k lk. get_or-set_other weights slot k came 0 (omega (arith, lk, there)) ∙ c.loop-before.invariant.kept k lk;
-      here = λ k lo hi. ⊎_elim
-          (λ e. subst (λ n. IsPutAt f lists p move (set weights slot came) q n) (sym e)
-          (put_here f ranged lists sound p w move q c.requires.point c.requires.own (before + 1) class weights slot came at in_moves inside is clear))
-          (λ other.
-          let less : k ≤ before = omega arith in
-          put_kept f ranged lists sound p w move q c.requires.point c.requires.own k (lo, omega (arith, class.1, less)) slot weights (set weights slot came)
-          (omega (arith, there, mul-le-mul_right many less)) same (c.loop-before.invariant.here k lo less))
-          (cases_eq k (before + 1));
-      clear = λ k lk.
-          (let after : slot < k = omega (arith, there, in_moves, row, lk) in
-          get_or-set_other weights slot k came 0 (omega (arith, after)) ∙ c.loop-before.invariant.clear k (omega (arith, row, lk)));
-    }
+    ∙ ap (λ p. number_before f (lift f lists (plan_of f lists 1 c.loop-before.weights)) (last_step f p (at_point q)) (round_of f (at_point q))
+    (first_member lists (round_of f (at_point q)) (c.loop-before.before + 1))) c.requires.own
+
+pub loop-before-preserved : goal.loop-before-preserved
+loop-before-preserved c =
+    let a = c.args.form.now in
+    let f = abstract_frame a in
+    let lists = lists_of a in
+    let at = goal.at.loop-before-preserved c in
+    let here = at.In-loop-before in
+    let w = form_walked a c.args.player c.requires.some c.requires.two in
+    let next = put_next f (form_in_range a) lists (form_classes a) c.args.player w (moves_of f lists c.args.picks.now) c.args.point c.requires.point
+    c.requires.own c.loop-before.before (class here) (in_moves here) c.args.weights.now c.loop-before.weights c.slot-slot.result c.coming-came.result
+    (at_slot at.After-slot-slot) (c.loop-before.auto.weights ∙ c.requires.long) (came_is at.After-coming-came)
+    c.loop-before.invariant.kept c.loop-before.invariant.here c.loop-before.invariant.clear in
+    record { kept = next.kept; here = next.here; clear = next.clear }
 
 pub returns-clause-here : goal.returns-clause-here
 returns-clause-here c = λ e le. c.loop-before.invariant.here e le.0
@@ -142,3 +114,13 @@ slot-slot-requires-clause-class c = grind arith
 
 pub coming-came-requires-clause-class : goal.coming-came-requires-clause-class
 coming-came-requires-clause-class c = grind arith
+
+pub returns-clause-kept : goal.returns-clause-kept
+returns-clause-kept c = c.loop-before.invariant.kept
+
+pub loop-before-init : goal.loop-before-init
+loop-before-init c = record {
+  kept = λ i li. refl;
+  here = λ e lo hi. absurd (omega (arith, lo, hi));
+  clear = λ i li. c.requires.clear i (omega (arith, li));
+}

@@ -42,3 +42,9 @@ loop-class-preserved c =
             rest_moves = λ k l. ap (λ x. get_or x k 0) w.moves-is ∙ inv.rest_moves k (omega arith);
           }
     ]
+
+pub bounds-moves-class : goal.bounds-moves-class
+bounds-moves-class c = omega (arith, c.loop-class-test.true, c.requires.moves, c.loop-class.auto.moves)
+
+pub bounds-best-class : goal.bounds-best-class
+bounds-best-class c = omega (arith, c.loop-class-test.true, c.requires.best, c.loop-class.auto.best)

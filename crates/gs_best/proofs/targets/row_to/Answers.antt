@@ -72,3 +72,6 @@ end_sums-requires-clause-wide c = grind arith
 
 pub end_sums-requires-clause-room : goal.end_sums-requires-clause-room
 end_sums-requires-clause-room c = grind arith
+
+pub end_sums-requires-clause-other : goal.end_sums-requires-clause-other
+end_sums-requires-clause-other c = c.args.side.now.plan
