@@ -219,13 +219,13 @@ module _ (g : Game) (p : IsPlayable g) (lawful : KeepsRules g) where
       let each : (c : ℕ) → 1 ≤ c → c < 1 + class_count lists round → 1 ≤ count_by (λ e. meets f lists round c e) (classes_in lists round) = λ c lo hi. (
       let i = c - 1 in
       let inside : i < signal_count f round = omega (arith, count, lo, hi) in
-      let m = met g p lawful round i some (omega arith) inside in
+      let m = met g p lawful round i some (omega (arith, top, last)) inside in
       let two = at_round f round m.deal.two in
       let deal_in = (in_range g p).twos m.place m.deal m.place_in in
       let two_last : m.deal.two < signal_count f (last_round f) = subst (λ (d : Deal). d.two < signal_count f (last_round f)) m.there deal_in in
       let two_in : two < signal_count f round = kept f (in_range g p) (last_round f) round m.deal.two some top two_last in
       let one_class : class_of lists round (at_round f round m.deal.one) ≡ c =
-      ap (class_of lists round) m.one ∙ single_class g round i some top inside ∙ omega arith in
+      ap (class_of lists round) m.one ∙ single_class g round i some top inside ∙ omega (arith, lo) in
       let two_class = single_class g round two some top two_in in
       let test = λ (e : ℕ) (d : Deal). (class_of lists round (at_round f round d.one) == c) && (class_of lists round (at_round f round d.two) == e) in
       let here : test (1 + two) m.deal ≡ true = rw (

@@ -1,4 +1,4 @@
-use Rattle.std.proofs.{Common.{ℕ, ◌<◌, ap, sym, ◌∙◌, subst, arith}, lemmas.Grind.{common_steps}}
+use Rattle.std.proofs.Common.{ℕ, ◌<◌, ap, sym, ◌∙◌, subst}
 use Rattle.gs_filter.specs.Filter.{Filter}
 use Rattle.gs_model.specs.Lossless.{IsLossless}
 use Rattle.gs_seq.specs.{Cells.{cell_count}, Games.{frame_in}, Stops.{IsStopAt}}
@@ -23,4 +23,4 @@ returns-in-Ok c =
     (count, subst (λ (n : ℕ). 16777216 < n) (sym count) many)
 
 pub cell_total-requires-clause-parents : goal.cell_total-requires-clause-parents
-cell_total-requires-clause-parents c = grind (arith, common_steps)
+cell_total-requires-clause-parents c = c.classes.ensures.parents ∙ ap (λ (s : Signals). (frame_in s.game.now).parents) (sym c.signals.ensures.held)

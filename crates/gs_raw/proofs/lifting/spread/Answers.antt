@@ -1,4 +1,4 @@
-use Rattle.std.proofs.{Common.{◌≡◌, ℕ, ◌+◌, ◌*◌, ◌<◌, ◌^◌, length, refl, ap, sym, ◌∙◌, subst, arith, Vec, Global}, lemmas.Grind.{common_steps}}
+use Rattle.std.proofs.Common.{◌≡◌, ℕ, ◌+◌, ◌*◌, ◌<◌, ◌^◌, length, refl, ap, sym, ◌∙◌, subst, arith, Vec, Global}
 use Rattle.gs_game.specs.Games.{game_of}
 use Rattle.gs_model.specs.{Classes.{class_count}, Frame.{point_count}}
 use Rattle.gs_model.proofs.Ranges.{in_range}
@@ -125,7 +125,14 @@ returns-clause-same c =
     all.long all.rows
 
 pub push_point-requires-clause-in_range : goal.push_point-requires-clause-in_range
-push_point-requires-clause-in_range c = grind (arith, common_steps)
+push_point-requires-clause-in_range c = inside (goal.at.push_point-requires-clause-in_range c).In-loop-point
 
 pub bounds-points-point : goal.bounds-points-point
-bounds-points-point c = grind (arith, common_steps)
+bounds-points-point c = omega (
+  arith,
+  inside (goal.at.bounds-points-point c).In-loop-point,
+  length-points c.args.game.now c.points-in-loop-point.result.now c.points-in-loop-point.ensures,
+)
+
+pub push_point-requires-clause-plan : goal.push_point-requires-clause-plan
+push_point-requires-clause-plan c = c.requires.plan

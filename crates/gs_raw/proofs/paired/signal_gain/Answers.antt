@@ -6,7 +6,8 @@ use Rattle.gs_seq.specs.{Abstracts.{abstract_frame, lists_of}, Plans.{IsPlanOf, 
 use Rattle.gs_best.proofs.Chips.{form_modest}
 use Rattle.gs_model.specs.{BestAnswers.{end_worth}, Pairs.{class_number}, Payoff.{number_at_end}}
 use Rattle.gs_raw.specs.Hands.{signal_pays}
-use Rattle.gs_raw.proofs.{Numbers.{abs_scaled}, SignalPays.{signal_share, signal_weighs_le, single_end, small_of}, paired.signal_gain.Goals.{After-end_value}}
+use Rattle.gs_raw.proofs.{Numbers.{abs_scaled}, SignalPays.{signal_share, signal_weighs_le, single_end, small_of}}
+use Rattle.gs_raw.proofs.paired.signal_gain.Goals.{After-end_value}
 use Rattle.gs_raw.proofs.paired.signal_gain.Goals as goal
 
 -- the number times what the end pays is what the signal's deals pay
@@ -80,3 +81,10 @@ returns-clause-few c =
       small_of a (lists_of a) side.singles side.one.now side.two.now side.one_plan side.two_plan c.args.end c.args.signal
           c.requires.end,
     )
+
+pub invariant_of-facing : goal.invariant_of-facing
+invariant_of-facing c = record {
+  some = omega arith;
+  two = omega arith;
+  plan = c.args.side.now.two_plan;
+}

@@ -1,4 +1,4 @@
-use Rattle.std.proofs.{Common.{◌+◌, ◌-◌, ◌*◌, ◌^◌, ap, ◌∙◌, arith}, Math.Nat.{mul-le-mul_left}}
+use Rattle.std.proofs.{Common.{◌≡◌, ◌+◌, ◌-◌, ◌*◌, ◌^◌, ap, ◌∙◌, arith}, Math.Nat.{mul-le-mul_left}}
 use mir.Val.{to_z}
 use mir.Syntax.{w128}
 use Rattle.gs_seq.specs.{Abstracts.{abstract_frame, lists_of}, Plans.{lifted}}
@@ -47,3 +47,15 @@ returns-clause-few c =
     let first = c.args.run.first in
     let all = mul-le-mul_left (2 ^ 84) (signals_weigh_le (abstract_frame a) c.args.end first (c.loop-signal.signal - first)) in
     omega (arith, c.loop-signal.invariant.within, all, mul-le-mul_left (2 ^ 84) (form_modest a).weight)
+
+pub loop-signal-init : goal.loop-signal-init
+loop-signal-init c =
+    let side = c.args.side.now in
+    let f = abstract_frame side.form.now in
+    let lists = lists_of side.form.now in
+    let first = c.args.run.first in
+    let none : 0 ≡ first - first = omega arith in
+    record {
+      sum_is = ap (λ n. signals_pay f (lifted f lists side.one.now) (lifted f lists side.two.now) first n c.args.end) none;
+      within = omega arith;
+    }

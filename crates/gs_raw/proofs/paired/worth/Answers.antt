@@ -1,5 +1,5 @@
-use Rattle.std.proofs.{Common.{arith, pos, ◌*◌, ◌<◌, sym, ap, ◌∙◌, subst}, lemmas.Grind.{common_steps}, lemmas.Int.{to_z-of_z}}
-use Rattle.std.specs.Prelude.{◌*ℤ◌}
+use Rattle.std.specs.Prelude.{unsigned_abs, ◌*ℤ◌}
+use Rattle.std.proofs.{Common.{◌<◌, ◌^◌, ℤ, subst, arith, pos, ◌*◌, sym, ap, ◌∙◌}, lemmas.Grind.{common_steps}, lemmas.Int.{to_z-of_z}}
 use mir.Syntax.{w128}
 use Rattle.gs_best.specs.Judged.{parts}
 use Rattle.gs_game.specs.Games.{game_of}
@@ -49,3 +49,10 @@ paid_over-requires-clause-one c = grind arith
 
 pub paid_over-requires-clause-two : goal.paid_over-requires-clause-two
 paid_over-requires-clause-two c = grind arith
+
+pub paid_over-requires-clause-paid : goal.paid_over-requires-clause-paid
+paid_over-requires-clause-paid c = subst (λ (z : ℤ). unsigned_abs z < 2 ^ 127)
+    (sym (to_z-of_z w128 c.all_gain-paid.result (record { sfits = c.all_gain-paid.type_inv }))) c.all_gain-paid.ensures.few
+
+pub hand_weight-weight-requires-clause-run : goal.hand_weight-weight-requires-clause-run
+hand_weight-weight-requires-clause-run c = c.descendants-run.ensures
