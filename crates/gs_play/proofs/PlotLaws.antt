@@ -2,7 +2,7 @@
 use Rattle.std.proofs.Common.{◌≡◌, ℕ, ◌+◌, ◌-◌, ◌*◌, ◌^◌, ◌<◌, ◌≤◌, List, length, replicate, get_or, min, max, set, sym, ap, ◌∙◌, subst, arith, cond}
 use Rattle.std.proofs.{Common.{⊎_elim, get_or-set_other, get_or-set_same, Option, Some, None, inl, inr}, lemmas.Bool.{cases_eq, cases_lt}}
 use Rattle.std.specs.Prelude.{[], ◌∷◌, ◌++◌, ◌⊎◌, option_map}
-use Rattle.std.proofs.lemmas.List.{get_or_append_left, get_or_default, get_or_push, get_or-replicate, length-append, length-replicate}
+use Rattle.std.proofs.lemmas.List.{get_or_append_left, get_or_default, get_or_past, get_or_push, get_or-replicate, length-append, length-replicate}
 use Rattle.std.proofs.{Math.ListN.{length-set}, Math.Seq.{get_or-append_right}, lemmas.Bool.Decides.{Decides-eqb}}
 use Rattle.gs_game.specs.{Seen.{step_of}, declared.positions.Step.{Step as StoredStep}, declared.valid.ValidGame.{ValidGame}}
 use Rattle.gs_model.specs.{Classes.{ClassLists}, Frame.{Frame, end_count, last_step, leads_to, move_count, player_at, point_count}, FrameFacts.{IsInside}}
@@ -279,3 +279,13 @@ module _ (spans : List Span) (p : ℕ) (d : Span) (first stop z : ℕ) (inside :
         omega (arith, ap (λ (x : Span). x.first) here, low),
         omega (arith, ap (λ (x : Span). x.stop) here, high),
       )
+
+-- spans as they are at first, that end at once
+pub no_ends_in : (n q first : ℕ) → (span_in (replicate n (record { first = first; stop = 0 })) q).stop ≡ 0
+no_ends_in n q first =
+    let none : Span = record { first = first; stop = 0 } in
+    let past_all : Span = record { first = 0; stop = 0 } in
+    ⊎_elim
+    (λ (l : q < n). ap (λ (s : Span). s.stop) (get_or-replicate n q none past_all l))
+    (λ (past : n ≤ q). ap (λ (s : Span). s.stop) (get_or_past (replicate n none) q past_all (omega (arith, length-replicate n none, past))))
+    (cases_lt q n)

@@ -90,3 +90,9 @@ returns-clause-right c = let at = goal.at.returns-clause-right c in (fresh at.In
 
 pub take_first-requires-clause-none : goal.take_first-requires-clause-none
 take_first-requires-clause-none c = grind arith
+
+pub take_first-requires-clause-long : goal.take_first-requires-clause-long
+take_first-requires-clause-long c = ap (λ (l : List ℕ). length l) c.deref_mut.ensures.value ∙ c.loop-point.invariant.long
+
+pub take_first-requires-clause-point : goal.take_first-requires-clause-point
+take_first-requires-clause-point c = omega (arith, c.loop-point-test.true, c.point_total-point-end.ensures)

@@ -1,5 +1,5 @@
 use Rattle.std.proofs.{Common.{◌≡◌, ℕ, ◌+◌, ◌<◌, Bool, List, Vec, false, true, get_or, length, set, sym, ap, ◌∙◌, subst, arith, ⊎_elim}, lemmas.Bool.{cases_eq}}
-use Rattle.std.proofs.Common.{get_or-set_other, get_or-set_same, length-set}
+use Rattle.std.proofs.Common.{get_or-set_other, get_or-set_same, length-set, true≢false}
 use Rattle.std.specs.declared.alloc.Global.{Global}
 use Rattle.gs_model.specs.Frame.{point_count}
 use Rattle.gs_seq.proofs.Forms.{form_classes, form_in_range, form_walked}
@@ -107,3 +107,9 @@ returns-clause-own c = grind arith
 
 pub returns-clause-room : goal.returns-clause-room
 returns-clause-room c = grind arith
+
+pub returns-clause-plan : goal.returns-clause-plan
+returns-clause-plan c = c.loop-point.invariant.plan
+
+pub returns-clause-still : goal.returns-clause-still
+returns-clause-still c = λ q lq moved. true≢false (sym moved ∙ c.loop-point.invariant.cleared q (omega (arith, lq, c.loop-point-test.false, c.point_total-point-end.ensures)))

@@ -2,8 +2,9 @@ use Rattle.std.proofs.{Common.{ℕ, ◌<◌, Bool, List, false, set, refl, sym, 
 use Rattle.gs_model.specs.{Frame.{Frame, player_at, point_count}, FrameFacts.{IsWalked}}
 use Rattle.gs_seq.specs.Abstracts.{game_in}
 use Rattle.gs_seq.proofs.Points.{walked_at}
-use Rattle.gs_play.specs.{Answers.{IsStill}, Sides.{side_frame, side_lists}}
-use Rattle.gs_play.proofs.PlotRows.{row_at, row_player}
+use Rattle.gs_best.specs.Tables.{moves_of}
+use Rattle.gs_play.specs.{Answers.{IsRight, IsStill}, Sides.{side_frame, side_lists}}
+use Rattle.gs_play.proofs.{PlotRows.{row_at, row_player}, Rooms.{has_turned}}
 use Rattle.gs_play.proofs.answers.renew_at.Goals.{else-index-side-via-then-index-side+else-is_loose, else-index-side-via-else-index-side}
 use Rattle.gs_play.proofs.answers.renew_at.Goals as goal
 
@@ -33,7 +34,11 @@ returns-else-index-side-clause-right c = λ own e le.
     ]
 
 pub returns-then-is_loose-clause-right : goal.returns-then-is_loose-clause-right
-returns-then-is_loose-clause-right c = grind arith
+returns-then-is_loose-clause-right c = λ own e le.
+    let f = side_frame c.args.side.now in
+    let lists = side_lists c.args.side.now in
+    let taken = moves_of f lists c.renew_point.new.answer.taken.items in
+    subst (λ picks. IsRight f lists taken (moves_of f lists picks) c.args.point e) c.deref-then-is_loose.ensures.value (c.renew_point.ensures.right e le)
 
 pub renew_point-requires-clause-moves : goal.renew_point-requires-clause-moves
 renew_point-requires-clause-moves c = grind arith
@@ -42,22 +47,22 @@ pub renew_point-requires-clause-long : goal.renew_point-requires-clause-long
 renew_point-requires-clause-long c = grind arith
 
 pub returns-then-is_loose-clause-room : goal.returns-then-is_loose-clause-room
-returns-then-is_loose-clause-room c = grind arith
+returns-then-is_loose-clause-room c = c.renew_point.ensures.room
 
 pub renew_point-requires-clause-room : goal.renew_point-requires-clause-room
-renew_point-requires-clause-room c = grind arith
+renew_point-requires-clause-room c = c.requires.room
 
 pub returns-then-is_loose-clause-answer : goal.returns-then-is_loose-clause-answer
-returns-then-is_loose-clause-answer c = grind arith
+returns-then-is_loose-clause-answer c = c.renew_point.ensures.answer
 
 pub returns-then-is_loose-clause-plan : goal.returns-then-is_loose-clause-plan
-returns-then-is_loose-clause-plan c = grind arith
+returns-then-is_loose-clause-plan c = c.renew_point.ensures.plan
 
 pub is_loose-requires-clause-turned : goal.is_loose-requires-clause-turned
 is_loose-requires-clause-turned c = grind (arith, common_steps)
 
 pub returns-else-index-side-clause-room : goal.returns-else-index-side-clause-room
-returns-else-index-side-clause-room c = grind arith
+returns-else-index-side-clause-room c = c.requires.room
 
 pub renew_point-requires-clause-own : goal.renew_point-requires-clause-own
 renew_point-requires-clause-own c =
@@ -65,3 +70,17 @@ renew_point-requires-clause-own c =
     let f = side_frame s in
     let row = row_at f (side_lists s) s.plot.now s.plotted c.args.point c.requires.point c.index.result.now c.index.ensures in
     sym (row_player f (side_lists s) c.args.point c.index.result.now row) ∙ c.if-index-side.true
+
+pub renew_point-requires-clause-answer : goal.renew_point-requires-clause-answer
+renew_point-requires-clause-answer c = has_turned (side_frame c.args.side.now) (side_lists c.args.side.now) c.args.side.now.player c.args.now c.args.answer.now c.args.point false
+    c.requires.answer
+
+pub returns-else-index-side-clause-answer : goal.returns-else-index-side-clause-answer
+returns-else-index-side-clause-answer c = has_turned (side_frame c.args.side.now) (side_lists c.args.side.now) c.args.side.now.player c.args.now c.args.answer.now c.args.point false
+    c.requires.answer
+
+pub renew_point-requires-clause-point : goal.renew_point-requires-clause-point
+renew_point-requires-clause-point c = c.requires.point
+
+pub index-requires : goal.index-requires
+index-requires c = omega (arith, c.requires.point, c.args.side.now.plotted.many, c.args.side.now.plot.now.rows.ok.0)

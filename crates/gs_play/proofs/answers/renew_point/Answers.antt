@@ -180,7 +180,7 @@ pub turn-requires-clause-answer : goal.turn-requires-clause-answer
 turn-requires-clause-answer c = grind arith
 
 pub tell-requires-clause-room : goal.tell-requires-clause-room
-tell-requires-clause-room c = grind arith
+tell-requires-clause-room c = c.loop-class.invariant.room
 
 pub returns-clause-answer : goal.returns-clause-answer
 returns-clause-answer c = grind arith
@@ -193,3 +193,12 @@ returns-clause-room c = grind arith
 
 pub returns-clause-plan : goal.returns-clause-plan
 returns-clause-plan c = grind arith
+
+pub right_move-new-requires-clause-picks : goal.right_move-new-requires-clause-picks
+right_move-new-requires-clause-picks c = c.requires.long
+
+pub tell-requires-clause-point : goal.tell-requires-clause-point
+tell-requires-clause-point c = c.requires.point
+
+pub turn-requires-clause-point : goal.turn-requires-clause-point
+turn-requires-clause-point c = c.requires.point

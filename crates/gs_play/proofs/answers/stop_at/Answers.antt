@@ -57,3 +57,9 @@ loop-class-init c = grind arith
 
 pub returns-clause-answer : goal.returns-clause-answer
 returns-clause-answer c = grind arith
+
+pub returns-clause-elsewhere : goal.returns-clause-elsewhere
+returns-clause-elsewhere c = c.loop-class.invariant.elsewhere
+
+pub returns-clause-plan : goal.returns-clause-plan
+returns-clause-plan c = c.loop-class.invariant.plan

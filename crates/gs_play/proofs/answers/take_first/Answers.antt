@@ -109,3 +109,6 @@ returns-clause-first c = λ e le. c.loop-class.invariant.first e le
       c.class_total-class-end.ensures.value,
       ap (class_count (side_lists c.args.side.now)) (round (goal.at.returns-clause-first c).After-index-row),
     ))
+
+pub returns-clause-elsewhere : goal.returns-clause-elsewhere
+returns-clause-elsewhere c = c.loop-class.invariant.elsewhere

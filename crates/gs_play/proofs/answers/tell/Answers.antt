@@ -52,19 +52,31 @@ pub invariant_of-other-2 : goal.invariant_of-other-2
 invariant_of-other-2 c = grind arith
 
 pub push-requires-then-new-ne-NONE-clause-room : goal.push-requires-then-new-ne-NONE-clause-room
-push-requires-then-new-ne-NONE-clause-room c = grind arith
+push-requires-then-new-ne-NONE-clause-room c = c.push-2.ensures.room
 
 pub returns-then-new-ne-NONE-clause-room : goal.returns-then-new-ne-NONE-clause-room
-returns-then-new-ne-NONE-clause-room c = grind arith
+returns-then-new-ne-NONE-clause-room c = c.push-then-new-ne-NONE.ensures.room
 
 pub returns-else-new-ne-NONE-clause-room : goal.returns-else-new-ne-NONE-clause-room
-returns-else-new-ne-NONE-clause-room c = grind arith
+returns-else-new-ne-NONE-clause-room c = c.push-2.ensures.room
 
 pub returns-then-old-eq-NONE-clause-room : goal.returns-then-old-eq-NONE-clause-room
-returns-then-old-eq-NONE-clause-room c = grind arith
+returns-then-old-eq-NONE-clause-room c = c.push.ensures.room
 
 pub push-requires-clause-room : goal.push-requires-clause-room
-push-requires-clause-room c = grind arith
+push-requires-clause-room c = c.requires.room
 
 pub push-requires-2-clause-room : goal.push-requires-2-clause-room
-push-requires-2-clause-room c = grind arith
+push-requires-2-clause-room c = c.requires.room
+
+pub push-requires-then-new-ne-NONE-clause-choice : goal.push-requires-then-new-ne-NONE-clause-choice
+push-requires-then-new-ne-NONE-clause-choice c = c.requires.new (omega (arith, c.if-new-ne-NONE.true, c.ranges.new.fits))
+
+pub push-requires-clause-choice : goal.push-requires-clause-choice
+push-requires-clause-choice c = c.requires.new (omega (arith, c.requires.apart, c.if-old-eq-NONE.true, c.ranges.new.fits))
+
+pub push-requires-2-clause-choice : goal.push-requires-2-clause-choice
+push-requires-2-clause-choice c = c.requires.old (omega (arith, c.if-old-eq-NONE.false, c.ranges.old.fits))
+
+pub push-requires-then-new-ne-NONE-clause-point : goal.push-requires-then-new-ne-NONE-clause-point
+push-requires-then-new-ne-NONE-clause-point c = c.requires.point

@@ -1,4 +1,5 @@
-use Rattle.std.proofs.Common.{◌≡◌, ℕ, Bool, ◌+◌, ◌-◌, ◌<◌, set, true, ap, ◌∙◌, arith, vec_len, Vec}
+use Rattle.std.proofs.lemmas.List.{get_or-set_same}
+use Rattle.std.proofs.Common.{◌≡◌, ℕ, Bool, ◌+◌, ◌-◌, ◌<◌, length, false, set, true, ap, ◌∙◌, arith, vec_len, Vec}
 use Rattle.std.specs.{Vec.{with_item}, declared.alloc.Global.{Global}}
 use Rattle.gs_model.specs.Frame.{point_count}
 use Rattle.gs_best.specs.Tables.{start_of}
@@ -111,3 +112,9 @@ pay_off-requires-clause-answer c = grind arith
 
 pub index_mut-requires-3 : goal.index_mut-requires-3
 index_mut-requires-3 c = grind arith
+
+pub returns-clause-turned : goal.returns-clause-turned
+returns-clause-turned c =
+    let turned = c.pay_off.new.answer.turned.items in
+    let long = ap (λ (v : Vec Bool Global). length v.items) c.pay_off.ensures.turned ∙ c.requires.answer.turned in
+    get_or-set_same turned c.args.point true false (omega (arith, long, c.requires.point))

@@ -1,5 +1,5 @@
 use Rattle.std.proofs.lemmas.Grind.{common_steps}
-use Rattle.std.proofs.{Common.{◌≡◌, ◌+◌, true, ap, ◌∙◌, arith, rules, to_z, of_z}, lemmas.Int.{ints, to_z-of_z}}
+use Rattle.std.proofs.{Common.{◌≡◌, ◌+◌, ◌^◌, ◌<◌, true, sym, subst, ap, ◌∙◌, arith, rules, to_z, of_z}, lemmas.Int.{ints, to_z-of_z}}
 use Rattle.std.specs.{Prelude.{ℤ, ◌-ℤ◌, ◌<ℤ◌, unsigned_abs}, Int.RustNames.{FitsSigned}, Int.Signed.{lt_z}}
 use mir.Syntax.{w128}
 use Rattle.gs_play.proofs.{Overtaking.{behind_by, slower_stays, within_by}, gap.behind.Goals.{After-above-gain}}
@@ -49,3 +49,13 @@ returns-then-slope-rise-clause-some c = grind arith
 
 pub within_gap-requires-clause-gap : goal.within_gap-requires-clause-gap
 within_gap-requires-clause-gap c = grind (arith, common_steps)
+
+pub above-gain-requires : goal.above-gain-requires
+above-gain-requires c =
+    subst (λ x. unsigned_abs (x -ℤ to_z w128 (of_z w128 c.args.slope)) < 2 ^ 120) (sym (to_z-of_z w128 c.args.rise c.ranges.rise))
+    (subst (λ x. unsigned_abs (c.args.rise -ℤ x) < 2 ^ 120) (sym (to_z-of_z w128 c.args.slope c.ranges.slope)) c.requires.gain)
+
+pub above-gap-requires : goal.above-gap-requires
+above-gap-requires c =
+    subst (λ x. unsigned_abs (x -ℤ to_z w128 (of_z w128 c.args.worth)) < 2 ^ 120) (sym (to_z-of_z w128 c.args.value c.ranges.value))
+    (subst (λ x. unsigned_abs (c.args.value -ℤ x) < 2 ^ 120) (sym (to_z-of_z w128 c.args.worth c.ranges.worth)) c.requires.gap)

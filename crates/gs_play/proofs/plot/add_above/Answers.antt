@@ -43,3 +43,12 @@ returns-clause-long c = omega (
   c.class_total-class-end.ensures.value,
   ap (class_count (lists_of c.args.form.now)) c.round_at.ensures.value,
 )
+
+pub returns-clause-above : goal.returns-clause-above
+returns-clause-above c = λ steps is all. c.loop-class.invariant.above steps is all
+
+pub cell_above-requires-clause-step : goal.cell_above-requires-clause-step
+cell_above-requires-clause-step c = c.requires.step
+
+pub cell_above-requires-clause-rows : goal.cell_above-requires-clause-rows
+cell_above-requires-clause-rows c = c.requires.rows

@@ -1,7 +1,8 @@
 use Rattle.std.proofs.{Common.{◌≡◌, List, ℕ, length, replicate, sym, ap, ◌∙◌, subst, arith, length-append}, lemmas.List.{length-replicate}}
 use Rattle.gs_model.specs.Classes.{class_count}
+use Rattle.gs_model.specs.Frame.{point_count}
 use Rattle.gs_seq.specs.Abstracts.{abstract_frame, lists_of}
-use Rattle.gs_best.specs.Tables.{classes_at}
+use Rattle.gs_best.specs.Tables.{classes_at, start_of}
 use Rattle.gs_best.proofs.PointStarts.{starts_more}
 use Rattle.gs_play.specs.Plots.{AreCells}
 use Rattle.gs_play.proofs.PlotLaws.{cells_more}
@@ -24,4 +25,7 @@ loop-point-preserved c =
     }
 
 pub returns-clause-long : goal.returns-clause-long
-returns-clause-long c = grind arith
+returns-clause-long c =
+    let f = abstract_frame c.args.form.now in
+    let all : c.loop-point.point ≡ point_count f = omega (arith, c.loop-point-test.false, c.loop-point.auto.point-end, c.point_total-point-end.ensures) in
+    c.loop-point.invariant.long ∙ ap (start_of f (lists_of c.args.form.now)) all

@@ -83,3 +83,15 @@ loop-point-preserved c =
       cell_is = cell at.After-class_total-classes r;
       worth_is = worth at.After-class_total-classes r;
     }
+
+pub returns-clause-worths : goal.returns-clause-worths
+returns-clause-worths c =
+    let f = abstract_frame c.args.form.now in
+    let all : c.loop-point.point ≡ point_count f = omega (arith, c.loop-point-test.false, c.loop-point.auto.point-end, c.point_total-point-end.ensures) in
+    c.loop-point.invariant.worth_is ∙ ap (worth_start f (lists_of c.args.form.now)) all
+
+pub returns-clause-rows : goal.returns-clause-rows
+returns-clause-rows c =
+    let f = abstract_frame c.args.form.now in
+    let all : c.loop-point.point ≡ point_count f = omega (arith, c.loop-point-test.false, c.loop-point.auto.point-end, c.point_total-point-end.ensures) in
+    subst (λ n. AreRowsBefore f (lists_of c.args.form.now) n c.loop-point.rows.items) all c.loop-point.invariant.rows

@@ -9,3 +9,6 @@ loop-end-preserved c = spans_more (abstract_frame c.args.form.now) c.loop-end.en
 
 pub widen-requires-in-loop-end-clause-spans : goal.widen-requires-in-loop-end-clause-spans
 widen-requires-in-loop-end-clause-spans c = grind arith
+
+pub widen-requires-clause-spans : goal.widen-requires-clause-spans
+widen-requires-clause-spans c = c.loop-end.invariant

@@ -18,3 +18,9 @@ begin_ends-requires-clause-other c = grind arith
 
 pub returns-clause-begun : goal.returns-clause-begun
 returns-clause-begun c = grind arith
+
+pub returns-clause-picks : goal.returns-clause-picks
+returns-clause-picks c = c.begin_ends.ensures.picks
+
+pub returns-clause-moved : goal.returns-clause-moved
+returns-clause-moved c = c.begin_ends.ensures.moved

@@ -1,10 +1,16 @@
-use Rattle.std.proofs.{Common.{◌≡◌, ◌-◌, ◌<◌, ◌^◌, ℕ, get_or, of_z, to_z, to_z-of_z, refl, ap, ◌∙◌, subst, arith}, lemmas.Int.{fits_signed_from_abs}}
-use Rattle.std.specs.Prelude.{ℤ, pos, unsigned_abs}
+use Rattle.std.proofs.{Common.{◌≡◌, ◌-◌, ◌<◌, ◌^◌, ℕ, get_or, of_z, to_z, to_z-of_z, refl, ap, ◌∙◌, sym, subst, arith}, lemmas.Int.{fits_signed_from_abs}}
+use Rattle.std.specs.{Prelude.{ℤ, pos, unsigned_abs}, Int.RustNames.{FitsSigned}}
 use mir.Syntax.{w128, w64}
 use Rattle.gs_model.specs.{Classes.{IsClass, class_count}, Frame.{round_of}, Positions.{at_end}}
 use Rattle.gs_play.specs.{Sides.{side_frame, side_lists}, Tallies.{IsTally, risen_at}}
 use Rattle.gs_play.proofs.{Pushed.{walked}, Risen.{adds_below, below_all, below_begun, below_more, risen_nowhere}, pushing.begin_end.Goals.{In-Some}}
 use Rattle.gs_play.proofs.pushing.begin_end.Goals as goal
+
+-- a small number that is read fits
+fits : (x : ℤ) → unsigned_abs x < 2 ^ 63 → FitsSigned w64 (to_z w128 (of_z w128 x))
+fits x l =
+    let wide : unsigned_abs x < 2 ^ 127 = omega (arith, l) in
+    subst (FitsSigned w64) (sym (to_z-of_z {w = w128} (fits_signed_from_abs w128 x wide))) (fits_signed_from_abs w64 x l)
 
 -- the round of the way is that of the end
 round : (c : In-Some) → c.in-Some.way.round ≡ round_of (side_frame c.args.side.now) (at_end c.args.end)
@@ -82,13 +88,30 @@ returns-clause-begun c =
     c.loop-class.tally c.loop-class.class all (c.loop-class.invariant.begun pays rise h)
 
 pub turn_end-requires-clause-room : goal.turn_end-requires-clause-room
-turn_end-requires-clause-room c = grind arith
+turn_end-requires-clause-room c = c.loop-class.invariant.room
 
 pub returns-clause-room : goal.returns-clause-room
-returns-clause-room c = grind arith
+returns-clause-room c = c.loop-class.invariant.room
 
 pub overflow_cast-more-in-loop-class : goal.overflow_cast-more-in-loop-class
-overflow_cast-more-in-loop-class c = grind arith
+overflow_cast-more-in-loop-class c =
+    let side = c.args.side.now in
+    let of_end : IsClass (side_lists side) (round_of (side_frame side) (at_end c.args.end)) c.loop-class.class = (
+      omega (arith, c.loop-class.auto.class),
+      omega (
+        arith,
+        c.loop-class-test.true,
+        c.class_total-class-end.ensures.value,
+        ap (class_count (side_lists side)) (round (goal.at.overflow_cast-more-in-loop-class c).In-Some),
+      ),
+    ) in
+    fits (get_or c.args.sums.now (c.loop-class.class - 1) (pos 0)) (c.requires.few c.loop-class.class of_end)
 
 pub bounds-sums-class : goal.bounds-sums-class
 bounds-sums-class c = grind arith
+
+pub returns-in_default-clause-room : goal.returns-in_default-clause-room
+returns-in_default-clause-room c = c.requires.room
+
+pub turn_end-requires-clause-way : goal.turn_end-requires-clause-way
+turn_end-requires-clause-way c = c.in-Some.ensures.way

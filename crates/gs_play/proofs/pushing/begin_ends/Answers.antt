@@ -115,4 +115,10 @@ returns-clause-begun c =
     (c.loop-end.invariant.begun h)
 
 pub begin_end-requires-clause-room : goal.begin_end-requires-clause-room
-begin_end-requires-clause-room c = grind arith
+begin_end-requires-clause-room c = c.loop-end.invariant.room
+
+pub end_sums-requires-clause-other : goal.end_sums-requires-clause-other
+end_sums-requires-clause-other c = c.requires.other
+
+pub returns-clause-room : goal.returns-clause-room
+returns-clause-room c = c.loop-end.invariant.room

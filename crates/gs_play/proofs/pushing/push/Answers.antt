@@ -152,3 +152,6 @@ end_step-requires c =
 
 pub push_end-requires-clause-end : goal.push_end-requires-clause-end
 push_end-requires-clause-end c = omega (arith, few (goal.at.push_end-requires-clause-end c).After-index-span, c.loop-end-test.true)
+
+pub push_end-requires-clause-point : goal.push_end-requires-clause-point
+push_end-requires-clause-point c = c.requires.point

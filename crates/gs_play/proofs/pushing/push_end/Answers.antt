@@ -97,3 +97,12 @@ returns-clause-room c = grind arith
 
 pub push_row-requires-clause-class : goal.push_row-requires-clause-class
 push_row-requires-clause-class c = grind arith
+
+pub returns-in_default-clause-room : goal.returns-in_default-clause-room
+returns-in_default-clause-room c = c.requires.room
+
+pub returns-clause-picks : goal.returns-clause-picks
+returns-clause-picks c = c.loop-class.invariant.picks
+
+pub returns-clause-moved : goal.returns-clause-moved
+returns-clause-moved c = c.loop-class.invariant.moved

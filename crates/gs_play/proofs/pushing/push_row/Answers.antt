@@ -61,3 +61,12 @@ turn_end-requires-clause-room c = grind arith
 
 pub returns-clause-room : goal.returns-clause-room
 returns-clause-room c = grind arith
+
+pub returns-clause-picks : goal.returns-clause-picks
+returns-clause-picks c = c.loop-pair.invariant.picks
+
+pub returns-clause-moved : goal.returns-clause-moved
+returns-clause-moved c = c.loop-pair.invariant.moved
+
+pub turn_end-requires-clause-way : goal.turn_end-requires-clause-way
+turn_end-requires-clause-way c = c.requires.way.way

@@ -29,3 +29,9 @@ returns-clause-turned c =
 
 pub returns-clause-room : goal.returns-clause-room
 returns-clause-room c = grind arith
+
+pub feed-requires-clause-room : goal.feed-requires-clause-room
+feed-requires-clause-room c = c.requires.room
+
+pub returns-then-more-eq0-clause-room : goal.returns-then-more-eq0-clause-room
+returns-then-more-eq0-clause-room c = c.requires.room

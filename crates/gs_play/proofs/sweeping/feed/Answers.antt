@@ -1,4 +1,4 @@
-use Rattle.std.proofs.{lemmas.Grind.{common_steps}, Common.{◌≡◌, ◌+◌, ◌-◌, ◌*◌, ◌<◌, length, set, refl, ap, ◌∙◌, arith}, lemmas.List.{get_or_default}}
+use Rattle.std.proofs.{lemmas.Grind.{common_steps}, Common.{◌≡◌, ◌+◌, ◌-◌, ◌*◌, ◌<◌, ℕ, List, length, set, refl, ap, ◌∙◌, arith}, lemmas.List.{get_or_default, length-set}}
 use Rattle.std.specs.Prelude.{◌+ℤ◌}
 use Rattle.gs_seq.specs.Abstracts.{abstract_frame, lists_of}
 use Rattle.gs_seq.proofs.Forms.{form_walked}
@@ -88,3 +88,22 @@ returns-clause-fed c =
 
 pub class_above-requires-clause-top : goal.class_above-requires-clause-top
 class_above-requires-clause-top c = grind (arith, common_steps)
+
+pub returns-clause-room : goal.returns-clause-room
+returns-clause-room c =
+    let t = c.args.tally.now in
+    let w = c.args.way.row in
+    let room = c.requires.room in
+    let due = c.set_due.ensures in
+    record {
+      worths = length-set t.worths.items (w.worth + ((c.class_above.result - 1) * w.moves + c.from.result)) c.sum.result ∙ room.worths;
+      totals = room.totals;
+      picks = room.picks;
+      turns = ap (λ (l : List ℕ). length l) due.turns ∙ length-set t.dues.turns.items (w.cell + (c.class_above.result - 1)) 0 ∙ room.turns;
+      dues = due.dues;
+      blocks = due.blocks ∙ room.blocks;
+      moved = room.moved;
+    }
+
+pub set_due-requires-clause-dues : goal.set_due-requires-clause-dues
+set_due-requires-clause-dues c = c.requires.room.dues

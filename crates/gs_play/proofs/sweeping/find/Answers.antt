@@ -4,8 +4,8 @@ use Rattle.gs_model.specs.Frame.{point_count}
 use Rattle.gs_seq.proofs.Forms.{form_moves}
 use Rattle.gs_best.specs.Tables.{start_of}
 use Rattle.gs_play.specs.{Plots.{IsCellOf}, Sides.{side_frame, side_lists}, Tallies.{IsPicked}}
-use Rattle.gs_play.proofs.{PlotLaws.{worths_few}, PlotRows.{cell_within, class_here, class_in, place_here, worths_within}, Tells.{tells_picked}}
-use Rattle.gs_play.proofs.sweeping.find.Goals.{Start}
+use Rattle.gs_play.proofs.{PlotLaws.{worths_few}, PlotRows.{cell_within, class_here, class_in, place_here, worths_within}, Tells.{tells_picked, tells_same}}
+use Rattle.gs_play.proofs.{Rooms.{room_added, room_chosen}, sweeping.find.Goals.{Start}}
 use Rattle.gs_play.proofs.sweeping.find.Goals as goal
 
 cell_is : (c : Start) → IsCellOf (side_frame c.args.side.now) (side_lists c.args.side.now) c.args.row.point c.args.cell
@@ -85,3 +85,19 @@ returns-else-row-side-clause-found c = grind arith
 
 pub returns-then-row-side-clause-found : goal.returns-then-row-side-clause-found
 returns-then-row-side-clause-found c = grind arith
+
+pub returns-then-row-side-clause-room : goal.returns-then-row-side-clause-room
+returns-then-row-side-clause-room c =
+    let s = c.args.side.now in
+    room_chosen (side_frame s) (side_lists s) _ c.args.row.point c.args.cell c.args.now c.args.last c.args.tally.now c.choose.new.tally c.requires.room
+    c.choose.ensures.worths c.choose.ensures.dues c.choose.ensures.blocks c.choose.ensures.found
+
+pub returns-else-row-side-clause-room : goal.returns-else-row-side-clause-room
+returns-else-row-side-clause-room c =
+    let s = c.args.side.now in
+    room_added (side_frame s) (side_lists s) _ c.args.cell c.args.last c.args.tally.now c.add_up.new.tally c.requires.room
+    c.add_up.ensures.worths c.add_up.ensures.dues c.add_up.ensures.blocks c.add_up.ensures.moved c.add_up.ensures.found
+
+pub returns-else-row-side-clause-tells : goal.returns-else-row-side-clause-tells
+returns-else-row-side-clause-tells c = tells_same (side_frame c.args.side.now) (side_lists c.args.side.now) c.args.tally.now c.add_up.new.tally
+    (c.add_up.ensures.found.picks) c.add_up.ensures.moved

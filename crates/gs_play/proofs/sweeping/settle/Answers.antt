@@ -7,7 +7,7 @@ use Rattle.gs_best.proofs.PointStarts.{starts_few}
 use Rattle.gs_best.specs.Tables.{start_of}
 use Rattle.gs_play.specs.{Lines.{flat, line_at, wrapped}, Plots.{HasNoWay, IsCellOf, LeadsTo}, Sides.{side_frame, side_lists}, Tallies.{at_part, slope_part}}
 use Rattle.gs_play.specs.{declared.line.Line.{Line}, declared.side.Side.{Side}}
-use Rattle.gs_play.proofs.{PlotRows.{cell_within, class_in}, Settle.{fed_behind, fed_kept, fed_later, found_later, nowhere_kept, same_kept}}
+use Rattle.gs_play.proofs.{PlotRows.{cell_within, class_in}, Settle.{fed_behind, fed_kept, fed_later, found_behind, found_later, nowhere_kept, same_kept}}
 use Rattle.gs_play.proofs.{Tells.{tells_next, tells_same}, Wrapped.{wrapped_twice}, sweeping.settle.Goals.{After-index-2, In-Some, Start}}
 use Rattle.gs_play.proofs.sweeping.settle.Goals as goal
 
@@ -144,13 +144,34 @@ returns-in_default-clause-later c =
     c.args.row c.requires.row (has (goal.at.returns-in_default-clause-later c).Start) c.args.tally.now c.find.new.tally c.requires.room c.find.ensures.found
 
 pub returns-in-Some-clause-room : goal.returns-in-Some-clause-room
-returns-in-Some-clause-room c = grind arith
+returns-in-Some-clause-room c = c.feed.ensures.room
 
 pub feed-requires-clause-room : goal.feed-requires-clause-room
-feed-requires-clause-room c = grind arith
+feed-requires-clause-room c = c.find.ensures.room
 
 pub returns-in_default-clause-room : goal.returns-in_default-clause-room
-returns-in_default-clause-room c = grind arith
+returns-in_default-clause-room c = c.find.ensures.room
 
 pub returns-then-eq-clause-room : goal.returns-then-eq-clause-room
-returns-then-eq-clause-room c = grind arith
+returns-then-eq-clause-room c = c.find.ensures.room
+
+pub returns-then-eq-clause-behind : goal.returns-then-eq-clause-behind
+returns-then-eq-clause-behind c =
+    let s = c.args.side.now in
+    found_behind (side_frame s) (side_lists s) s.player (walked s) c.args.now c.args.last c.requires.order c.requires.turns c.args.cell
+    c.args.row c.requires.row (has (goal.at.returns-then-eq-clause-behind c).Start) c.args.tally.now c.find.new.tally c.requires.room c.find.ensures.found
+
+pub returns-then-eq-clause-tells : goal.returns-then-eq-clause-tells
+returns-then-eq-clause-tells c = c.find.ensures.tells
+
+pub returns-in_default-clause-behind : goal.returns-in_default-clause-behind
+returns-in_default-clause-behind c =
+    let s = c.args.side.now in
+    found_behind (side_frame s) (side_lists s) s.player (walked s) c.args.now c.args.last c.requires.order c.requires.turns c.args.cell
+    c.args.row c.requires.row (has (goal.at.returns-in_default-clause-behind c).Start) c.args.tally.now c.find.new.tally c.requires.room c.find.ensures.found
+
+pub returns-in_default-clause-tells : goal.returns-in_default-clause-tells
+returns-in_default-clause-tells c = c.find.ensures.tells
+
+pub find-requires-clause-room : goal.find-requires-clause-room
+find-requires-clause-room c = c.requires.room

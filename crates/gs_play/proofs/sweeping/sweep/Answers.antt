@@ -48,3 +48,12 @@ loop-block-preserved c =
       tells = was.tells;
       kept = was.kept;
     }
+
+pub sweep_block-requires-clause-room : goal.sweep_block-requires-clause-room
+sweep_block-requires-clause-room c = c.loop-block.invariant.room
+
+pub sweep_block-requires-clause-behind : goal.sweep_block-requires-clause-behind
+sweep_block-requires-clause-behind c = λ k lo hi. c.loop-block.invariant.none k (omega (arith, lo, c.loop-block-test.true)) hi
+
+pub returns-clause-room : goal.returns-clause-room
+returns-clause-room c = c.loop-block.invariant.room

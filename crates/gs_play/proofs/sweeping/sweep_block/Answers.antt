@@ -85,7 +85,7 @@ pub past_due-left-requires-in-loop-left-clause-behind : goal.past_due-left-requi
 past_due-left-requires-in-loop-left-clause-behind c = grind arith
 
 pub sweep_row-requires-clause-room : goal.sweep_row-requires-clause-room
-sweep_row-requires-clause-room c = grind arith
+sweep_row-requires-clause-room c = c.loop-left.invariant.room
 
 pub sweep_row-requires-clause-behind : goal.sweep_row-requires-clause-behind
 sweep_row-requires-clause-behind c = grind arith
@@ -105,3 +105,6 @@ index-row-requires c =
     let at = point_at (side_frame s) (side_lists s) s.plot.now s.plotted (c.loop-left.left - 1) c.index.result.now
     (omega (arith, c.loop-left.invariant.few, c.loop-left-test.true, c.loop-left.invariant.room.totals)) c.index.ensures in
     omega (arith, at.inside, s.plotted.many)
+
+pub returns-clause-tells : goal.returns-clause-tells
+returns-clause-tells c = c.loop-left.invariant.tells

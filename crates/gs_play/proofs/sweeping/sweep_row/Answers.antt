@@ -38,7 +38,7 @@ loop-cell-preserved-then-index-now c =
     }
 
 pub settle-requires-clause-room : goal.settle-requires-clause-room
-settle-requires-clause-room c = grind arith
+settle-requires-clause-room c = c.loop-cell.invariant.room
 
 pub loop-cell-preserved : goal.loop-cell-preserved
 loop-cell-preserved c =
@@ -58,3 +58,9 @@ loop-cell-preserved c =
       tells = was.tells;
       kept = was.kept;
     }
+
+pub returns-clause-room : goal.returns-clause-room
+returns-clause-room c = c.loop-cell.invariant.room
+
+pub returns-clause-settled : goal.returns-clause-settled
+returns-clause-settled c = λ k lo hi. c.loop-cell.invariant.none k (omega (arith, lo, c.loop-cell-test.false)) hi

@@ -1,4 +1,4 @@
-use Rattle.std.proofs.Common.{◌≡◌, ◌+◌, ◌-◌, List, take, drop, set, ap, ◌∙◌, subst, arith}
+use Rattle.std.proofs.Common.{◌≡◌, ◌+◌, ◌-◌, List, length, take, drop, set, ap, ◌∙◌, subst, arith}
 use Rattle.gs_play.specs.{Tallies.{IsChosen}, declared.line.Line.{Line}, declared.dues.Dues.{Dues}, declared.tally.Tally.{Tally}}
 use Rattle.gs_play.proofs.Chosen.{written}
 use Rattle.gs_play.proofs.tally.choose.Goals as goal
@@ -23,3 +23,9 @@ returns-clause-found c =
     (ap (λ v. v.items) c.pick.ensures.totals)
     (let h = c.pick.ensures.picked in record { picks = h.picks; long = h.long; here = h.here; others = h.others })
     (c.set_due.ensures.turns ∙ ap (λ (d : Dues). set d.turns.items a.cell until.result) c.pick.ensures.dues))
+
+pub returns-clause-blocks : goal.returns-clause-blocks
+returns-clause-blocks c = c.set_due.ensures.blocks ∙ ap (λ (d : Dues). length d.soonest.items) c.pick.ensures.dues
+
+pub returns-clause-dues : goal.returns-clause-dues
+returns-clause-dues c = c.set_due.ensures.dues

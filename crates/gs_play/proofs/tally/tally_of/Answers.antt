@@ -1,4 +1,4 @@
-use Rattle.std.proofs.{Common.{◌≡◌, ℕ, List, Bool, false, get_or, length, sym, ap, ◌∙◌, arith, rules, true≢false}, lemmas.List.{length-replicate}}
+use Rattle.std.proofs.{Common.{◌≡◌, ℕ, List, Bool, false, get_or, length, sym, ap, ◌∙◌, rules, true≢false}, lemmas.List.{length-replicate}}
 use Rattle.std.specs.Int.{div_ceil}
 use Rattle.gs_model.specs.Frame.{point_count}
 use Rattle.gs_best.specs.Tables.{start_of}
@@ -9,15 +9,15 @@ use Rattle.gs_play.proofs.tally.tally_of.Goals as goal
 pub returns-clause-room : goal.returns-clause-room
 returns-clause-room c = λ f lists h.
     let p = c.args.plot.now in
-    let cells : c.len-cells.result ≡ start_of f lists (point_count f) = omega (arith, c.len-cells.ensures, h.long, p.points.ok.0) in
+    let cells : c.len-cells.result ≡ start_of f lists (point_count f) = c.len-cells.ensures ∙ p.points.ok.0 ∙ h.long in
     record {
-      worths = omega (arith, c.in_ok-worths.ensures.len, c.in_ok-worths.worths.ok.0, h.worths);
-      totals = omega (arith, c.in_ok-totals.ensures.len, c.in_ok-totals.totals.ok.0, cells);
-      picks = omega (arith, c.in_ok-picks.ensures.len, c.in_ok-picks.picks.ok.0, cells);
+      worths = sym c.in_ok-worths.worths.ok.0 ∙ c.in_ok-worths.ensures.len ∙ h.worths;
+      totals = sym c.in_ok-totals.totals.ok.0 ∙ c.in_ok-totals.ensures.len ∙ cells;
+      picks = sym c.in_ok-picks.picks.ok.0 ∙ c.in_ok-picks.ensures.len ∙ cells;
       turns = ap (λ (l : List ℕ). length l) c.in_ok-dues.ensures.turns ∙ length-replicate c.len-cells.result 0 ∙ cells;
       dues = c.in_ok-dues.ensures.dues;
       blocks = c.in_ok-dues.ensures.blocks ∙ ap (λ n. div_ceil n 64) cells;
-      moved = omega (arith, c.in_ok-moved.ensures.len, c.in_ok-moved.moved.ok.0, c.len.ensures, h.many, p.rows.ok.0);
+      moved = sym c.in_ok-moved.moved.ok.0 ∙ c.in_ok-moved.ensures.len ∙ c.len.ensures ∙ p.rows.ok.0 ∙ h.many;
     }
 
 pub returns-clause-clear : goal.returns-clause-clear

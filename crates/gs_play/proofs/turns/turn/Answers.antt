@@ -53,16 +53,16 @@ returns-clause-playing c =
     c.renew.ensures.plan c.renew-2.ensures.plan
 
 pub renew-requires-2-clause-own : goal.renew-requires-2-clause-own
-renew-requires-2-clause-own c = grind arith
+renew-requires-2-clause-own c = c.sweep-2.ensures.room
 
 pub renew-requires-2-clause-room : goal.renew-requires-2-clause-room
-renew-requires-2-clause-room c = grind arith
+renew-requires-2-clause-room c = c.renew.ensures.own
 
 pub renew-requires-2-clause-answer : goal.renew-requires-2-clause-answer
-renew-requires-2-clause-answer c = grind arith
+renew-requires-2-clause-answer c = c.requires.playing.seat_two.answer
 
 pub sweep-requires-2-clause-room : goal.sweep-requires-2-clause-room
-sweep-requires-2-clause-room c = grind arith
+sweep-requires-2-clause-room c = c.renew.ensures.room
 
 pub next_turn-requires-clause-one : goal.next_turn-requires-clause-one
 next_turn-requires-clause-one c = grind arith
@@ -81,3 +81,15 @@ renew-requires-clause-own c = grind arith
 
 pub renew-requires-clause-room : goal.renew-requires-clause-room
 renew-requires-clause-room c = grind arith
+
+pub next_turn-requires-clause-order : goal.next_turn-requires-clause-order
+next_turn-requires-clause-order c = c.requires.order
+
+pub sweep-requires-clause-room : goal.sweep-requires-clause-room
+sweep-requires-clause-room c = c.requires.playing.seat_one.room
+
+pub returns-clause-later : goal.returns-clause-later
+returns-clause-later c = c.next_turn.ensures.later
+
+pub returns-clause-most : goal.returns-clause-most
+returns-clause-most c = c.next_turn.ensures.most

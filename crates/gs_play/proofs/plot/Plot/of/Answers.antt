@@ -1,11 +1,14 @@
-use Rattle.std.proofs.lemmas.Grind.{common_steps}
 use Rattle.std.proofs.{Common.{◌≡◌, List, Option, None, length, get_or, replicate, sym, ap, ◌∙◌, subst, arith, rules}, lemmas.List.{with_items_is}}
 use Rattle.gs_game.specs.declared.positions.Step.{Step as StoredStep}
 use Rattle.gs_model.specs.{Frame.{end_count, point_count}, Positions.{at_end, at_point}}
-use Rattle.gs_seq.specs.Abstracts.{abstract_frame}
-use Rattle.gs_play.specs.{Plots.{AreSpans, AreMovesNoted, MatchMove}, declared.plot.Span.{Span}}
-use Rattle.gs_play.proofs.{PlotLaws.{ways_match, ways_none}, plot.Plot.of.Goals.{In_ok-to_ends, In_ok-to_points}}
+use Rattle.gs_seq.specs.Abstracts.{abstract_frame, lists_of}
+use Rattle.gs_play.specs.{Plots.{AreRowsBefore, AreSpans, AreMovesNoted, MatchMove, span_in}, declared.plot.Row.{Row}, declared.plot.Span.{Span}}
+use Rattle.gs_play.proofs.{PlotLaws.{no_ends_in, ways_match, ways_none}, plot.Plot.of.Goals.{In_ok-spans, In_ok-to_ends, In_ok-to_points}}
 use Rattle.gs_play.proofs.plot.Plot.of.Goals as goal
+
+-- no span has an end yet
+no_spans : (c : In_ok-spans) → c.in_ok-spans.spans.items ≡ replicate c.point_total-points.result (record { first = 4294967295; stop = 0 })
+no_spans c = c.in_ok-spans.ensures.items_if_clones_equal (λ y k. search rules)
 
 no_points : (c : In_ok-to_points) → c.in_ok-to_points.to_points.items ≡ replicate c.point_total-points.result None
 no_points c = c.in_ok-to_points.ensures.items_if_clones_equal (λ y k. search rules)
@@ -59,10 +62,26 @@ returns c =
     }
 
 pub widen_all-requires : goal.widen_all-requires
-widen_all-requires c = grind (arith, common_steps)
+widen_all-requires c =
+    let at = goal.at.widen_all-requires c in
+    let is = c.deref_mut-3.ensures.value ∙ no_spans at.In_ok-spans in
+    record {
+      none = record {
+        long = omega (arith, c.deref_mut-3.ensures.len, c.in_ok-spans.ensures.len, c.point_total-points.ensures);
+        within = λ q lq. omega (arith, ap (λ (spans : List Span). (span_in spans q).stop) is, no_ends_in c.point_total-points.result q 4294967295);
+        all = λ z player lz. absurd (omega (arith, lz));
+      };
+    }
 
 pub gates_of-requires-clause-rows : goal.gates_of-requires-clause-rows
-gates_of-requires-clause-rows c = grind arith
+gates_of-requires-clause-rows c = subst (λ (rows : List Row). AreRowsBefore (abstract_frame c.args.form.now) (lists_of c.args.form.now) (point_count (abstract_frame c.args.form.now)) rows)
+    (sym c.deref.ensures.value) c.in_ok-rows.ensures.rows
 
 pub gates_of-requires-clause-long_rows : goal.gates_of-requires-clause-long_rows
-gates_of-requires-clause-long_rows c = grind arith
+gates_of-requires-clause-long_rows c = ap (λ (rows : List Row). length rows) c.deref.ensures.value ∙ c.in_ok-rows.ensures.many
+
+pub lay_all-requires-clause-points : goal.lay_all-requires-clause-points
+lay_all-requires-clause-points c = omega (arith, c.deref_mut.ensures.len, c.in_ok-to_points.ensures.len, c.point_total-points.ensures)
+
+pub lay_all-requires-clause-ends : goal.lay_all-requires-clause-ends
+lay_all-requires-clause-ends c = omega (arith, c.deref_mut-2.ensures.len, c.in_ok-to_ends.ensures.len, c.end_total.ensures)

@@ -1,0 +1,10 @@
+use Rattle.gs_play.proofs.turns.first_plans.Goals as goal
+
+pub returns-clause-played : goal.returns-clause-played
+returns-clause-played c = (c.in_ok-one.ensures.first, c.in_ok-two.ensures.first)
+
+pub returns-clause-one : goal.returns-clause-one
+returns-clause-one c = c.in_ok-one.ensures.plan
+
+pub returns-clause-two : goal.returns-clause-two
+returns-clause-two c = c.in_ok-two.ensures.plan
