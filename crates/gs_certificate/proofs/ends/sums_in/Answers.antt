@@ -1,5 +1,5 @@
-use Rattle.std.proofs.lemmas.Grind.{common_steps}
-use Rattle.std.proofs.{Common.{◌≡◌, ℕ, ◌+◌, ◌-◌, ◌<◌, ◌≤◌, ◌∷◌, [], ◌++◌, length, take, sym, ap, ◌∙◌, subst, arith}, lemmas.List.{get_or-take, length-take-le}}
+use Rattle.std.proofs.Common.{◌≡◌, ℕ, ◌+◌, ◌-◌, ◌<◌, ◌≤◌, ◌∷◌, [], ◌++◌, length, take, sym, ap, ◌∙◌, subst, arith}
+use Rattle.std.proofs.lemmas.List.{get_or-take, length-take-le}
 use Rattle.std.specs.Prelude.{pos}
 use Rattle.gs_model.specs.{Classes.{class_count}, Frame.{end_count, round_of}, Positions.{at_end}}
 use Rattle.gs_seq.specs.Plans.{class_plan}
@@ -70,7 +70,14 @@ returns c =
     subst (λ n. AreKept f ls d.player (class_plan f ls d.other.now) n c.loop-end.starts.items c.loop-end.sums.items) all c.loop-end.invariant
 
 pub slice_bounds-extend_from_slice-end-in-loop-end : goal.slice_bounds-extend_from_slice-end-in-loop-end
-slice_bounds-extend_from_slice-end-in-loop-end c = grind (arith, common_steps)
+slice_bounds-extend_from_slice-end-in-loop-end c =
+    let d = c.args.side.now in
+    let n = c.class_total-count.result in
+    let paid = c.end_sums.new.sums in
+    let count : n ≡ class_count (lists_at d) (round_of (frame_at d) (at_end c.loop-end.end)) =
+    c.class_total-count.ensures.value ∙ ap (class_count (lists_at d)) c.end_round.ensures.value in
+    let fits = fitting (goal.at.slice_bounds-extend_from_slice-end-in-loop-end c).In-loop-end _ c.requires.row in
+    sym (length-take-le n paid (omega (arith, count, fits, c.loop-end.auto.row, c.end_sums.auto.sums)))
 
 pub slice_bounds-extend_from_slice-end : goal.slice_bounds-extend_from_slice-end
 slice_bounds-extend_from_slice-end c = grind arith

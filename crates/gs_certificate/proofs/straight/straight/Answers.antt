@@ -1,4 +1,4 @@
-use Rattle.std.proofs.{Common.{arith, sym, ◌∙◌}, lemmas.Bool.{eqb-true}, lemmas.List.{nil_from_length}}
+use Rattle.std.proofs.{Common.{sym, ◌∙◌}, lemmas.Bool.{eqb-true}, lemmas.List.{nil_from_length}}
 use Rattle.gs_certificate.specs.Views.{fraction_parts}
 use Rattle.gs_certificate.proofs.PlainTexts.{stands}
 use Rattle.gs_certificate.proofs.straight.straight.Goals as goal
@@ -18,4 +18,4 @@ returns-clause-text c =
     (nil_from_length c.in_ok-rest-3.rest.now (eqb-true _ 0 (sym c.is_empty.ensures ∙ c.if-not-is_empty.false)))
 
 pub returns-clause-small : goal.returns-clause-small
-returns-clause-small c = grind arith
+returns-clause-small c = record { one = c.in_ok-one.ensures.small; two = c.in_ok-two.ensures.small }

@@ -3,7 +3,7 @@ use Rattle.std.specs.{Prelude.{◌+ℤ◌, unsigned_abs}, List.{range_with_len}}
 use mir.Syntax.{w128}
 use mir.Val.{to_z}
 use Rattle.gs_game.specs.Seen.{target_of}
-use Rattle.gs_model.specs.Classes.{class_size}
+use Rattle.gs_model.specs.{Classes.{class_size}, Sums.{sum_z}}
 use Rattle.gs_model.proofs.Sparse.{abs_sum}
 use Rattle.gs_best.specs.Sides.{lists_at}
 use Rattle.gs_best.proofs.Ranges.{run_step}
@@ -52,3 +52,18 @@ returns-clause-small c =
     let r = way_round k.side c.args.way c.requires.way in
     let all = mul-le-mul_right (2 ^ 90) (sizes_few k.side c.args.way.round r.0 r.1 c.args.first (c.loop-class.class - c.args.first)) in
     omega (arith, c.loop-class.invariant.within, all)
+
+pub loop-class-init : goal.loop-class-init
+loop-class-init c =
+    let k = c.args.claim.now in
+    let none : 0 ≡ c.args.first - c.args.first = omega arith in
+    record {
+      sum_is = ap (λ n. sum_z (claimed_totals k (target_of c.args.way.to)) (range_with_len c.args.first n)) none;
+      within = omega arith;
+    }
+
+pub returns-clause-value : goal.returns-clause-value
+returns-clause-value c =
+    let all : c.loop-class.class ≡ c.args.end = omega (arith, c.loop-class-test.false, c.loop-class.auto.class-end, c.requires.ordered) in
+    c.loop-class.invariant.sum_is
+    ∙ ap (λ n. sum_z (claimed_totals c.args.claim.now (target_of c.args.way.to)) (range_with_len c.args.first (n - c.args.first))) all

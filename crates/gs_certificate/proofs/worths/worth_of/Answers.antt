@@ -63,3 +63,10 @@ returns-else-spot-to-clause-value c =
     let at = (goal.at.returns-else-spot-to-clause-value c).After-from in
     read_back c.total_below.result _ (record { sfits = c.total_below.type_inv }) c.total_below.ensures.value
     ∙ worth_at c.args.spot.now (to at) (way at) c.args.choice c.args.class (leads at)
+
+pub returns-else-spot-to-clause-small : goal.returns-else-spot-to-clause-small
+returns-else-spot-to-clause-small c = omega (
+  arith,
+  ap unsigned_abs (read_back c.total_below.result c.total_below.result (record { sfits = c.total_below.type_inv }) refl),
+  c.total_below.ensures.small,
+)
