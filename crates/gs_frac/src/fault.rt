@@ -21,11 +21,12 @@ impl fmt::Display for FracFault {
     ghost output = { λ e. Some (fault_text e) };
 
     fn fmt<W: fmt::Write>(&self, f: &mut fmt::Formatter<W>) -> fmt::Result {
-        match self {
-            FracFault::NotFraction => write!(f, "not a fraction"),
-            FracFault::TooWide => write!(f, "too wide"),
-            FracFault::NotReduced => write!(f, "not reduced"),
-        }
+        let text = match self {
+            FracFault::NotFraction => "not a fraction",
+            FracFault::TooWide => "too wide",
+            FracFault::NotReduced => "not reduced",
+        };
+        f.write_str(text)
     }
 }
 
