@@ -29,9 +29,6 @@ module _ {p : Program} {grid : ℕ → ℕ → ℤ} {R : ℕ → ℕ → ℤ} {a
         down_narrow m.0 (table_aim p grid j) (a j) m.1 (m.2 j (omega arith)) (omega (arith, h, flipped_abs p.cols (grid p.rows) j))),
   )
 
-  pub row_zero_kept : (i j : ℕ) → i < p.rows → j ≤ p.cols → R i j ≡ pos 0 → grid i j ≡ pos 0
-  row_zero_kept i j im jn z = let m = (kept.rows_kept i im).by in up_zero m.0 (grid i j) (R i j) (m.2 j (omega arith)) z
-
   pub aim_zero_kept : (j : ℕ) → j ≤ p.cols → a j ≡ pos 0 → table_aim p grid j ≡ pos 0
   aim_zero_kept j jn z = let m = kept.aim_kept.by in up_zero m.0 (table_aim p grid j) (a j) (m.2 j (omega arith)) z
 

@@ -36,6 +36,5 @@ pub mod Slots
 pub mod Starts
 pub mod Choosing
 pub mod Paths
-pub mod Checks
 pub mod Ends
 pub mod Traces

@@ -13,6 +13,5 @@ pub mod Choice
 pub mod State
 pub mod Values
 pub mod Answer
-pub mod Conditions
 pub mod Laws
 pub mod Trace

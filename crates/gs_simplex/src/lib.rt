@@ -62,6 +62,3 @@ pub fn trace(
 {
     sparse::Program::of(alloc, p)?.trace(alloc, opening, limit)
 }
-
-#[cfg(test)]
-mod tests;

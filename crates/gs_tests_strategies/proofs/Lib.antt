@@ -1,2 +1,3 @@
 mod Sample
 mod Rowless
+mod Checks

@@ -76,7 +76,7 @@ fn stated(alloc: Global) -> Result<Program, AllocError> {
 }
 
 /// Returns the pairs of a text that has one number after the other.
-fn pairs_in(alloc: Global, text: &str) -> Result<Vec<(u32, u32)>, AllocError> {
+pub(crate) fn pairs_in(alloc: Global, text: &str) -> Result<Vec<(u32, u32)>, AllocError> {
     let mut pairs = Vec::new(alloc);
     for pair in numbers_in::<u32>(alloc, text)?.chunks_exact(2) {
         if let [row, column] = pair {

@@ -1,7 +1,10 @@
-//! Tests of sequence forms, of verdicts and of best responses (here called best answers), of fractions and exact solutions, of sources and sinks, and of the
-//! lines of limits, through the public calls of `gs_seq`, `gs_best`, `gs_raw`, `gs_frac`, `gs_solve`, `gs_simplex`, `gs_io` and `gs_reply`.
+//! Tests of sequence forms, of verdicts and of best responses (here called best answers), of fractions, paths of linear programs and exact solutions, of
+//! sources and sinks, and of the lines of limits, through the public calls of `gs_seq`, `gs_best`, `gs_raw`, `gs_frac`, `gs_solve`, `gs_simplex`, `gs_io` and
+//! `gs_reply`.
 #![tactic(auto)]
 
+#[cfg(test)]
+mod elimination;
 #[cfg(test)]
 mod ends;
 #[cfg(test)]
@@ -12,6 +15,12 @@ mod fractions;
 mod leduc;
 #[cfg(test)]
 mod limits;
+#[cfg(test)]
+mod openings;
+#[cfg(test)]
+mod path_cases;
+#[cfg(test)]
+mod paths;
 #[cfg(test)]
 mod programs;
 #[cfg(test)]
