@@ -149,3 +149,26 @@ negated a r h e =
     let q : unsigned_abs (pos 0 -ℤ a) ≡ unsigned_abs a = omega (arith, ints) in
     ap (λ t. to_z w128 (of_z w128 (pos 0 -ℤ t))) (widened a r h e) ∙ kept_128 (pos 0 -ℤ a) (omega (arith, h))
     ∙ (let s : pos 0 -ℤ a ≡ neg_ℤ a = omega (arith, ints) in s)
+
+-- both fit 128 bits
+abs_turned : (a : ℤ) → unsigned_abs (pos 0 -ℤ a) ≡ unsigned_abs a
+abs_turned a = omega (arith, ints)
+
+abs_negated : (a : ℤ) → unsigned_abs (neg_ℤ a) ≡ unsigned_abs a
+abs_negated a = omega (arith, ints)
+
+in_127 : (n : ℕ) → n < 2 ^ 62 → n < 2 ^ 127
+in_127 n h = omega (arith, h)
+
+pub widened_fits : (a r : ℤ) → unsigned_abs a < 2 ^ 62 → r ≡ to_z w64 (of_z w64 a) → unsigned_abs (to_z w128 (of_z w128 r)) < 2 ^ 127
+widened_fits a r h e = subst (λ t. unsigned_abs t < 2 ^ 127) (sym (widened a r h e)) (in_127 (unsigned_abs a) h)
+
+pub negated_fits : (a r : ℤ) → unsigned_abs a < 2 ^ 62 → r ≡ to_z w64 (of_z w64 a)
+    → unsigned_abs (to_z w128 (of_z w128 (pos 0 -ℤ to_z w128 (of_z w128 r)))) < 2 ^ 127
+negated_fits a r h e =
+    subst (λ t. unsigned_abs t < 2 ^ 127) (sym (negated a r h e)) (subst (λ n. n < 2 ^ 127) (sym (abs_negated a)) (in_127 (unsigned_abs a) h))
+
+pub negation_fits : (a r : ℤ) → unsigned_abs a < 2 ^ 62 → r ≡ to_z w64 (of_z w64 a) → FitsSigned w128 (pos 0 -ℤ to_z w128 (of_z w128 r))
+negation_fits a r h e =
+    subst (λ t. FitsSigned w128 (pos 0 -ℤ t)) (sym (widened a r h e))
+    (fits_signed_from_abs w128 (pos 0 -ℤ a) (subst (λ n. n < 2 ^ 127) (sym (abs_turned a)) (in_127 (unsigned_abs a) h)))

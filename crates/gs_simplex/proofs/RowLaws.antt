@@ -85,6 +85,28 @@ climb w b x h =
 both_zero : (c x p q : ℤ) → x ≡ p +ℤ c *ℤ q → p ≡ pos 0 → q ≡ pos 0 → x ≡ pos 0
 both_zero c x p q e f g = let h : c *ℤ q ≡ pos 0 = ap (λ t. c *ℤ t) g ∙ times_zero c in omega (arith, linear)
 
+-- signs of sums and of equal numbers
+above_sum : (x y z : ℤ) → x ≡ y +ℤ z → z ≡ pos 0 → pos 0 <ℤ y → pos 0 <ℤ x
+above_sum x y z e f h = omega (arith, linear)
+
+both_up : (x y : ℤ) → pos 0 ≤ℤ x → pos 0 ≤ℤ y → pos 0 ≤ℤ (x +ℤ y)
+both_up x y h k = omega (arith, linear)
+
+and_zero : (x y z : ℤ) → x ≡ y → z ≡ pos 0 → x +ℤ z ≡ y
+and_zero x y z e f = omega (arith, linear)
+
+same_up : (x y : ℤ) → x ≡ y → pos 0 ≤ℤ y → pos 0 ≤ℤ x
+same_up x y e h = omega (arith, linear)
+
+above_up : (x : ℤ) → pos 0 <ℤ x → pos 0 ≤ℤ x
+above_up x h = omega (arith, linear)
+
+turned_up : (x : ℤ) → x ≤ℤ pos 0 → pos 0 ≤ℤ neg_ℤ x
+turned_up x h = omega (arith, linear)
+
+pos_up : (n : ℕ) → pos 0 ≤ℤ pos n
+pos_up n = omega (arith, ints)
+
 module _ {m n : ℕ} {A : ℕ → ℕ → ℤ} {aim a : ℕ → ℤ} {Free : ℕ → Type 0} {col : ℕ → ℕ} {R : ℕ → ℕ → ℤ} where
   module _ {D : ℤ} {v : ℕ → ℤ} {e : ℕ} {C : ℤ} {u : ℕ → ℤ} where
     unbounded_from : IsState m n A aim Free col R a → IsUnboundedAt m n Free col R a e → IsBasic m n A col D v → IsDirection m n A col R e C u → (N : ℤ)
@@ -95,34 +117,34 @@ module _ {m n : ℕ} {A : ℕ → ℕ → ℤ} {aim a : ℕ → ℤ} {Free : ℕ
         let ue : u e ≡ C = d.rises in
         let side0 : u n ≡ neg_ℤ (pos 0) = d.side in
         let f : a (suc n) *ℤ X ≡ a e *ℤ u e +ℤ pos 0 *ℤ a n = aim_at_two col (pos 0) e st.aim_row.2 d.killed side0 un.column d.outside in
-        let rise : pos 0 <ℤ (a e *ℤ u e) = times_pos (a e) (u e) un.rises (omega (arith, linear)) in
-        let Xp : pos 0 <ℤ X = cancel_pos (a (suc n)) X st.aim_row.2.multiple (omega (arith, linear, zero_times (a n))) in
+        let rise : pos 0 <ℤ (a e *ℤ u e) = times_pos (a e) (u e) un.rises (subst (λ t. pos 0 <ℤ t) (sym ue) Cp) in
+        let Xp : pos 0 <ℤ X = cancel_pos (a (suc n)) X st.aim_row.2.multiple (above_sum (a (suc n) *ℤ X) (a e *ℤ u e) (pos 0 *ℤ a n) f (zero_times (a n)) rise) in
         let h = climb (sum_to n (λ j. aim j *ℤ v j)) (N *ℤ D) X Xp in
         let c : ℤ = pos h.0 in
-        let c0 : pos 0 ≤ℤ c = omega (arith, ints) in
+        let c0 : pos 0 ≤ℤ c = pos_up h.0 in
         let up_u : (j : ℕ) → j < n → (Free j → ⊥) → pos 0 ≤ℤ u j = λ j jn bound. elim (cases_eq j e) [
-          | inl s ↦ (let q : u j ≡ C = ap u s ∙ ue in omega (arith, linear))
+          | inl s ↦ same_up (u j) C (ap u s ∙ ue) (above_up C Cp)
           | inr ne ↦ elim (find_col m col j) [
-            | inr none ↦ (let q : u j ≡ pos 0 = d.outside j jn none ne in omega (arith, linear))
+            | inr none ↦ same_up (u j) (pos 0) (d.outside j jn none ne) (pos_up 0)
             | inl k ↦ (let fr : Free (col k.0) → ⊥ = λ x. bound (let P : ℕ → Type 0 = λ z. Free z in subst P k.2 x) in
                 let r : R k.0 e ≤ℤ pos 0 = un.none k.0 k.1 fr in
-                let p : pos 0 ≤ℤ (C *ℤ neg_ℤ (R k.0 e)) = times_nonneg C (neg_ℤ (R k.0 e)) (omega (arith, linear)) (omega (arith, linear)) in
+                let p : pos 0 ≤ℤ (C *ℤ neg_ℤ (R k.0 e)) = times_nonneg C (neg_ℤ (R k.0 e)) (above_up C Cp) (turned_up (R k.0 e) r) in
                 let p2 : C *ℤ neg_ℤ (R k.0 e) ≡ neg_ℤ (C *ℤ R k.0 e) = times_neg C (R k.0 e) in
                 let an : R k.0 (col k.0) *ℤ u (col k.0) ≡ neg_ℤ (C *ℤ R k.0 e) = d.answers k.0 k.1 in
-                let q : pos 0 ≤ℤ u (col k.0) = cancel_nonneg (R k.0 (col k.0)) (u (col k.0)) (st.table.row k.0 k.1).2.own (omega (arith, linear)) in
+                let q : pos 0 ≤ℤ u (col k.0) = cancel_nonneg (R k.0 (col k.0)) (u (col k.0)) (st.table.row k.0 k.1).2.own
+                (same_up (R k.0 (col k.0) *ℤ u (col k.0)) (C *ℤ neg_ℤ (R k.0 e)) (an ∙ sym p2) p) in
                 let P : ℕ → Type 0 = λ x. pos 0 ≤ℤ u x in subst P k.2 q)
           ]
         ] in (
           λ j. v j +ℤ c *ℤ u j,
           record {
             positive = vb.positive;
-            side = (let p : v n ≡ neg_ℤ D = vb.side in let q : c *ℤ u n ≡ pos 0 = ap (λ t. c *ℤ t) d.side ∙ times_zero c in omega (arith, linear));
+            side = and_zero (v n) (neg_ℤ D) (c *ℤ u n) vb.side (ap (λ t. c *ℤ t) d.side ∙ times_zero c);
             killed = record {
               row = λ i im. (let p : dot (suc n) (A i) v ≡ pos 0 = vb.killed.row i im in let q : dot (suc n) (A i) u ≡ pos 0 = d.killed.row i im in
                   both_zero c (dot (suc n) (A i) (λ j. v j +ℤ c *ℤ u j)) (dot (suc n) (A i) v) (dot (suc n) (A i) u) (sum_linear (suc n) c (A i) v u) p q);
             };
-            nonnegative = λ j jn bound. (let p : pos 0 ≤ℤ v j = end_feasible st vb j jn bound in
-                let q : pos 0 ≤ℤ (c *ℤ u j) = times_nonneg c (u j) c0 (up_u j jn bound) in omega (arith, linear));
+            nonnegative = λ j jn bound. both_up (v j) (c *ℤ u j) (end_feasible st vb j jn bound) (times_nonneg c (u j) c0 (up_u j jn bound));
           },
           (let p : (N *ℤ D) <ℤ (sum_to n (λ j. aim j *ℤ v j) +ℤ c *ℤ X) = h.1 in let q = sum_linear n c aim v u in rw q p),
         )

@@ -1,8 +1,8 @@
 -- Where columns stand at the start: noted as the only row with a number other than 0, then given slots, and the rows set by places.
 use Rattle.std.proofs.Common.{◌≡◌, ◌≢◌, ℕ, ◌+◌, ◌-◌, ◌*◌, ◌<◌, ◌≤◌, ◌^◌, inl, inr, List, ◌++◌, length, slice_index, slice_set, ℤ, pos, refl, sym, ap}
-use Rattle.std.proofs.Common.{subst, ◌∙◌, arith, below_more, get_or-set_other, get_or-set_same}
-use Rattle.std.proofs.{lemmas.Bool.{cases_eq, cases_lt}, lemmas.List.{length-append, get_or_append_left, get_or-append_right}}
-use Rattle.gs_simplex.specs.{declared.program.Program.{Program}, Rows.{IsNarrow}, Program.{number, aim_of, IsShaped}, State.{raw, AreOnly}}
+use Rattle.std.proofs.Common.{◌⊎◌, ◌∷◌, [], slice_index_or, subst, ◌∙◌, arith, below_more, get_or-set_other, get_or-set_same}
+use Rattle.std.proofs.{lemmas.Bool.{cases_eq, cases_lt}, lemmas.List.{length-append, length_push, get_or_append_left, get_or-append_right, get_or_push}}
+use Rattle.gs_simplex.specs.{declared.program.Program.{Program}, Rows.{IsNarrow}, Program.{number, aim_of, rows_of, IsShaped}, State.{raw, AreOnly, IsRawRow}}
 use Rattle.gs_simplex.specs.{Numbers.{at, cell, AreNarrowNumbers}, Columns.{place_in, at_place, in_columns, AreStands, AreSlots, IsNoted, IsSetRow}}
 use Rattle.gs_simplex.proofs.{Places.{row_inside}, Standing.{placed, same_place, number_inside, number_none}}
 
@@ -40,6 +40,40 @@ module _ (p : Program) where
         ])
       ]
 
+  -- a row with its right side and 0
+  pub raw_of_row : (i : ℕ) (row ys : List ℤ) → IsShaped p → i < p.rows → row ≡ slice_index_or (rows_of p) i [] → ys ≡ row ++ pos 0 ∷ [] → IsRawRow p i ys
+  raw_of_row i row ys s h is e =
+      let wide : length row ≡ p.cols + 1 = ap (λ (t : List ℤ). length t) is ∙ s.row i h in
+      record {
+        long = omega (arith, ap (λ (t : List ℤ). length t) e, length_push row (pos 0), wide);
+        each = λ j l. elim (cases_eq j (p.cols + 1)) [
+          | inr ne ↦ (let k : j < p.cols + 1 = omega (arith, l, ne) in
+              ap (λ t. at t j) e ∙ get_or_append_left row (pos 0 ∷ []) (pos 0) j (omega (arith, wide, k)) ∙ ap (λ t. at t j) is
+              ∙ sym (raw_row i j h (omega (arith, k))))
+          | inl q ↦ ap (λ t. at t j) e ∙ get_or_push row (pos 0) (pos 0) j (wide ∙ sym q) ∙ sym (raw_zero i h) ∙ ap (raw p i) (sym q)
+        ];
+      }
+
+  -- the aim with 0 and 1
+  pub raw_of_aim : (i : ℕ) (aim mid ys : List ℤ) → IsShaped p → i ≡ p.rows → aim ≡ p.parts.aim → mid ≡ aim ++ pos 0 ∷ [] → ys ≡ mid ++ pos 1 ∷ [] → IsRawRow p i ys
+  raw_of_aim i aim mid ys s h is d e =
+      let wide : length aim ≡ p.cols = ap (λ (t : List ℤ). length t) is ∙ s.aim in
+      let middle : length mid ≡ p.cols + 1 = ap (λ (t : List ℤ). length t) d ∙ length_push aim (pos 0) ∙ ap (λ n. n + 1) wide in
+      record {
+        long = omega (arith, ap (λ (t : List ℤ). length t) e, length_push mid (pos 1), middle);
+        each = λ j l. elim (cases_eq j (p.cols + 1)) [
+          | inl q ↦ ap (λ t. at t j) e ∙ get_or_push mid (pos 1) (pos 0) j (middle ∙ sym q) ∙ sym (raw_multiple i j h q)
+          | inr ne ↦ (let left = ap (λ t. at t j) e ∙ get_or_append_left mid (pos 1 ∷ []) (pos 0) j (omega (arith, middle, l, ne)) in
+              elim (cases_eq j p.cols) [
+                | inl q ↦ left ∙ ap (λ t. at t j) d ∙ get_or_push aim (pos 0) (pos 0) j (wide ∙ sym q)
+                    ∙ sym (raw_last i h) ∙ ap (raw p i) (sym q)
+                | inr n ↦ (let k : j < p.cols = omega (arith, l, ne, n) in
+                    left ∙ ap (λ t. at t j) d ∙ get_or_append_left aim (pos 0 ∷ []) (pos 0) j (omega (arith, wide, k)) ∙ ap (λ t. at t j) is
+                    ∙ sym (raw_aim i j h k))
+              ])
+        ];
+      }
+
   -- one more row is noted
   pub only_more : (i : ℕ) (old new : ℕ → ℕ) → i < p.rows + 1 → p.rows < 2 ^ 31 → AreOnly p i old
       → ((j : ℕ) → j < p.cols + 2 → IsNoted i (raw p i j) (old j) (new j)) → AreOnly p (i + 1) new
@@ -64,6 +98,63 @@ module _ (p : Program) where
 pub record AreSlotsSoFar (rows count : ℕ) (owns : List ℕ) (old new : List ℕ) (place : ℕ) : Type 0 where
   pub slots : AreSlots rows count owns (slice_index old) (slice_index new) place
   pub left : (k : ℕ) → count ≤ k → slice_index new k ≡ slice_index old k
+
+-- a column that is a row's own stays
+pub slots_own : {rows count : ℕ} {owns old new : List ℕ} {place : ℕ} → AreSlotsSoFar rows count owns old new place → slice_index new count ≤ rows
+    → slice_index owns (slice_index new count) ≡ count → AreSlotsSoFar rows (count + 1) owns old new place
+slots_own {rows} {count} {owns} {old} {new} {place} u low own =
+    let s = slice_index new in
+    record {
+      slots = record {
+        each = below_more (λ j. ((s j ≡ slice_index old j) × (s j ≤ rows) × (slice_index owns (s j) ≡ j)) ⊎ ((rows < s j) × (s j < rows + place))) count
+            u.slots.each (inl (u.left count (omega arith), low, own));
+        differ = λ j h jn hn above e. elim (cases_eq j count) [
+          | inl is ↦ absurd (omega (arith, ap s is, low, above))
+          | inr ne ↦ elim (cases_eq h count) [
+            | inl is ↦ absurd (omega (arith, ap s is, e, low, above))
+            | inr nh ↦ u.slots.differ j h (omega (arith, jn, ne)) (omega (arith, hn, nh)) above e
+          ]
+        ];
+        some = u.slots.some;
+        few = omega (arith, u.slots.few);
+      };
+      left = λ k h. u.left k (omega (arith, h));
+    }
+
+-- another column gets the next slot
+pub slots_more : {rows count : ℕ} {owns old new : List ℕ} {place : ℕ} → AreSlotsSoFar rows count owns old new place → count < length new
+    → AreSlotsSoFar rows (count + 1) owns old (slice_set new count (rows + place)) (place + 1)
+slots_more {rows} {count} {owns} {old} {new} {place} u inside =
+    let s = slice_index new in let t = slice_index (slice_set new count (rows + place)) in
+    let some : 0 < place = u.slots.some in
+    let same : (k : ℕ) → k ≢ count → t k ≡ s k = λ k ne. get_or-set_other new count k (rows + place) 0 ne in
+    let here : t count ≡ rows + place = get_or-set_same new count (rows + place) 0 inside in
+    let before : (h : ℕ) → h < count → s h < rows + place = λ h l. elim (u.slots.each h l) [ inl a ↦ omega (arith, a.1, some) | inr b ↦ b.1 ] in
+    record {
+      slots = record {
+        each = below_more (λ j. ((t j ≡ slice_index old j) × (t j ≤ rows) × (slice_index owns (t j) ≡ j)) ⊎ ((rows < t j) × (t j < rows + (place + 1)))) count
+            (λ j l. let e = same j (λ q. omega (arith, l, q)) in
+            elim (u.slots.each j l) [
+              | inl a ↦ inl (e ∙ a.0, omega (arith, e, a.1), ap (slice_index owns) e ∙ a.2)
+              | inr b ↦ inr (omega (arith, e, b.0), omega (arith, e, b.1))
+            ])
+            (inr (omega (arith, here, some), omega (arith, here)));
+        differ = λ j h jn hn above e. elim (cases_eq j count) [
+          | inl is ↦ elim (cases_eq h count) [
+            | inl also ↦ is ∙ sym also
+            | inr nh ↦ (let l : h < count = omega (arith, hn, nh) in absurd (omega (arith, ap t is, here, e, same h nh, before h l)))
+          ]
+          | inr ne ↦ (let l : j < count = omega (arith, jn, ne) in
+              elim (cases_eq h count) [
+                | inl is ↦ absurd (omega (arith, ap t is, here, e, same j ne, before j l))
+                | inr nh ↦ u.slots.differ j h l (omega (arith, hn, nh)) (omega (arith, same j ne, above)) (sym (same j ne) ∙ e ∙ same h nh)
+              ])
+        ];
+        some = omega arith;
+        few = omega (arith, u.slots.few);
+      };
+      left = λ k h. same k (λ q. omega (arith, h, q)) ∙ u.left k (omega (arith, h));
+    }
 
 -- columns with slots, and those that are rows' own, stand apart
 pub stands_given : (rows n : ℕ) (owns : List ℕ) (old s : ℕ → ℕ) (place : ℕ) → AreSlots rows n owns old s place → AreStands rows (place + 1) n s

@@ -1,11 +1,8 @@
-use Rattle.std.proofs.{Common.{◌≡◌, ◌+◌, ◌<◌, ◌^◌, ℤ, pos, unsigned_abs, neg_ℤ, ◌-ℤ◌, ◌*ℤ◌, ◌<ℤ◌, to_z, of_z, sym, ap, subst, ◌∙◌, arith}, lemmas.Int.{ints}}
+use Rattle.std.proofs.Common.{◌≡◌, ◌+◌, ℤ, pos, neg_ℤ, ◌-ℤ◌, ◌*ℤ◌, ◌<ℤ◌, to_z, of_z, sym, ap, subst, ◌∙◌, arith}
 use mir.Syntax.{w128}
 use Rattle.gs_simplex.specs.Table.{grid_of, table_aim}
-use Rattle.gs_simplex.proofs.{Fits.{widened, negated}, Tables.{flipped_other}}
+use Rattle.gs_simplex.proofs.{Fits.{widened, negated, negated_fits, negation_fits}, Tables.{flipped_other}}
 use Rattle.gs_simplex.proofs.best.price_at.Goals as goal
-
-negated_small : (x : ℤ) → unsigned_abs x < 2 ^ 62 → unsigned_abs (neg_ℤ x) < 2 ^ 127
-negated_small x h = omega (arith, ints)
 
 pub returns : goal.returns
 returns c =
@@ -27,6 +24,7 @@ new-requires-clause-positive c =
     let P : ℤ → Type 0 = λ z. pos 0 <ℤ z in subst P (sym m) c.requires.multiple
 
 pub new-requires-clause-fits : goal.new-requires-clause-fits
-new-requires-clause-fits c =
-    let x = c.number_at-falls.result in let n = c.number_at-falls.ensures.narrow in
-    let P : ℤ → Type 0 = λ z. unsigned_abs z < 2 ^ 127 in subst P (sym (negated x c.from.result n c.from.ensures)) (negated_small x n)
+new-requires-clause-fits c = negated_fits c.number_at-falls.result c.from.result c.number_at-falls.ensures.narrow c.from.ensures
+
+pub overflow_sub-from : goal.overflow_sub-from
+overflow_sub-from c = negation_fits c.number_at-falls.result c.from.result c.number_at-falls.ensures.narrow c.from.ensures

@@ -1,7 +1,7 @@
 use Rattle.std.proofs.Common.{◌≡◌, ℕ, ◌+◌, ◌-◌, ℤ, pos, ◌*ℤ◌, ◌<ℤ◌, to_z, of_z, sym, ap, subst, ◌∙◌, arith}
 use mir.Syntax.{w128}
 use Rattle.gs_simplex.specs.Table.{grid_of}
-use Rattle.gs_simplex.proofs.Fits.{widened}
+use Rattle.gs_simplex.proofs.Fits.{widened, widened_fits}
 use Rattle.gs_simplex.proofs.best.value_at.Goals as goal
 
 pub number_at-side-requires-clause-row : goal.number_at-side-requires-clause-row
@@ -32,3 +32,6 @@ new-requires-2-clause-positive c =
 
 pub number_at-own-requires-clause-row : goal.number_at-own-requires-clause-row
 number_at-own-requires-clause-row c = grind arith
+
+pub new-requires-2-clause-fits : goal.new-requires-2-clause-fits
+new-requires-2-clause-fits c = widened_fits c.number_at-side.result c.from.result c.number_at-side.ensures.narrow c.from.ensures

@@ -2,7 +2,7 @@ use Rattle.std.proofs.Common.{◌≡◌, ℕ, ◌<◌, ◌^◌, length, slice_in
 use Rattle.std.proofs.lemmas.Grind.{common_steps}
 use Prim.Native.Nat.{◌∣◌}
 use Rattle.gs_simplex.specs.Numbers.{at}
-use Rattle.gs_simplex.proofs.{Ring.{times_zero}, Fits.{kept_64}, Supports.{columns_of, still_old, left_more, done_more, all_written}}
+use Rattle.gs_simplex.proofs.{Ring.{times_zero}, Fits.{kept_64, narrow_passed}, Supports.{columns_of, still_old, left_more, done_more, all_written}}
 use Rattle.gs_simplex.proofs.row.divide_all.Goals as goal
 
 pub guessed_quotient-requires-clause-divides : goal.guessed_quotient-requires-clause-divides
@@ -53,7 +53,14 @@ returns c =
     }
 
 pub guessed_quotient-requires-clause-narrow : goal.guessed_quotient-requires-clause-narrow
-guessed_quotient-requires-clause-narrow c = grind (arith, common_steps)
+guessed_quotient-requires-clause-narrow c =
+    let k = c.loop-k.k in let old = c.args.row.now in let row = c.loop-k.row in let places = c.args.places.now in
+    let j = slice_index places k in
+    let u = c.requires.support in let w = columns_of places c.args.found (length old) (at old) (at old) u in
+    let e : at row j ≡ at old j =
+    still_old places c.args.found k (length old) old row (pos 0) w c.loop-k-test.true c.loop-k.auto.row c.loop-k.invariant.left in
+    let N : ℤ → Type 0 = λ t. unsigned_abs t < 2 ^ 62 in
+    narrow_passed (at row j) (subst N (sym e) (c.requires.narrow j (u.inside k c.loop-k-test.true)))
 
 pub bounds-row-j : goal.bounds-row-j
 bounds-row-j c = grind (arith, common_steps)

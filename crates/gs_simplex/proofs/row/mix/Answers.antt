@@ -32,11 +32,18 @@ loop-j-preserved c = record {
   within = one_within c.loop-j.mixed c.loop-j.j c.mixed_number.result (omega arith) c.mixed_number.ensures.within c.loop-j.invariant.within;
 }
 
+before_end : (j n end : ℕ) → j < n → n ≤ end → j < end
+before_end j n end h l = omega arith
+
 pub returns-clause-within : goal.returns-clause-within
 returns-clause-within c = λ j h. c.loop-j.invariant.within j (omega arith)
 
 pub returns-clause-mixed : goal.returns-clause-mixed
-returns-clause-mixed c = grind (arith, common_steps)
+returns-clause-mixed c = λ j h.
+    let row = c.args.row.now in let lead = c.args.lead.now in
+    c.loop-j.invariant.mixed j (before_end j (length row) c.loop-j.j h c.loop-j-test.false)
+    ∙ ap (λ t. t *ℤ at row j -ℤ to_z w64 (of_z w64 c.args.far) *ℤ at lead j) (kept_64 c.args.own c.requires.narrow_own)
+    ∙ ap (λ t. c.args.own *ℤ at row j -ℤ t *ℤ at lead j) (kept_64 c.args.far c.requires.narrow_far)
 
 pub mixed_number-requires-clause-narrow_y : goal.mixed_number-requires-clause-narrow_y
 mixed_number-requires-clause-narrow_y c = grind (arith, common_steps)

@@ -1,8 +1,8 @@
 use Rattle.std.proofs.Common.{◌≡◌, arith, ◌+◌, ◌<◌, ◌-◌, ◌^◌, ℕ, ℤ, List, pos, length, slice_index, subst, unsigned_abs, sym, ap, ◌∙◌, to_z, of_z, w64}
-use Rattle.std.proofs.{lemmas.Grind.{common_steps}, lemmas.Int.{to_z_pos}, lemmas.Nat.Gcd.{dvd-zero}}
+use Rattle.std.proofs.{lemmas.Int.{to_z_pos}, lemmas.Nat.Gcd.{dvd-zero}}
 use Prim.Native.Nat.{◌∣◌}
 use Rattle.gs_simplex.specs.{Support.{IsSupport}, Numbers.{at, IsDivisor}}
-use Rattle.gs_simplex.proofs.{Reduce.{nothing_common, one_more, one_of_all, one_zero}, Fits.{kept_64}, Supports.{everywhere}}
+use Rattle.gs_simplex.proofs.{Reduce.{nothing_common, one_more, one_of_all, one_zero}, Fits.{kept_64, narrow_passed}, Supports.{everywhere}}
 use Rattle.gs_simplex.proofs.row.narrow_divisor.Goals.{After-narrow_common_divisor-common, In-loop-k}
 use Rattle.gs_simplex.proofs.row.narrow_divisor.Goals as goal
 
@@ -76,8 +76,13 @@ returns c =
     of_row c.args.row.now c.args.places.now c.args.found c.unsigned_abs-2.result c.requires.support
     (subst (λ t. IsDivisor t f c.unsigned_abs-2.result) all (subst (λ t. IsDivisor c.loop-k.k f t) e v.all))
 
+back_in : (k n : ℕ) → k < n → n - 1 - k < n
+back_in k n h = omega (arith, h)
+
 pub narrow_common_divisor-common-requires-clause-narrow : goal.narrow_common_divisor-common-requires-clause-narrow
-narrow_common_divisor-common-requires-clause-narrow c = grind (arith, common_steps)
+narrow_common_divisor-common-requires-clause-narrow c =
+    let n = c.args.found in let i = n - 1 - c.loop-k.k in let j = slice_index c.args.places.now i in
+    narrow_passed (at c.args.row.now j) (c.requires.narrow j (c.requires.support.inside i (back_in c.loop-k.k n c.loop-k-test.true)))
 
 pub bounds-row-places : goal.bounds-row-places
 bounds-row-places c = grind arith

@@ -88,14 +88,14 @@ lessen-requires-clause-support c =
 pub lessen-requires-clause-bound : goal.lessen-requires-clause-bound
 lessen-requires-clause-bound c = λ j h.
     let l = c.args.lead.now in let row = c.args.row.now in let m = c.multipliers-own.result in let most = c.known_or_greatest-near in
-    let inside : j < length row = omega (arith, c.mix_narrow.auto.row) in
+    let inside : j < length row = subst (λ n. j < n) c.mix_narrow.auto.row h in
     let e : at c.mix_narrow.new.row j ≡ to_z w64 (of_z w64 m.0) *ℤ at row j -ℤ to_z w64 (of_z w64 m.1) *ℤ at l.numbers.now j =
     c.mix_narrow.ensures.mixed j inside in
     let b : unsigned_abs (at c.mix_narrow.new.row j) ≤ unsigned_abs (to_z w64 (of_z w64 m.0)) * most.result + unsigned_abs (to_z w64 (of_z w64 m.1)) * l.most =
     (let P : ℤ → Type 0 = λ t. unsigned_abs t ≤ unsigned_abs (to_z w64 (of_z w64 m.0)) * most.result + unsigned_abs (to_z w64 (of_z w64 m.1)) * l.most in
     subst P (sym e) (difference_bound (to_z w64 (of_z w64 m.0)) (at row j) (to_z w64 (of_z w64 m.1)) (at l.numbers.now j) most.result l.most
-    (most.ensures j inside) (l.bound j (omega (arith, c.requires.long))))) in
-    omega (arith, b, c.mixed_most.ensures)
+    (most.ensures j inside) (l.bound j (subst (λ n. j < n) c.requires.long inside)))) in
+    subst (λ t. unsigned_abs (at c.mix_narrow.new.row j) ≤ t) (sym c.mixed_most.ensures) b
 
 pub narrow_into-requires-clause-small : goal.narrow_into-requires-clause-small
 narrow_into-requires-clause-small c =
@@ -121,16 +121,22 @@ stored_shared lc rc own far nl nr na nb sh = record {
   );
 }
 
+some_inside : (k n : ℕ) → k < n → 0 < n
+some_inside k n h = omega arith
+
+below_wide : (n : ℕ) → n < 2 ^ 62 → n ≤ 4611686018427387904
+below_wide n h = omega arith
+
 pub returns-then-stays_narrow : goal.returns-then-stays_narrow
 returns-then-stays_narrow c =
     let lead = c.args.lead.now.numbers.now in let row = c.args.row.now in let mid = c.mix_narrow.new.row in let k = c.args.lead.now.column in let m =
     c.multipliers-own in
     let inside : k < length lead = c.args.lead.now.inside in
-    let long : length mid ≡ length lead = omega (arith, c.mix_narrow.auto.row, c.requires.long) in
-    let sh = stored_shared (at lead k) (at row k) m.result.0 m.result.1 (c.args.lead.now.narrow k inside) (c.requires.narrow k (omega (arith, c.requires.long)))
+    let long : length mid ≡ length lead = c.mix_narrow.auto.row ∙ c.requires.long in
+    let sh = stored_shared (at lead k) (at row k) m.result.0 m.result.1 (c.args.lead.now.narrow k inside) (c.requires.narrow k (subst (λ n. k < n) (sym c.requires.long) inside))
     m.ensures.narrow_own m.ensures.narrow_far m.ensures.shared in (
       mixed_times (at lead) (at row) (at mid) (at c.lessen.new.row) k (length lead) (to_z w64 (of_z w64 m.result.0)) (to_z w64 (of_z w64 m.result.1)) sh
-          (λ j l. c.mix_narrow.ensures.mixed j (omega (arith, c.requires.long)))
+          (λ j l. c.mix_narrow.ensures.mixed j (subst (λ n. j < n) (sym c.requires.long) l))
           (let P : ℕ → Type 0 = λ t. IsMultiple t (at mid) (at c.lessen.new.row) in subst P long c.lessen.ensures.multiple),
       c.lessen.ensures.narrow,
       c.lessen.ensures.bound,
@@ -141,19 +147,19 @@ returns-then-narrow_into c =
     let lead = c.args.lead.now.numbers.now in let row = c.args.row.now in let mixed = c.mix.new.mixed in let k = c.args.lead.now.column in let m =
     c.multipliers-own in
     let inside : k < length lead = c.args.lead.now.inside in
-    let long : length mixed ≡ length lead = omega (arith, c.mix.auto.mixed, c.requires.long, c.requires.room) in
-    let some : 0 < length lead = omega arith in
-    let sh = stored_shared (at lead k) (at row k) m.result.0 m.result.1 (c.args.lead.now.narrow k inside) (c.requires.narrow k (omega (arith, c.requires.long)))
+    let long : length mixed ≡ length lead = c.mix.auto.mixed ∙ c.requires.room in
+    let some : 0 < length lead = some_inside k (length lead) inside in
+    let sh = stored_shared (at lead k) (at row k) m.result.0 m.result.1 (c.args.lead.now.narrow k inside) (c.requires.narrow k (subst (λ n. k < n) (sym c.requires.long) inside))
     m.ensures.narrow_own m.ensures.narrow_far m.ensures.shared in
     let own = to_z w64 (of_z w64 m.result.0) in let far = to_z w64 (of_z w64 m.result.1) in
-    let is : (j : ℕ) → j < length lead → at mixed j ≡ own *ℤ at row j -ℤ far *ℤ at lead j = λ j l. c.mix.ensures.mixed j (omega (arith, c.requires.long)) in
+    let is : (j : ℕ) → j < length lead → at mixed j ≡ own *ℤ at row j -ℤ far *ℤ at lead j = λ j l. c.mix.ensures.mixed j (subst (λ n. j < n) (sym c.requires.long) l) in
     let new = c.narrow_into.new.row in let q = when_true (IsQuotient c.max-by.result mixed new (length mixed)) (HasWideQuotient c.max-by.result mixed)
     c.if-narrow_into.true c.narrow_into.ensures in
-    let same : length new ≡ length mixed = omega (arith, c.narrow_into.auto.row, c.requires.long) in (
+    let same : length new ≡ length mixed = c.narrow_into.auto.row ∙ c.requires.long ∙ sym long in (
       (reduced_from (at lead) (at row) k (length lead) c.divisor.result c.max-by.result own far mixed sh some long is c.divisor.ensures c.max-by.ensures
-          (at new) (λ j l. q.each j (omega arith))).multiple,
-      λ j l. q.narrow j (omega arith),
-      λ j l. (let n : unsigned_abs (at new j) < 2 ^ 62 = q.narrow j (omega arith) in omega arith),
+          (at new) (λ j l. q.each j (subst (λ n. j < n) (sym long) l))).multiple,
+      λ j l. q.narrow j (subst (λ n. j < n) same l),
+      λ j l. below_wide (unsigned_abs (at new j)) (q.narrow j (subst (λ n. j < n) same l)),
     )
 
 pub returns : goal.returns
@@ -161,12 +167,12 @@ returns c =
     let lead = c.args.lead.now.numbers.now in let row = c.args.row.now in let mixed = c.mix.new.mixed in let k = c.args.lead.now.column in let m =
     c.multipliers-own in
     let inside : k < length lead = c.args.lead.now.inside in
-    let long : length mixed ≡ length lead = omega (arith, c.mix.auto.mixed, c.requires.long, c.requires.room) in
-    let some : 0 < length lead = omega arith in
-    let sh = stored_shared (at lead k) (at row k) m.result.0 m.result.1 (c.args.lead.now.narrow k inside) (c.requires.narrow k (omega (arith, c.requires.long)))
+    let long : length mixed ≡ length lead = c.mix.auto.mixed ∙ c.requires.room in
+    let some : 0 < length lead = some_inside k (length lead) inside in
+    let sh = stored_shared (at lead k) (at row k) m.result.0 m.result.1 (c.args.lead.now.narrow k inside) (c.requires.narrow k (subst (λ n. k < n) (sym c.requires.long) inside))
     m.ensures.narrow_own m.ensures.narrow_far m.ensures.shared in
     let own = to_z w64 (of_z w64 m.result.0) in let far = to_z w64 (of_z w64 m.result.1) in
-    let is : (j : ℕ) → j < length lead → at mixed j ≡ own *ℤ at row j -ℤ far *ℤ at lead j = λ j l. c.mix.ensures.mixed j (omega (arith, c.requires.long)) in
+    let is : (j : ℕ) → j < length lead → at mixed j ≡ own *ℤ at row j -ℤ far *ℤ at lead j = λ j l. c.mix.ensures.mixed j (subst (λ n. j < n) (sym c.requires.long) l) in
     let small : c.divisor.result ≤ 2 ^ 125 = divisor_small c.divisor.result (length mixed) (2 ^ 125) (at mixed) c.divisor.ensures c.mix.ensures.within in
     reduced_wide (at lead) (at row) k (length lead) c.divisor.result c.max-by.result own far mixed sh some long is c.divisor.ensures c.max-by.ensures
     (omega (arith, c.max-by.ensures)) (omega (arith, c.max-by.ensures)) c.mix.ensures.within

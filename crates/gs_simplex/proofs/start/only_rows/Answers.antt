@@ -1,5 +1,5 @@
 use Rattle.std.proofs.lemmas.Grind.{common_steps}
-use Rattle.std.proofs.{Common.{◌≡◌, ℕ, ◌+◌, ◌<◌, List, length, drop, slice_index, ℤ, sym, ap, subst, ◌∙◌, arith}, lemmas.List.{take_at}}
+use Rattle.std.proofs.{Common.{◌≡◌, ℕ, ◌+◌, ◌<◌, ◌≤◌, List, length, drop, slice_index, ℤ, sym, ap, subst, ◌∙◌, arith}, lemmas.List.{take_at}}
 use Rattle.gs_simplex.specs.{Numbers.{at}, Columns.{IsNoted}, State.{AreOnly}}
 use Rattle.gs_simplex.proofs.Slots.{only_more}
 use Rattle.gs_simplex.proofs.start.only_rows.Goals as goal
@@ -31,3 +31,16 @@ loop-i-init c = grind (arith, common_steps)
 
 pub full_row-requires-clause-row : goal.full_row-requires-clause-row
 full_row-requires-clause-row c = grind arith
+
+at_end : (a b : ℕ) → a ≤ b → b ≤ a → a ≡ b
+at_end a b h k = omega arith
+
+pub returns-clause-only : goal.returns-clause-only
+returns-clause-only c =
+    subst (λ n. AreOnly c.args.p.now n (slice_index c.loop-i.stands.items))
+    (at_end c.loop-i.i (c.args.p.now.rows + 1) c.loop-i.auto.i-end c.loop-i-test.false) c.loop-i.invariant.only
+
+pub note_row-requires : goal.note_row-requires
+note_row-requires c =
+    ap (λ (x : List ℤ). length x) c.deref.ensures.value ∙ c.in_ok-full_row.ensures.long
+    ∙ sym (ap (λ (x : List ℕ). length x) c.deref_mut.ensures.value ∙ c.loop-i.invariant.long)

@@ -1,7 +1,7 @@
 use Rattle.std.proofs.Common.{◌≡◌, ◌+◌, ℤ, neg_ℤ, ◌-ℤ◌, ◌*ℤ◌, ◌<ℤ◌, pos, to_z, of_z, sym, ap, subst, ◌∙◌, arith}
 use mir.Syntax.{w128}
 use Rattle.gs_simplex.specs.Table.{grid_of, table_aim}
-use Rattle.gs_simplex.proofs.{Fits.{widened, negated}, Tables.{flipped_at, flipped_other}}
+use Rattle.gs_simplex.proofs.{Fits.{widened, negated, negated_fits, negation_fits}, Tables.{flipped_at, flipped_other}}
 use Rattle.gs_simplex.proofs.tracing.aim_value.Goals as goal
 
 pub returns : goal.returns
@@ -22,3 +22,9 @@ new-requires-clause-positive c =
     widened x c.from-2.result c.number_at-multiple.ensures.narrow c.from-2.ensures
     ∙ c.number_at-multiple.ensures.value ∙ sym (flipped_other p.cols (grid p.rows) (p.cols + 1) (λ e. omega arith)) in
     let P : ℤ → Type 0 = λ z. pos 0 <ℤ z in subst P (sym m) c.requires.multiple
+
+pub new-requires-clause-fits : goal.new-requires-clause-fits
+new-requires-clause-fits c = negated_fits c.number_at-last.result c.from.result c.number_at-last.ensures.narrow c.from.ensures
+
+pub overflow_sub-from : goal.overflow_sub-from
+overflow_sub-from c = negation_fits c.number_at-last.result c.from.result c.number_at-last.ensures.narrow c.from.ensures

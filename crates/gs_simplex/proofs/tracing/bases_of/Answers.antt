@@ -1,4 +1,4 @@
-use Rattle.std.proofs.Common.{◌<◌, slice_index_or, slice_set, ◌≡◌, ◌+◌, ◌∷◌, ◌++◌, [], List, Vec, Global, ℕ, length, drop, sym, ap, subst, ◌∙◌, arith}
+use Rattle.std.proofs.Common.{◌<◌, ◌≤◌, slice_index_or, slice_set, ◌≡◌, ◌+◌, ◌∷◌, ◌++◌, [], List, Vec, Global, ℕ, length, drop, sym, ap, subst, ◌∙◌, arith}
 use Rattle.std.proofs.lemmas.List.{take_at}
 use Rattle.gs_simplex.specs.{declared.program.Program.{Program}, Program.{Listing, IsPairList, IsOpening}, Trace.{IsBasis, AreTurns, AreBases}}
 use Rattle.gs_simplex.specs.declared.answer.Turn.{Turn}
@@ -59,8 +59,13 @@ loop-place-preserved c =
           (bases_more p o (k + 1) c.loop-place.bases.items columns v.bases (basis_at p o (k + 1) new columns.items more b));
     }
 
+at_end : (a b : ℕ) → a ≤ b → b ≤ a → a ≡ b
+at_end a b h k = omega arith
+
 pub returns : goal.returns
-returns c = grind arith
+returns c =
+    subst (λ n. AreBases c.args.p.now c.args.opening.now (n + 1) c.loop-place.bases.items)
+    (at_end c.loop-place.place (length c.args.turns.now) c.loop-place.auto.place-end c.loop-place-test.false) c.loop-place.invariant.bases
 
 pub replace-requires : goal.replace-requires
 replace-requires c = grind arith
@@ -70,3 +75,9 @@ bounds-turns-place c = grind arith
 
 pub offset_bounds-turns-place : goal.offset_bounds-turns-place
 offset_bounds-turns-place c = grind arith
+
+pub listed_columns-requires-in-loop-place-clause-small_rows : goal.listed_columns-requires-in-loop-place-clause-small_rows
+listed_columns-requires-in-loop-place-clause-small_rows c = c.requires.small_rows
+
+pub listed_columns-requires-in-loop-place-clause-small_cols : goal.listed_columns-requires-in-loop-place-clause-small_cols
+listed_columns-requires-in-loop-place-clause-small_cols c = c.requires.small_cols

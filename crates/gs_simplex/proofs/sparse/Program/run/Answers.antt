@@ -1,5 +1,5 @@
-use Rattle.std.proofs.{lemmas.Grind.{common_steps}, Common.{Result, Ok, Err, ◌≡◌, ℕ, ◌++◌, length, take, drop, sym, subst, ◌∙◌, arith}, lemmas.List.{take_at}}
-use Rattle.gs_simplex.specs.{declared.program.Program.{Program}, Program.{Listing}, Path.{PathStops, ends}, declared.answer.Best.{Best}}
+use Rattle.std.proofs.{Common.{Result, Ok, Err, ◌≡◌, ℕ, ◌++◌, length, take, drop, sym, subst, ◌∙◌, arith}, lemmas.List.{take_at}}
+use Rattle.gs_simplex.specs.{declared.program.Program.{Program}, Program.{Listing, IsPairList}, Path.{PathStops, ends}, declared.answer.Best.{Best}}
 use Rattle.gs_simplex.specs.{declared.table.Table.{Table}, Table.{grid_of, IsTableOf}, State.{IsEnd}}
 use Rattle.gs_simplex.specs.{Answer.{IsSmallTable, IsStop, IsAnswer, IsBest, IsBestAt, IsBestTable}, declared.answer.Stop.{Stop}}
 use Rattle.std.specs.Result.{IsErrAnd}
@@ -49,7 +49,10 @@ returns c =
     (taken b.len l (drop (length l) b.items) (omega (arith, c.follow.auto.basis, c.deref_mut.ensures.len))) c.in_ok-best.ensures
 
 pub best-requires-clause-pairs : goal.best-requires-clause-pairs
-best-requires-clause-pairs c = grind (arith, common_steps)
+best-requires-clause-pairs c =
+    let l = c.follow.new.basis in let b = c.in_ok-basis.field-0.basis in
+    subst (λ (x : Listing). IsPairList c.args.self.now x) (sym (taken b.len l (drop (length l) b.items) (c.follow.auto.basis ∙ c.deref_mut.ensures.len)))
+    c.in_ok-pivots.ensures.state.pairs
 
 pub follow-requires : goal.follow-requires
 follow-requires c = grind arith

@@ -215,11 +215,22 @@ returns-in-None-clause-listed c =
     }) (after_here a).stands c.in-None.ensures.room (numbers_long a (after_here a).numbers) (live_long a) (tops_long a) (done_here a c.in-None.ensures.pivoted)
     (tops_here a c.in-None.ensures.tops) c.requires.table
 
+before_spare : (stand rows width long : ℕ) → stand + 1 < rows + width → long ≡ width → stand < rows + long
+before_spare stand rows width long h e = omega arith
+
 pub first_wide-requires-clause-inside : goal.first_wide-requires-clause-inside
-first_wide-requires-clause-inside c = grind arith
+first_wide-requires-clause-inside c =
+    let g = goal.at.first_wide-requires-clause-inside c in let p = c.args.p.now in let s = c.make_own.new.stands in
+    let mixed = c.deref-in-Some-2.result.now in let w = vec_len c.args.self.now.room.lead in
+    let S : List ℕ → Type 0 = λ x. (j : ℕ) → j < length x → slice_index x j < p.rows + length mixed in
+    let u = stands_next c.requires.laid c.args.r c.args.c c.requires.row c.requires.column c.requires.nonzero s (moves g.After-make_own) in
+    subst S (sym (stands_passed g.After-deref-in-Some))
+    (λ j h. before_spare (slice_index s j) p.rows w (length mixed) (u.inside j (subst (λ n. j < n) (stands_long g.After-make_own) h))
+    (mixed_long g.After-deref-in-Some-2))
 
 pub first_wide-requires-clause-within : goal.first_wide-requires-clause-within
-first_wide-requires-clause-within c = grind arith
+first_wide-requires-clause-within c =
+    (wide_pivot (goal.at.first_wide-requires-clause-within c).After-deref-in-Some-2).lead.2.here.2.within
 
 pub clear-requires-clause-tops : goal.clear-requires-clause-tops
 clear-requires-clause-tops c = grind arith

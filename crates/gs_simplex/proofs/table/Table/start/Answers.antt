@@ -37,12 +37,21 @@ raw_small : (m n w : ℕ) → w ≤ n + 2 + 1 → (m + 1) * (n + 1) ≤ 1048576 
 raw_small m n w few small =
     let wide : (m + 1) * (w + 1) ≤ (m + 1) * (n + 4) = mul-le-mul_left (m + 1) (omega (arith, few)) in omega arith
 
+one_more : (n : ℕ) → 0 < n + 1
+one_more n = omega arith
+
+two_wide : (n : ℕ) → 0 < n → 1 < n + 1
+two_wide n h = omega (arith, h)
+
+rows_fit : (m n w k : ℕ) → w ≤ n + 2 + 1 → m + 1 ≤ k → k ≤ 1048576 → n < 2 ^ 31 → m + (w + 1) ≤ 2 ^ 32
+rows_fit m n w k few h small l = omega (arith, few, h, small, l)
+
 pub returns : goal.returns
 returns c =
     let g = goal.at.returns c in let p = c.args.p.now in let s = c.give_slots-width.new.stands in let v = c.in_ok-stands.stands in
     let w = c.give_slots-width.result + 1 in let old = c.deref_mut-2.result.now in let new = c.divide_rows.new.numbers in
     let own = c.in_ok-numbers.numbers in let slots = slots_here g.After-give_slots-width in
-    let small : p.rows + 1 ≤ (p.rows + 1) * (p.cols + 1) = le-mul_of_pos_right (p.rows + 1) (omega arith) in
+    let small : p.rows + 1 ≤ (p.rows + 1) * (p.cols + 1) = le-mul_of_pos_right (p.rows + 1) (one_more p.cols) in
     let S : List ℕ → Type 0 = λ x. AreRaw p w (slice_index x) own.items in let O : List ℤ → Type 0 = λ x. AreRaw p w (slice_index s) x in
     start_of p (record {
       numbers = with_items own new;
@@ -50,7 +59,8 @@ returns c =
       tops = c.in_ok-tops.tops;
       room = record { lead = c.in_ok-vec.field-0; mixed = c.in_ok-vec-2.field-0; filled = with_items c.in_ok-vec-3.field-0 c.divide_rows.new.filled };
       live = c.in_ok-live.live;
-    }) w s old new (omega (arith, slots.some)) (omega (arith, slots.few, small, c.requires.small, c.requires.small_cols))
+    }) w s old new (two_wide c.give_slots-width.result slots.some)
+    (rows_fit p.rows p.cols c.give_slots-width.result ((p.rows + 1) * (p.cols + 1)) slots.few small c.requires.small c.requires.small_cols)
     (record { lead = c.in_ok-vec.ensures.len; mixed = c.in_ok-vec-2.ensures.len; filled = c.in_ok-vec-3.ensures.len })
     (take_at new (drop (length new) own.items) own.len (c.divide_rows.auto.numbers ∙ c.deref_mut-2.ensures.len))
     (take_at s (drop (length s) v.items) v.len (slots_len g.After-give_slots-width)) (slots_long g.After-give_slots-width)
@@ -117,3 +127,16 @@ divide_rows-requires-clause-some c = grind arith
 
 pub overflow_add-width : goal.overflow_add-width
 overflow_add-width c = grind arith
+
+pub give_slots-width-requires-clause-long : goal.give_slots-width-requires-clause-long
+give_slots-width-requires-clause-long c = ap (λ (x : List ℕ). length x) c.deref-2.ensures.value ∙ c.in_ok-owns.ensures
+
+stands_fit : (m n k s : ℕ) → k ≡ n + 2 → m + 1 ≤ s → s ≤ 1048576 → n < 2 ^ 31 → m + k < 2 ^ 32
+stands_fit m n k s e h small l = omega (arith, e, h, small, l)
+
+pub give_slots-width-requires-clause-small : goal.give_slots-width-requires-clause-small
+give_slots-width-requires-clause-small c =
+    let p = c.args.p.now in
+    stands_fit p.rows p.cols (length c.deref_mut.result.now) ((p.rows + 1) * (p.cols + 1))
+    (ap (λ (x : List ℕ). length x) c.deref_mut.ensures.value ∙ c.in_ok-stands.ensures.long)
+    (le-mul_of_pos_right (p.rows + 1) (one_more p.cols)) c.requires.small c.requires.small_cols
