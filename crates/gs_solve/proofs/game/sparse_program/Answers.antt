@@ -33,3 +33,6 @@ returns-clause-small c =
 
 pub returns-in_err-program-clause-refused : goal.returns-in_err-program-clause-refused
 returns-in_err-program-clause-refused c = grind arith
+
+pub of-requires : goal.of-requires
+of-requires c = c.of-size.ensures

@@ -1,5 +1,5 @@
-use Rattle.std.proofs.Common.{◌≡◌, ◌+◌, ◌*◌, ◌^◌, ◌<◌, List, length, get_or, take, refl, ap, ◌∙◌, arith, rules, pos, ◌*ℤ◌, unsigned_abs, FitsSigned, of_z, to_z}
-use Rattle.std.proofs.{Common.{to_z-of_z}, lemmas.Nat.{mul-add-lt}, Math.Nat.{mul_comm}}
+use Rattle.std.proofs.Common.{◌≡◌, ◌+◌, ◌*◌, ◌^◌, ◌<◌, ℕ, List, length, get_or, take, refl, ap, ◌∙◌, arith, rules, pos, ◌*ℤ◌, unsigned_abs, FitsSigned}
+use Rattle.std.proofs.{Common.{of_z, to_z, to_z-of_z}, lemmas.Nat.{mul-add-lt, mul-le}, Math.Nat.{mul_comm}}
 use Rattle.std.specs.Int.{w64}
 use Rattle.gs_model.specs.{Frame.{end_at}, Sums.{sum_z}}
 use Rattle.gs_model.proofs.Sparse.{abs_sum}
@@ -125,3 +125,15 @@ returns c =
     c.loop-pair.invariant.added
     (λ k. sum_ended (v k) row c.loop-pair.pair-iterator c.in-None.ensures.steps.0 _ refl
     ∙ row_adds f u.in_range ls u.classes u.one (modest (game_in c.args.form.now)) c.args.end c.requires.end c.args.class row c.requires.row k)
+
+-- a number of 32 bits times another, and one more added, has 64
+fits_64 : (a b d : ℕ) → a < 4294967296 → b < 4294967296 → d < 4294967296 → a * b + d < 18446744073709551616
+fits_64 a b d h k l = omega (arith, h, k, l, mul-le a b 4294967295 4294967295 (omega (arith, h)) (omega (arith, k)))
+
+pub overflow_add-first : goal.overflow_add-first
+overflow_add-first c = record {
+  fits = fits_64 c.sequence_at-one.result c.args.twos c.sequence_at-two.result c.sequence_at-one.type_inv c.ranges.twos.fits c.sequence_at-two.type_inv;
+}
+
+pub sequence_at-two-requires-clause-end : goal.sequence_at-two-requires-clause-end
+sequence_at-two-requires-clause-end c = c.requires.end
