@@ -1,9 +1,9 @@
 -- Options in any order, as a parse of a command reads them.
-use Rattle.std.proofs.Common.{◌≡◌, ◌==◌, ◌++◌, ◌||◌, not, Bool, true, false, refl, List, [], ◌∷◌, fold, codes, if◌then◌else◌, ap, ◌∙◌, sym, append_assoc}
+use Rattle.std.proofs.Common.{◌≡◌, ℕ, ◌==◌, ◌++◌, ◌||◌, not, Bool, true, false, refl, List, [], ◌∷◌, fold, codes, if◌then◌else◌, ap, ◌∙◌, sym, append_assoc}
 use Rattle.std.proofs.{Common.{append-nil, inl, inr, arith}, lemmas.Bool.{and_parts, cases_Bool}, lemmas.Bool.Decides.{nat_tests}}
 use Rattle.std.specs.{List.{list_all}, Str.{bytes_eq}}
 use Rattle.clap.specs.Walk.{Held, Row, Rule, Text, finished, has_row, is_empty, nothing_held, reacted, settled, used, walk_from, walked, with_default}
-use Rattle.clap.specs.{Simple.{Shape}, Faults.{check_fault, default_fault, defaults_fault, given_default_fault, level_fault, settle_fault, walk_fault}}
+use Rattle.clap.specs.{Simple.{Shape}, Faults.{check_fault, default_fault, defaults_fault, given_default_fault, level_fault, settle_fault, use_fault, walk_fault}}
 use Rattle.clap.specs.Kinds.{Kinds}
 use Rattle.clap.proofs.FaultLemmas.{past}
 use Rattle.gs_words.specs.Plain.{Given, valued, flagged, is_plain_value, name_of, option_words, stand_once}
@@ -65,46 +65,56 @@ record Ends (s : Shape) (h : Held) (rows : List Row) (gs : List Given) (given : 
   settles : settle_fault s.rules s.args_override_self end ≡ []
   found : (settled s.rules end).rows ≡ rows ++ rows_for s.rules gs given
 
+-- an option with a value before the others, whose walk ends so
+value_first : (s : Shape) (h : Held) (rows : List Row) (n : Text) (x : ℕ) (xs : List ℕ) (gs : List Given) (a : Rule) (o : IsValued s.rules n a)
+    (dash : is_plain_value (x ∷ xs) ≡ true) (more : AreGiven s.rules gs) → (x == 45) ≡ false → settle_fault s.rules s.args_override_self h ≡ []
+    → Ends s (has_got s.rules n (x ∷ xs) h) (rows ++ row_with a (x ∷ xs) ∷ []) gs more → Ends s h rows (valued n (x ∷ xs) ∷ gs) ((a, o, dash), more)
+unfolding walk_fault
+value_first s h rows n x xs gs a o dash more plain clear rest = record {
+  end = rest.end;
+  walks = value_walk s.rules h n a x xs (option_words gs) o plain ∙ rest.walks;
+  clean = value_clean s h n a x xs (option_words gs) o plain clear ∙ rest.clean;
+  settles = rest.settles;
+  found = rest.found ∙ append_assoc rows (row_with a (x ∷ xs) ∷ []) (rows_for s.rules gs more);
+}
+
+-- a flag before the others, whose walk ends so
+flag_first : (s : Shape) (h : Held) (rows : List Row) (n : Text) (gs : List Given) (a : Rule) (o : IsFlag s.rules n a) (more : AreGiven s.rules gs)
+    → settle_fault s.rules s.args_override_self h ≡ [] → use_fault s.args_override_self a [] (settled s.rules h).rows ≡ []
+    → Ends s (reacted s.rules a [] h) (rows ++ row_with a (codes "true") ∷ []) gs more → Ends s h rows (flagged n ∷ gs) ((a, o), more)
+unfolding walk_fault
+flag_first s h rows n gs a o more clear uses rest = record {
+  end = rest.end;
+  walks = flag_walk s.rules h n a (option_words gs) o ∙ rest.walks;
+  clean = flag_clean s h n a (option_words gs) o clear uses ∙ rest.clean;
+  settles = rest.settles;
+  found = rest.found ∙ append_assoc rows (row_with a (codes "true") ∷ []) (rows_for s.rules gs more);
+}
+
 in_any_order : (s : Shape) (h : Held) (rows : List Row) (gs : List Given) (given : AreGiven s.rules gs) → settle_fault s.rules s.args_override_self h ≡ []
     → (settled s.rules h).rows ≡ rows
     → are_fresh rows gs ≡ true → stand_once gs ≡ true → Ends s h rows gs given
 unfolding walk_fault
 in_any_order s h rows [] given clear e f once = record { end = h; walks = refl; clean = refl; settles = clear; found = e ∙ sym (append-nil rows) }
 in_any_order s h rows (valued n [] ∷ gs) given clear e f once = let bad = given.0.2 in cc
-in_any_order s h rows (valued n (x ∷ xs) ∷ gs) given clear e f once =
-    let a = given.0.0 in
-    let o = given.0.1 in
-    let plain = not_true (x == 45) given.0.2 in
+in_any_order s h rows (valued n (x ∷ xs) ∷ gs) ((a, o, dash), more) clear e f once =
+    let plain = not_true (x == 45) dash in
     let p = and_parts (not (has_row n rows)) (are_fresh rows gs) f in
     let q = and_parts (list_all (λ g. not (bytes_eq n (name_of g))) gs) (stand_once gs) once in
     let fresh : has_row a.id rows ≡ false = rw o.named.id (not_true (has_row n rows) p.0) in
-    let rest = in_any_order s (has_got s.rules n (x ∷ xs) h) (rows ++ row_with a (x ∷ xs) ∷ []) gs given.1 (value_settles s h rows n (x ∷ xs) a o e fresh)
+    value_first s h rows n x xs gs a o dash more plain clear
+    (in_any_order s (has_got s.rules n (x ∷ xs) h) (rows ++ row_with a (x ∷ xs) ∷ []) gs more (value_settles s h rows n (x ∷ xs) a o e fresh)
     (value_rows s h rows n (x ∷ xs) a o e fresh)
-    (still_fresh rows (row_with a (x ∷ xs)) n gs o.named.id p.1 q.0) q.1 in
-    record {
-      end = rest.end;
-      walks = value_walk s.rules h n a x xs (option_words gs) o plain ∙ rest.walks;
-      clean = value_clean s h n a x xs (option_words gs) o plain clear ∙ rest.clean;
-      settles = rest.settles;
-      found = rest.found ∙ append_assoc rows (row_with a (x ∷ xs) ∷ []) (rows_for s.rules gs given.1);
-    }
-in_any_order s h rows (flagged n ∷ gs) given clear e f once =
-    let a = given.0.0 in
-    let o = given.0.1 in
+    (still_fresh rows (row_with a (x ∷ xs)) n gs o.named.id p.1 q.0) q.1)
+in_any_order s h rows (flagged n ∷ gs) ((a, o), more) clear e f once =
     let p = and_parts (not (has_row n rows)) (are_fresh rows gs) f in
     let q = and_parts (list_all (λ g. not (bytes_eq n (name_of g))) gs) (stand_once gs) once in
     let fresh : has_row a.id rows ≡ false = rw o.named.id (not_true (has_row n rows) p.0) in
     let uses = rw (← e) at (flag_uses s.rules s.args_override_self n a rows o fresh) in
     let used_rows : used a [] (settled s.rules h).rows ≡ rows ++ row_with a (codes "true") ∷ [] = rw e (flag_rows s.rules n a rows o fresh) in
-    let rest = in_any_order s (reacted s.rules a [] h) (rows ++ row_with a (codes "true") ∷ []) gs given.1 refl used_rows
-    (still_fresh rows (row_with a (codes "true")) n gs o.named.id p.1 q.0) q.1 in
-    record {
-      end = rest.end;
-      walks = flag_walk s.rules h n a (option_words gs) o ∙ rest.walks;
-      clean = flag_clean s h n a (option_words gs) o clear uses ∙ rest.clean;
-      settles = rest.settles;
-      found = rest.found ∙ append_assoc rows (row_with a (codes "true") ∷ []) (rows_for s.rules gs given.1);
-    }
+    flag_first s h rows n gs a o more clear uses
+    (in_any_order s (reacted s.rules a [] h) (rows ++ row_with a (codes "true") ∷ []) gs more refl used_rows
+    (still_fresh rows (row_with a (codes "true")) n gs o.named.id p.1 q.0) q.1)
 
 -- ---- defaults
 

@@ -7,4 +7,5 @@ pub mod AnyOrder
 pub mod Rows
 pub mod Obeyed
 pub mod Levels
+pub mod Making
 pub mod Plain
