@@ -11,7 +11,7 @@ use Rattle.gs_file.specs.Reading.{play_within, round_table_at, round_built, roun
 use Rattle.gs_file.specs.{States.{Has, HasOnly, IsText}, Tables.{only, required, text, whole_number, within}, TreeTexts.{IsTreeText, IsTreeRead}}
 use Rattle.gs_file.specs.{declared.fault.Key.{Key}, declared.form.Form.TheVariants.{File}}
 use Rattle.gs_file.specs.declared.fault.Key.TheVariants as key
-use Rattle.gs_file.proofs.{Stating.{IsWhole, after, found_ok, only_ok, same_ok, within_is, within_ok}, Trees.{is_read, reads_tree}}
+use Rattle.gs_file.proofs.{Stating.{IsWhole, after, passing, found_ok, only_ok, same_ok, within_is, within_ok}, Trees.{is_read, reads_tree}}
 
 -- ---- keys and words
 
@@ -81,18 +81,18 @@ pub round_ok : (n : ℕ) (table : Members) (r : Round ℤ) → round_table_at Fi
 unfolding round_table_at
 round_ok n table r e =
     let by_tree = has_tree File table in
-    let (u, eo, e1) = after (only File (round_keys by_tree) n table) _ r e in
-    let (p, ep, e2) = after (required File table (within_round n key.Private)) _ r e1 in
-    let (q, eq, e3) = after (required File table (within_round n key.Public)) _ r e2 in
-    let (values, ev, e4) = after (play_values File n table by_tree) _ r e3 in
-    let (private, ei, e5) = after (whole_number (within_round n key.Private) p) _ r e4 in
-    let (public, ej, e6) = after (whole_number (within_round n key.Public) q) _ r e5 in
-    let (play, ek, e7) = after (play_typed n values) _ r e6 in
+    passing (only File (round_keys by_tree) n table) _ r e (λ u eo e1.
+    passing (required File table (within_round n key.Private)) _ r e1 (λ p ep e2.
+    passing (required File table (within_round n key.Public)) _ r e2 (λ q eq e3.
+    passing (play_values File n table by_tree) _ r e3 (λ values ev e4.
+    passing (whole_number (within_round n key.Private) p) _ r e4 (λ private ei e5.
+    passing (whole_number (within_round n key.Public) q) _ r e5 (λ public ej e6.
+    passing (play_typed n values) _ r e6 (λ play ek e7.
     subst (λ w. RoundHas w table) (same_ok _ r e7) (record {
       private = whole_has n key.Private table p private ep ei;
       public = whole_has n key.Public table q public eq ej;
       play = play_ok by_tree n table values play (only_ok (round_keys by_tree) n table u eo) ev ek;
-    })
+    }))))))))
 
 pub round_is : (n : ℕ) (table : Members) (r : Round ℤ) → RoundHas r table → round_table_at File n table ≡ Ok r
 unfolding round_table_at

@@ -7,7 +7,7 @@ use Rattle.gs_file.specs.Reading.{Top, TopValues, bonus_numbers, bonus_value, ty
 use Rattle.gs_file.specs.{States.{Has, HasOnly, IsList, IsNumber, IsText}, declared.version.Version.{Version}, declared.version.Version.TheVariants.{One, Two}}
 use Rattle.gs_file.specs.{Tables.{only, required, tables_in, text, text_or_empty, whole_number, whole_numbers_in}, declared.form.Form.TheVariants.{File}}
 use Rattle.gs_file.specs.declared.fault.Key.TheVariants as key
-use Rattle.gs_file.proofs.Stating.{IsTable, IsWhole, after, found_ok, never, numbers_are, only_ok, same_ok, tables_are}
+use Rattle.gs_file.proofs.Stating.{IsTable, IsWhole, after, passing, found_ok, never, numbers_are, only_ok, same_ok, tables_are}
 
 -- ---- the values at the top
 
@@ -55,14 +55,14 @@ bonus_ok Two table bonus e o h =
 pub top_ok : (table : Members) (v : TopValues) → values_at File table ≡ Ok v → TopHas v table
 unfolding values_at
 top_ok table v e =
-    let (version, ev, e1) = after (version_at File table) _ v e in
-    let (u, eo, e2) = after (only File (top_keys version) 0 table) _ v e1 in
-    let (ranks, er, e3) = after (required File table (top key.Ranks)) _ v e2 in
-    let (suits, es, e4) = after (required File table (top key.Suits)) _ v e3 in
-    let (ranking, ek, e5) = after (required File table (top key.Ranking)) _ v e4 in
-    let (bonus, eb, e6) = after (bonus_value File version table) _ v e5 in
-    let (ante, ea, e7) = after (required File table (top key.Ante)) _ v e6 in
-    let (rounds, en, e8) = after (required File table (top key.Round)) _ v e7 in
+    passing (version_at File table) _ v e (λ version ev e1.
+    passing (only File (top_keys version) 0 table) _ v e1 (λ u eo e2.
+    passing (required File table (top key.Ranks)) _ v e2 (λ ranks er e3.
+    passing (required File table (top key.Suits)) _ v e3 (λ suits es e4.
+    passing (required File table (top key.Ranking)) _ v e4 (λ ranking ek e5.
+    passing (bonus_value File version table) _ v e5 (λ bonus eb e6.
+    passing (required File table (top key.Ante)) _ v e6 (λ ante ea e7.
+    passing (required File table (top key.Round)) _ v e7 (λ rounds en e8.
     subst (λ w. TopHas w table) (same_ok _ v e8) (record {
       version = bonus_ok version table bonus eb (only_ok (top_keys version) 0 table u eo) (version_ok table version ev);
       ranks = found_ok (get_member (key_in File key.Ranks) table) (missing_key (top key.Ranks)) ranks er;
@@ -71,7 +71,7 @@ top_ok table v e =
       ranking = found_ok (get_member (key_in File key.Ranking) table) (missing_key (top key.Ranking)) ranking ek;
       ante = found_ok (get_member (key_in File key.Ante) table) (missing_key (top key.Ante)) ante ea;
       rounds = found_ok (get_member (key_in File key.Round) table) (missing_key (top key.Round)) rounds en;
-    })
+    })))))))))
 
 pub top_is : (table : Members) (v : TopValues) → TopHas v table → values_at File table ≡ Ok v
 unfolding values_at version_at
@@ -121,13 +121,13 @@ typed_numbers (Some d) numbers h = rw ((numbers_are (top key.Bonus) d h.0).1 h.2
 pub typed_ok : (v : TopValues) (t : Top) → typed_at v ≡ Ok t → TypedHas t v
 unfolding typed_at
 typed_ok v t e =
-    let (ranks, er, e1) = after (text (top key.Ranks) v.ranks) _ t e in
-    let (suits, es, e2) = after (text (top key.Suits) v.suits) _ t e1 in
-    let (copies, ec, e3) = after (text_or_empty (top key.Copies) v.copies) _ t e2 in
-    let (ranking, ek, e4) = after (text (top key.Ranking) v.ranking) _ t e3 in
-    let (bonus, eb, e5) = after (bonus_numbers v.bonus) _ t e4 in
-    let (ante, ea, e6) = after (whole_number (top key.Ante) v.ante) _ t e5 in
-    let (rounds, en, e7) = after (tables_in (top key.Round) v.rounds) _ t e6 in
+    passing (text (top key.Ranks) v.ranks) _ t e (λ ranks er e1.
+    passing (text (top key.Suits) v.suits) _ t e1 (λ suits es e2.
+    passing (text_or_empty (top key.Copies) v.copies) _ t e2 (λ copies ec e3.
+    passing (text (top key.Ranking) v.ranking) _ t e3 (λ ranking ek e4.
+    passing (bonus_numbers v.bonus) _ t e4 (λ bonus eb e5.
+    passing (whole_number (top key.Ante) v.ante) _ t e5 (λ ante ea e6.
+    passing (tables_in (top key.Round) v.rounds) _ t e6 (λ rounds en e7.
     subst (λ w. TypedHas w v) (same_ok _ t e7) (record {
       ranks = found_ok (as_str v.ranks) (wrong_type (top key.Ranks)) ranks er;
       suits = found_ok (as_str v.suits) (wrong_type (top key.Suits)) suits es;
@@ -136,7 +136,7 @@ typed_ok v t e =
       bonus = numbers_typed v.bonus bonus eb;
       ante = found_ok (as_integer v.ante) (wrong_type (top key.Ante)) ante ea;
       rounds = (tables_are (top key.Round) v.rounds rounds).0 en;
-    })
+    }))))))))
 
 pub typed_is : (v : TopValues) (t : Top) → TypedHas t v → typed_at v ≡ Ok t
 unfolding typed_at

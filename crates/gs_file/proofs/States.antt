@@ -13,7 +13,7 @@ use Rattle.gs_file.specs.States.{FileStates, Has, IsNumber, IsRound, OneByOne, S
 use Rattle.gs_file.specs.{Tables.{each, array_items, text, within}, declared.fault.Key.{Key}, declared.form.Form.TheVariants.{File}}
 use Rattle.gs_file.specs.declared.fault.Key.TheVariants as key
 use Rattle.gs_file.proofs.{RoundCounts.{counted_is}, StatedRounds.{round_made_ok, round_ok, same_bytes}}
-use Rattle.gs_file.proofs.Stating.{IsTable, IsWhole, after, between, each_is, each_ok, found_ok, never, same_ok, through, within_is, within_ok}
+use Rattle.gs_file.proofs.Stating.{IsTable, IsWhole, after, passing, between, each_is, each_ok, found_ok, never, same_ok, through, within_is, within_ok}
 use Rattle.gs_file.proofs.StatedRounds.{PlayHas, PlayIn, PlayMade, RoundHas, RoundIn, RoundMade, round_in_is, round_in_ok, round_is, round_made_is}
 use Rattle.gs_file.proofs.StatedTop.{BonusTyped, CopiesTyped, VersionHas, top_is, top_ok, typed_is, typed_ok}
 use Rattle.gs_game.proofs.Rules.{kept, not_refused}
@@ -95,12 +95,12 @@ bonus_in_is r (Some zs) bonus (long, all) =
 stated_ok : (t : Top) (s : Stated) → stated_fields_at File t ≡ Ok s → StatedHas s t
 unfolding stated_fields_at
 stated_ok t s e =
-    let (u, eu, e1) = after (counted t.rounds) _ s e in
-    let (rs, er, e2) = after (each (round_table_at File) 1 t.rounds) _ s e1 in
-    let (ranking, ek, e3) = after (ranking_at t.ranking) _ s e2 in
-    let (bonus, eb, e4) = after (bonus_at ranking t.bonus) _ s e3 in
-    let (ante, ea, e5) = after (within (top key.Ante) 1 4096 t.ante) _ s e4 in
-    let (ws, ew, e6) = after (each round_within 1 rs) _ s e5 in
+    passing (counted t.rounds) _ s e (λ u eu e1.
+    passing (each (round_table_at File) 1 t.rounds) _ s e1 (λ rs er e2.
+    passing (ranking_at t.ranking) _ s e2 (λ ranking ek e3.
+    passing (bonus_at ranking t.bonus) _ s e3 (λ bonus eb e4.
+    passing (within (top key.Ante) 1 4096 t.ante) _ s e4 (λ ante ea e5.
+    passing (each round_within 1 rs) _ s e5 (λ ws ew e6.
     let had = each_ok (round_table_at File) RoundHas (λ n x y. round_ok n x y) 1 t.rounds rs er in
     let ranged = each_ok round_within RoundIn (λ n x y. round_in_ok n x y) 1 rs ws ew in
     subst (λ w. StatedHas w t) (same_ok _ s e6) (record {
@@ -108,7 +108,7 @@ stated_ok t s e =
       bonus = bonus_in_ok ranking t.bonus bonus eb;
       ante = within_ok (top key.Ante) 1 4096 t.ante ante ea;
       rounds = through RoundIn RoundHas RoundRead (λ w r table i h. (r, i, h)) ws rs t.rounds ranged had;
-    })
+    })))))))
 
 stated_is : (t : Top) (s : Stated) → counted t.rounds ≡ Ok tt → StatedHas s t → stated_fields_at File t ≡ Ok s
 unfolding stated_fields_at
@@ -218,11 +218,11 @@ round_stages b table h =
 table_ok : (table : Members) (g : FileGame) → game_at File table ≡ Ok g → StatesGame g table
 unfolding game_at
 table_ok table g e =
-    let (v, ev, e1) = after (values_at File table) _ g e in
-    let (t, et, e2) = after (typed_at v) _ g e1 in
-    let (s, es, e3) = after (stated_fields_at File t) _ g e2 in
-    let (cards, ec, e4) = after (deck_at t.ranks t.suits t.copies) _ g e3 in
-    let (bs, eb, e5) = after (each round_built 1 s.rounds) _ g e4 in
+    passing (values_at File table) _ g e (λ v ev e1.
+    passing (typed_at v) _ g e1 (λ t et e2.
+    passing (stated_fields_at File t) _ g e2 (λ s es e3.
+    passing (deck_at t.ranks t.suits t.copies) _ g e3 (λ cards ec e4.
+    passing (each round_built 1 s.rounds) _ g e4 (λ bs eb e5.
     let (no_rule, same) = lawful_ok (record { deck = cards; ranking = s.ranking; bonus = s.bonus; ante = s.ante; rounds = bs }) _ g e5 in
     let (no_fault, same_deck) = deck_ok (deck_of_texts t.ranks t.suits t.copies) (deck_fault_of t.ranks t.suits t.copies) cards ec in
     let hv = top_ok table v ev in
@@ -255,7 +255,7 @@ table_ok table g e =
         ),
       );
       lawful = kept _ no_rule;
-    })
+    }))))))
 
 -- what is stated is accepted
 table_is : (table : Members) (g : FileGame) → StatesGame g table → game_at File table ≡ Ok g

@@ -24,6 +24,11 @@ pub after : {A B : Type 0} (r : Result A Fault) (f : A → Result B Fault) (b : 
 after (Ok a) f b e = (a, refl, e)
 after (Err x) f b e = absurd (never x b e)
 
+-- what follows from each value that the step may have
+pub passing : {A B P : Type 0} (r : Result A Fault) (f : A → Result B Fault) (b : B) → (r >>= f) ≡ Ok b → ((a : A) → r ≡ Ok a → f a ≡ Ok b → P) → P
+passing (Ok a) f b e h = h a refl e
+passing (Err x) f b e h = absurd (never x b e)
+
 pub found_ok : {A : Type 0} (o : Option A) (f : Fault) (a : A) → ok_or o f ≡ Ok a → o ≡ Some a
 found_ok None f a e = absurd (never f a e)
 found_ok (Some x) f a e = ap Some (same_ok x a e)

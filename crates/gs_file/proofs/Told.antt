@@ -16,7 +16,7 @@ use Rattle.gs_file.specs.{Reading.{utf8_text, typed_at, values_at, version_at, v
 use Rattle.gs_file.specs.{States.{OneByOne}, Tables.{each, only, required, tables_in, text, text_or_empty, whole_number, within}, Keys.{top_keys}}
 use Rattle.gs_file.specs.{declared.form.Form.{Form}, declared.form.Form.TheVariants.{File, Json}, declared.version.Version.{Version}}
 use Rattle.gs_file.specs.declared.fault.Key.TheVariants as key
-use Rattle.gs_file.proofs.{States.{deck_ok, lawful_ok}, Stating.{after, each_ok, never, same_ok, through, within_ok}}
+use Rattle.gs_file.proofs.{States.{deck_ok, lawful_ok}, Stating.{after, each_ok, never, passing, same_ok, through, within_ok}}
 use Rattle.gs_file.proofs.StatedRounds.{PlayIn, PlayMade, RoundIn, RoundMade, round_in_ok, round_made_ok}
 use Rattle.serde_json.specs.Data as json
 use Rattle.gs_game.proofs.Rules.{kept}
@@ -111,30 +111,30 @@ version_one table v e =
 no_bonus : (table : Members) (values : TopValues) → values_at (Json One) table ≡ Ok values → values.bonus ≡ None
 unfolding values_at
 no_bonus table values e =
-    let (version, ev, e1) = after (version_at (Json One) table) _ values e in
-    let (u, eo, e2) = after (only (Json One) (top_keys version) 0 table) _ values e1 in
-    let (ranks, er, e3) = after (required (Json One) table (top key.Ranks)) _ values e2 in
-    let (suits, es, e4) = after (required (Json One) table (top key.Suits)) _ values e3 in
-    let (copies, ec, e5) = after (copies_value (Json One) table) _ values e4 in
-    let (ranking, ek, e6) = after (required (Json One) table (top key.Ranking)) _ values e5 in
-    let (bonus, eb, e7) = after (bonus_value (Json One) version table) _ values e6 in
-    let (ante, ea, e8) = after (required (Json One) table (top key.Ante)) _ values e7 in
-    let (rounds, en, e9) = after (required (Json One) table (top key.Round)) _ values e8 in
+    passing (version_at (Json One) table) _ values e (λ version ev e1.
+    passing (only (Json One) (top_keys version) 0 table) _ values e1 (λ u eo e2.
+    passing (required (Json One) table (top key.Ranks)) _ values e2 (λ ranks er e3.
+    passing (required (Json One) table (top key.Suits)) _ values e3 (λ suits es e4.
+    passing (copies_value (Json One) table) _ values e4 (λ copies ec e5.
+    passing (required (Json One) table (top key.Ranking)) _ values e5 (λ ranking ek e6.
+    passing (bonus_value (Json One) version table) _ values e6 (λ bonus eb e7.
+    passing (required (Json One) table (top key.Ante)) _ values e7 (λ ante ea e8.
+    passing (required (Json One) table (top key.Round)) _ values e8 (λ rounds en e9.
     let is_one : version ≡ One = version_one table version ev in
     let none : None ≡ bonus = same_ok None bonus (subst (λ v. bonus_value (Json One) v table ≡ Ok bonus) is_one eb) in
-    subst (λ (w : TopValues). w.bonus ≡ None) (same_ok _ values e9) (sym none)
+    subst (λ (w : TopValues). w.bonus ≡ None) (same_ok _ values e9) (sym none))))))))))
 
 typed_bonus : (values : TopValues) (fields : Top) → typed_at values ≡ Ok fields → bonus_numbers values.bonus ≡ Ok fields.bonus
 unfolding typed_at
 typed_bonus v t e =
-    let (ranks, er, e1) = after (text (top key.Ranks) v.ranks) _ t e in
-    let (suits, es, e2) = after (text (top key.Suits) v.suits) _ t e1 in
-    let (copies, ec, e3) = after (text_or_empty (top key.Copies) v.copies) _ t e2 in
-    let (ranking, ek, e4) = after (text (top key.Ranking) v.ranking) _ t e3 in
-    let (bonus, eb, e5) = after (bonus_numbers v.bonus) _ t e4 in
-    let (ante, ea, e6) = after (whole_number (top key.Ante) v.ante) _ t e5 in
-    let (rounds, en, e7) = after (tables_in (top key.Round) v.rounds) _ t e6 in
-    subst (λ (w : Top). bonus_numbers v.bonus ≡ Ok w.bonus) (same_ok _ t e7) eb
+    passing (text (top key.Ranks) v.ranks) _ t e (λ ranks er e1.
+    passing (text (top key.Suits) v.suits) _ t e1 (λ suits es e2.
+    passing (text_or_empty (top key.Copies) v.copies) _ t e2 (λ copies ec e3.
+    passing (text (top key.Ranking) v.ranking) _ t e3 (λ ranking ek e4.
+    passing (bonus_numbers v.bonus) _ t e4 (λ bonus eb e5.
+    passing (whole_number (top key.Ante) v.ante) _ t e5 (λ ante ea e6.
+    passing (tables_in (top key.Round) v.rounds) _ t e6 (λ rounds en e7.
+    subst (λ (w : Top). bonus_numbers v.bonus ≡ Ok w.bonus) (same_ok _ t e7) eb)))))))
 
 fields_none : (values : TopValues) (fields : Top) → values.bonus ≡ None → typed_at values ≡ Ok fields → fields.bonus ≡ None
 fields_none values fields none e =
@@ -162,29 +162,29 @@ record IsStated (form : Form) (t : Top) (s : Stated) : Type 0 where
 stated_ok : (form : Form) (t : Top) (s : Stated) → stated_fields_at form t ≡ Ok s → IsStated form t s
 unfolding stated_fields_at
 stated_ok form t s e =
-    let (u, ec, e1) = after (counted t.rounds) _ s e in
-    let (rs, er, e2) = after (each (round_table_at form) 1 t.rounds) _ s e1 in
-    let (ranking, ek, e3) = after (ranking_at t.ranking) _ s e2 in
-    let (bonus, eb, e4) = after (bonus_at ranking t.bonus) _ s e3 in
-    let (ante, ea, e5) = after (within (top key.Ante) 1 4096 t.ante) _ s e4 in
-    let (ws, ew, e6) = after (each round_within 1 rs) _ s e5 in
+    passing (counted t.rounds) _ s e (λ u ec e1.
+    passing (each (round_table_at form) 1 t.rounds) _ s e1 (λ rs er e2.
+    passing (ranking_at t.ranking) _ s e2 (λ ranking ek e3.
+    passing (bonus_at ranking t.bonus) _ s e3 (λ bonus eb e4.
+    passing (within (top key.Ante) 1 4096 t.ante) _ s e4 (λ ante ea e5.
+    passing (each round_within 1 rs) _ s e5 (λ ws ew e6.
     let (is, l, h) = within_ok (top key.Ante) 1 4096 t.ante ante ea in
     subst (IsStated form t) (same_ok _ s e6) (record {
       bonus = eb;
       low = l;
       high = h;
       rounds = (rs, each_ok round_within RoundIn (λ n r w g. round_in_ok n r w g) 1 rs ws ew);
-    })
+    })))))))
 
 -- what is accepted by either form is told
 pub game_told : (form : Form) (version : Version) (table : Members) (g : FileGame) → FormTells form version → game_at form table ≡ Ok g → IsTold version g
 unfolding game_at
 game_told form version table g f e =
-    let (v, ev, e1) = after (values_at form table) _ g e in
-    let (t, et, e2) = after (typed_at v) _ g e1 in
-    let (s, es, e3) = after (stated_fields_at form t) _ g e2 in
-    let (cards, ec, e4) = after (deck_at t.ranks t.suits t.copies) _ g e3 in
-    let (bs, eb, e5) = after (each round_built 1 s.rounds) _ g e4 in
+    passing (values_at form table) _ g e (λ v ev e1.
+    passing (typed_at v) _ g e1 (λ t et e2.
+    passing (stated_fields_at form t) _ g e2 (λ s es e3.
+    passing (deck_at t.ranks t.suits t.copies) _ g e3 (λ cards ec e4.
+    passing (each round_built 1 s.rounds) _ g e4 (λ bs eb e5.
     let (no_rule, same) = lawful_ok (record { deck = cards; ranking = s.ranking; bonus = s.bonus; ante = s.ante; rounds = bs }) _ g e5 in
     let (no_fault, same_deck) = deck_ok (deck_of_texts t.ranks t.suits t.copies) (deck_fault_of t.ranks t.suits t.copies) cards ec in
     let hs = stated_ok form t s es in
@@ -199,7 +199,7 @@ game_told form version table g f e =
       ante = hs.high;
       rounds = all_told bs rs told;
       lawful = kept _ no_rule;
-    })
+    }))))))
 
 -- what a file states
 pub file_told : (bytes : List ℕ) (g : FileGame) → read_at bytes ≡ Ok g → IsTold Two g

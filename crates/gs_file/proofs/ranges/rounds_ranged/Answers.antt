@@ -15,7 +15,7 @@ loop-index-preserved c =
           (goes_on round_within round_view (map ranged_view old) c.args.rounds.now n (n + 1) _ (ranged_view new) _
           c.loop-index-test.true c.in_ok-round.ensures
           c.loop-index.invariant.so_far);
-      count = search rules;
+      count = c.in_ok-push.ensures.len ∙ ap (λ k. k + 1) c.loop-index.invariant.count;
     }
 
 pub returns-clause-gives : goal.returns-clause-gives

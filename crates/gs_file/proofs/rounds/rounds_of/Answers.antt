@@ -22,7 +22,7 @@ loop-index-preserved c =
           (n + 1) c.index-tables-index.result (round_view new) _ c.loop-index-test.true
           (ap (λ x. round_table_at c.args.form (n + 1) (seen x)) (sym c.index-tables-index.is)
           ∙ c.in_ok-round.ensures) c.loop-index.invariant.so_far);
-      count = search rules;
+      count = c.in_ok-push.ensures.len ∙ ap (λ k. k + 1) c.loop-index.invariant.count;
     }
 
 pub returns-clause-gives : goal.returns-clause-gives

@@ -1,93 +1,64 @@
-use Rattle.std.proofs.{Common.{refl, arith}, lemmas.Grind.{common_steps}}
-use Rattle.gs_file.specs.Reading.{values_at}
-use Rattle.gs_file.proofs.Loop.{handed_on}
+use Rattle.toml.specs.View.{table_view}
 use Rattle.gs_file.specs.Views.{values_view}
+use Rattle.gs_file.proofs.{Loop.{handed_on}, TopSteps.{values_give, values_stops_version, values_stops_keys, values_stops_ranks, values_stops_suits}}
+use Rattle.gs_file.proofs.TopSteps.{values_stops_copies, values_stops_ranking, values_stops_bonus, values_stops_ante, values_stops_rounds}
 use Rattle.gs_file.proofs.top.values_of.Goals as goal
 
-pub returns : goal.returns
-unfolding values_at
-returns c = grind (arith, common_steps)
-
 pub returns-in_err-version : goal.returns-in_err-version
-unfolding values_at
 returns-in_err-version c =
     handed_on values_view _ _ _ _ c.from_residual.ensures.1 c.in_err-version.ensures
-    (λ _ h. rw h refl)
+    (values_stops_version c.args.form (table_view c.args.table.now))
 
 pub returns-in_err-check_top_keys : goal.returns-in_err-check_top_keys
-unfolding values_at
 returns-in_err-check_top_keys c =
     handed_on values_view _ _ _ _ c.from_residual-in_err-check_top_keys.ensures.1 c.in_err-check_top_keys.ensures
-    (λ _ h. rw (c.in_ok-version.ensures, h) refl)
+    (values_stops_keys c.args.form (table_view c.args.table.now) c.in_ok-version.ensures)
 
 pub returns-in_err-ranks : goal.returns-in_err-ranks
-unfolding values_at
 returns-in_err-ranks c =
-    let fails = rw c.top.ensures at c.in_err-ranks.ensures in
-    handed_on values_view _ _ _ _ c.from_residual-in_err-ranks.ensures.1 fails
-    (λ _ h. rw (c.in_ok-version.ensures, c.in_ok-check_top_keys.ensures, h) refl)
+    handed_on values_view _ _ _ _ c.from_residual-in_err-ranks.ensures.1 c.in_err-ranks.ensures
+    (values_stops_ranks c.args.form (table_view c.args.table.now) c.in_ok-version.ensures c.in_ok-check_top_keys.ensures c.top.ensures)
 
 pub returns-in_err-suits : goal.returns-in_err-suits
-unfolding values_at
 returns-in_err-suits c =
-    let ranks = rw c.top.ensures at c.in_ok-ranks.ensures in
-    let fails = rw c.top-2.ensures at c.in_err-suits.ensures in
-    handed_on values_view _ _ _ _ c.from_residual-in_err-suits.ensures.1 fails
-    (λ _ h. rw (c.in_ok-version.ensures, c.in_ok-check_top_keys.ensures, ranks, h) refl)
+    handed_on values_view _ _ _ _ c.from_residual-in_err-suits.ensures.1 c.in_err-suits.ensures
+    (values_stops_suits c.args.form (table_view c.args.table.now) c.in_ok-version.ensures c.in_ok-check_top_keys.ensures c.top.ensures
+    c.in_ok-ranks.ensures c.top-2.ensures)
 
 pub returns-in_err-copies : goal.returns-in_err-copies
-unfolding values_at
 returns-in_err-copies c =
-    let ranks = rw c.top.ensures at c.in_ok-ranks.ensures in
-    let suits = rw c.top-2.ensures at c.in_ok-suits.ensures in
     handed_on values_view _ _ _ _ c.from_residual-in_err-copies.ensures.1 c.in_err-copies.ensures
-    (λ _ h. rw (c.in_ok-version.ensures, c.in_ok-check_top_keys.ensures, ranks, suits, h) refl)
+    (values_stops_copies c.args.form (table_view c.args.table.now) c.in_ok-version.ensures c.in_ok-check_top_keys.ensures c.top.ensures
+    c.in_ok-ranks.ensures c.top-2.ensures c.in_ok-suits.ensures)
 
 pub returns-in_err-ranking : goal.returns-in_err-ranking
-unfolding values_at
 returns-in_err-ranking c =
-    let ranks = rw c.top.ensures at c.in_ok-ranks.ensures in
-    let suits = rw c.top-2.ensures at c.in_ok-suits.ensures in
-    let fails = rw c.top-3.ensures at c.in_err-ranking.ensures in
-    handed_on values_view _ _ _ _ c.from_residual-in_err-ranking.ensures.1 fails
-    (λ _ h. rw (c.in_ok-version.ensures, c.in_ok-check_top_keys.ensures, ranks, suits, c.in_ok-copies.ensures, h) refl)
+    handed_on values_view _ _ _ _ c.from_residual-in_err-ranking.ensures.1 c.in_err-ranking.ensures
+    (values_stops_ranking c.args.form (table_view c.args.table.now) c.in_ok-version.ensures c.in_ok-check_top_keys.ensures c.top.ensures
+    c.in_ok-ranks.ensures c.top-2.ensures c.in_ok-suits.ensures c.in_ok-copies.ensures c.top-3.ensures)
 
 pub returns-in_err-bonus : goal.returns-in_err-bonus
-unfolding values_at
 returns-in_err-bonus c =
-    let ranks = rw c.top.ensures at c.in_ok-ranks.ensures in
-    let suits = rw c.top-2.ensures at c.in_ok-suits.ensures in
-    let ranking = rw c.top-3.ensures at c.in_ok-ranking.ensures in
     handed_on values_view _ _ _ _ c.from_residual-in_err-bonus.ensures.1 c.in_err-bonus.ensures
-    (λ _ h. rw (c.in_ok-version.ensures, c.in_ok-check_top_keys.ensures, ranks, suits, c.in_ok-copies.ensures, ranking, h) refl)
+    (values_stops_bonus c.args.form (table_view c.args.table.now) c.in_ok-version.ensures c.in_ok-check_top_keys.ensures c.top.ensures
+    c.in_ok-ranks.ensures c.top-2.ensures c.in_ok-suits.ensures c.in_ok-copies.ensures c.top-3.ensures c.in_ok-ranking.ensures)
 
 pub returns-in_err-ante : goal.returns-in_err-ante
-unfolding values_at
 returns-in_err-ante c =
-    let ranks = rw c.top.ensures at c.in_ok-ranks.ensures in
-    let suits = rw c.top-2.ensures at c.in_ok-suits.ensures in
-    let ranking = rw c.top-3.ensures at c.in_ok-ranking.ensures in
-    let fails = rw c.top-4.ensures at c.in_err-ante.ensures in
-    handed_on values_view _ _ _ _ c.from_residual-in_err-ante.ensures.1 fails
-    (λ _ h. rw (c.in_ok-version.ensures, c.in_ok-check_top_keys.ensures, ranks, suits, c.in_ok-copies.ensures, ranking, c.in_ok-bonus.ensures, h) refl)
+    handed_on values_view _ _ _ _ c.from_residual-in_err-ante.ensures.1 c.in_err-ante.ensures
+    (values_stops_ante c.args.form (table_view c.args.table.now) c.in_ok-version.ensures c.in_ok-check_top_keys.ensures c.top.ensures
+    c.in_ok-ranks.ensures c.top-2.ensures c.in_ok-suits.ensures c.in_ok-copies.ensures c.top-3.ensures c.in_ok-ranking.ensures
+    c.in_ok-bonus.ensures c.top-4.ensures)
 
 pub returns-in_err-rounds : goal.returns-in_err-rounds
-unfolding values_at
 returns-in_err-rounds c =
-    let ranks = rw c.top.ensures at c.in_ok-ranks.ensures in
-    let suits = rw c.top-2.ensures at c.in_ok-suits.ensures in
-    let ranking = rw c.top-3.ensures at c.in_ok-ranking.ensures in
-    let ante = rw c.top-4.ensures at c.in_ok-ante.ensures in
-    let fails = rw c.top-5.ensures at c.in_err-rounds.ensures in
-    handed_on values_view _ _ _ _ c.from_residual-in_err-rounds.ensures.1 fails
-    (λ _ h. rw (
-      c.in_ok-version.ensures,
-      c.in_ok-check_top_keys.ensures,
-      ranks,
-      suits,
-      c.in_ok-copies.ensures,
-      ranking,
-      c.in_ok-bonus.ensures,
-      ante,
-      h,
-    ) refl)
+    handed_on values_view _ _ _ _ c.from_residual-in_err-rounds.ensures.1 c.in_err-rounds.ensures
+    (values_stops_rounds c.args.form (table_view c.args.table.now) c.in_ok-version.ensures c.in_ok-check_top_keys.ensures c.top.ensures
+    c.in_ok-ranks.ensures c.top-2.ensures c.in_ok-suits.ensures c.in_ok-copies.ensures c.top-3.ensures c.in_ok-ranking.ensures
+    c.in_ok-bonus.ensures c.top-4.ensures c.in_ok-ante.ensures c.top-5.ensures)
+
+pub returns : goal.returns
+returns c =
+    values_give c.args.form (table_view c.args.table.now) c.in_ok-version.ensures c.in_ok-check_top_keys.ensures c.top.ensures
+    c.in_ok-ranks.ensures c.top-2.ensures c.in_ok-suits.ensures c.in_ok-copies.ensures c.top-3.ensures c.in_ok-ranking.ensures
+    c.in_ok-bonus.ensures c.top-4.ensures c.in_ok-ante.ensures c.top-5.ensures c.in_ok-rounds.ensures
