@@ -12,7 +12,7 @@ use Rattle.gs_json.specs.Steps.{Then, ◌>>=◌}
 use Rattle.gs_model.proofs.{Push.{le_greatest}, Ranges.{in_range}, Walked.{walked_one, walked_two}, Deviations.{lift_is_raw_plan}, Tables.{is_table}}
 use Rattle.gs_model.proofs.{Gather.{known_from, firsts_from, plan_by}, Alike.{keeps_from}}
 use Rattle.gs_model.specs.{Classes.{ClassLists, list_of}, Frame.{Frame, last_round}, FrameFacts.{InRange, IsWalked}, Game.{IsPlayable}, Plans.{IsRawPlan}}
-use Rattle.gs_strategy.specs.Checks.{AreClasses, After, Checked, ChecksClasses, ChecksPlan, IsCanonical, IsClassFault, IsPlanFault, Reads, ReadsClasses}
+use Rattle.gs_strategy.specs.Checks.{AreClasses, After, Checked, ChecksClasses, IsCanonical, IsClassFault, IsPlanFault, Reads, ReadsClasses}
 use Rattle.gs_strategy.specs.{Checks.{ReadsParts, ReadsPlan}, Confirmed.{raw_plan}, Faults.{Fault, classes, fraction as no_fraction, plan, shape}}
 use Rattle.gs_strategy.specs.{Laws.{AreWeights, IsStrategy}, Reading.{stored_version_at, weights_at}, Texts.{strategy_data, strategy_text}}
 use Rattle.gs_strategy.specs.Reading.{Whole, class_lists_at, fraction_at, json_at, numbers_at, of_fraction, of_game, parts_at, stored_game_at}
@@ -123,16 +123,13 @@ numbers_ok parts n e =
         let (words, ew, e1) = after (ok_or (as_str d) (shape of_part)) _ p e in
         read_fraction words p (of_ok of_part (fraction_of words) p e1)
 
--- a strategy by its game, its classes, its plans and its numbers, each as it was checked
-pub checked_strategy : (version : Version) (parts : Whole) (s : Strategy) (lists : ClassLists) (one two : Weights)
-    → stored_game_at version parts.game ≡ Ok s.game → ChecksClasses s.game lists (Ok s.classes) → ChecksPlan s.game s.classes 1 one (Ok s.one)
-    → ChecksPlan s.game s.classes 2 two (Ok s.two) → numbers_at parts ≡ Ok s.numbers → IsStrategy version s
-checked_strategy version parts s lists one two eg c first second en =
+-- a strategy by its game and its classes, as they were checked, its plans and its numbers
+pub checked_strategy : (version : Version) (parts : Whole) (s : Strategy) (lists : ClassLists)
+    → stored_game_at version parts.game ≡ Ok s.game → ChecksClasses s.game lists (Ok s.classes) → ArePlanWeights s.game s.classes 1 s.one
+    → ArePlanWeights s.game s.classes 2 s.two → numbers_at parts ≡ Ok s.numbers → IsStrategy version s
+checked_strategy version parts s lists eg c first second en =
     strategy_is version s (json_told version parts.game s.game (game_ok (json_game_at version parts.game) s.game eg))
-    (checked_ok (AreClasses s.game) (IsClassFault s.game) classes (Ok lists) s.classes c)
-    (checked_ok (ArePlanWeights s.game s.classes 1) (IsPlanFault s.game s.classes 1) (plan 1) (Ok one) s.one first)
-    (checked_ok (ArePlanWeights s.game s.classes 2) (IsPlanFault s.game s.classes 2) (plan 2) (Ok two) s.two second)
-    (numbers_ok parts s.numbers en)
+    (checked_ok (AreClasses s.game) (IsClassFault s.game) classes (Ok lists) s.classes c) first second (numbers_ok parts s.numbers en)
 
 parts_read : (version : Version) (parts : Whole) (s : Strategy) → ReadsParts version parts (Ok s) → IsStrategy version s
 parts_read version parts s h =

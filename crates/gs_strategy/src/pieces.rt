@@ -76,10 +76,11 @@ pub fn push_classes(text: &mut Vec<u8>, lists: &[Vec<u32>]) -> Result<(), AllocE
     Ok(())
 }
 
-/// Appends a plan.
-pub fn push_plan(text: &mut Vec<u8>, plan: &Plan) -> Result<(), AllocError>
-    ensures { OnOk result (text.new.items ≡ text.old.items ++ compact_text (plan_data (weights_of plan.now))) }
+/// Appends a key and a plan.
+pub fn push_plan(text: &mut Vec<u8>, key: &[u8], plan: &Plan) -> Result<(), AllocError>
+    ensures { OnOk result (text.new.items ≡ (text.old.items ++ key.now) ++ compact_text (plan_data (weights_of plan.now))) }
 {
+    text.extend_from_slice(key)?;
     text.extend_from_slice(b"{\"total\":")?;
     push_number(text, plan.total)?;
     text.extend_from_slice(b",\"weights\":")?;
@@ -103,14 +104,16 @@ pub fn push_game(
     Ok(())
 }
 
-/// Appends a fraction.
+/// Appends a key and a fraction.
 pub fn push_fraction(
     text: &mut Vec<u8>,
     alloc: Global,
+    key: &[u8],
     fraction: &Fraction,
 ) -> Result<(), AllocError>
-    ensures { OnOk result (text.new.items ≡ text.old.items ++ compact_text (fraction_data (parts_of fraction.now))) }
+    ensures { OnOk result (text.new.items ≡ (text.old.items ++ key.now) ++ compact_text (fraction_data (parts_of fraction.now))) }
 {
+    text.extend_from_slice(key)?;
     let value = Value::from(fraction.to_text(alloc)?);
     let fraction_text = value.to_vec(alloc)?;
     text.extend_from_slice(&fraction_text)
