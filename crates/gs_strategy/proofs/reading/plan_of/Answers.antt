@@ -1,8 +1,16 @@
+use Rattle.std.proofs.Common.{◌≡◌}
 use Rattle.serde_json.specs.View.{view}
 use Rattle.gs_file.specs.Views.{valid_view}
 use Rattle.gs_strategy.specs.{Checks.{ChecksPlan, ReadsPlan}, Reading.{weights_at}, Views.{stated_weights, weights_of}}
-use Rattle.gs_strategy.proofs.Steps.{then_is, weaker}
+use Rattle.gs_strategy.proofs.Steps.{exits, then_fails, then_is, weaker}
 use Rattle.gs_strategy.proofs.reading.plan_of.Goals as goal
+
+pub returns-in_err-stated-clause-read : goal.returns-in_err-stated-clause-read
+returns-in_err-stated-clause-read c =
+    let a = c.args in
+    let d = view a.value.now in
+    exits weights_of (λ read. weights_at a.part d ≡ read) (ReadsPlan (valid_view a.game.now) a.classes.now.lists a.player a.part d) _ _
+    c.from_residual.ensures.1 c.in_err-stated.ensures (λ why so. then_fails (weights_at a.part d) _ why so)
 
 pub returns-clause-read : goal.returns-clause-read
 returns-clause-read c =

@@ -1,7 +1,18 @@
-use Rattle.std.proofs.Common.{arith}
+use Rattle.std.proofs.Common.{◌≡◌, arith}
+use Rattle.gs_seq.specs.{Games.{frame_in}, Plans.{IsPlanOf}}
 use Rattle.gs_strategy.specs.Views.{whole_view}
 use Rattle.gs_strategy.proofs.Strategies.{checked_strategy}
+use Rattle.gs_strategy.proofs.reading.stored_from.Goals.{In_ok-classes, In_ok-one, In_ok-two}
 use Rattle.gs_strategy.proofs.reading.stored_from.Goals as goal
+
+parents : (c : In_ok-classes) → c.in_ok-classes.classes.parents ≡ (frame_in c.in_ok-game.game).parents
+parents c = c.in_ok-classes.ensures.parents
+
+first : (c : In_ok-one) → IsPlanOf (frame_in c.in_ok-game.game) c.in_ok-classes.classes.lists 1 c.in_ok-one.one
+first c = c.in_ok-one.ensures
+
+second : (c : In_ok-two) → IsPlanOf (frame_in c.in_ok-game.game) c.in_ok-classes.classes.lists 2 c.in_ok-two.two
+second c = c.in_ok-two.ensures
 
 pub returns : goal.returns
 returns c = checked_strategy c.args.version (whole_view c.args.parts.now) _ _ c.in_ok-game.ensures c.in_ok-classes.ensures.checked
@@ -11,7 +22,12 @@ pub same-classes : goal.same-classes
 same-classes c = grind arith
 
 pub plan_with-requires-2-clause-parents : goal.plan_with-requires-2-clause-parents
-plan_with-requires-2-clause-parents c = grind arith
+plan_with-requires-2-clause-parents c = parents (goal.at.plan_with-requires-2-clause-parents c).In_ok-classes
+
+pub plan_with-requires-clause-parents : goal.plan_with-requires-clause-parents
+plan_with-requires-clause-parents c = parents (goal.at.plan_with-requires-clause-parents c).In_ok-classes
 
 pub invariant_of-result : goal.invariant_of-result
-invariant_of-result c = record { parents = c.in_ok-classes.ensures.parents; first = c.in_ok-one.ensures; second = c.in_ok-two.ensures }
+invariant_of-result c =
+    let at = goal.at.invariant_of-result c in
+    record { parents = parents at.In_ok-classes; first = first at.In_ok-one; second = second at.In_ok-two }
