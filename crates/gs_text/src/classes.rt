@@ -45,8 +45,7 @@ fn texts_above(alloc: Global, signals: &Signals, round: u8) -> Result<Vec<String
     ensures { IfOk result (λ texts. 1 < round → map string_bytes texts.items ≡ texts_of_signals (deck_of signals.now) (rules_of signals.now) (round - 1)) }
 {
     if round > 1 {
-        let texts = signal_texts(alloc, signals, round - 1)?;
-        return Ok(texts);
+        return signal_texts(alloc, signals, round - 1);
     }
     Ok(Vec::new(alloc))
 }
