@@ -1,5 +1,6 @@
-use Rattle.std.proofs.{Common.{◌≡◌, ◌++◌, ℕ, List, ap, append_assoc, arith, length, string_bytes, sym, ◌∙◌}, lemmas.List.{append-nil, length-map}}
+use Rattle.std.proofs.{Common.{◌≡◌, ◌++◌, ℕ, List, ap, append_assoc, arith, length, map, String, string_bytes, sym, ◌∙◌}, lemmas.List.{append-nil, length-map}}
 use Rattle.std.specs.{Prelude.{flat_map}, List.{range_with_len, zip}}
+use Rattle.std.specs.declared.alloc.Global.{Global}
 use Rattle.gs_model.specs.{Classes.{class_count, list_of}, Signals.{signals}}
 use Rattle.gs_tree.specs.{Texts.{signal_text}, Trees.{deck_of, rules_of}}
 use Rattle.gs_text.specs.ClassText.{class_line, round_line, signal_texts}
@@ -44,3 +45,6 @@ push_class-requires-clause-lists c = grind arith
 
 pub push_class-requires-clause-nexts : goal.push_class-requires-clause-nexts
 push_class-requires-clause-nexts c = grind arith
+
+pub push_class-requires-clause-above : goal.push_class-requires-clause-above
+push_class-requires-clause-above c = λ more. ap (λ (xs : List (String Global)). map string_bytes xs) c.deref.ensures.value ∙ c.in_ok-above.ensures more

@@ -44,3 +44,6 @@ push_text_below-requires-clause-parent c =
     c.as_str.ensures.value ∙ ap string_bytes c.index-above-parent.is ∙ sym (get_or-map string_bytes above k c.index-above-parent.result [] kept)
     ∙ ap (λ (x : List (List ℕ)). get_or x k []) told ∙ get_or-map (signal_text d) (signals g round) k [] [] within
     ∙ ap (λ n. signal_text d (signal_at g round n)) owner
+
+pub returns : goal.returns
+returns c = grind (arith, c.push_str.ensures, c.as_str-2.ensures.value, c.in_ok-member.ensures)
