@@ -137,15 +137,15 @@ impl fmt::Display for Limit {
     ghost output = { λ limit. Some (limit_text limit) };
 
     fn fmt<W: fmt::Write>(&self, f: &mut fmt::Formatter<W>) -> fmt::Result {
-        match self {
-            Limit::Sequences { player, count } => write!(
-                f,
-                "sequences of player {player}: {count}"
-            ),
-            Limit::Cells { count } => write!(f, "cells: {count}"),
-            Limit::TableNumbers { count } => write!(f, "table numbers: {count}"),
-            Limit::RawCells { count } => write!(f, "raw cells: {count}"),
-        }
+        let (what, count) = match self {
+            Limit::Sequences { player, count } => {
+                return write!(f, "sequences of player {player}: {count}");
+            }
+            Limit::Cells { count } => ("cells", count),
+            Limit::TableNumbers { count } => ("table numbers", count),
+            Limit::RawCells { count } => ("raw cells", count),
+        };
+        write!(f, "{what}: {count}")
     }
 }
 

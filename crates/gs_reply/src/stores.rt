@@ -1,6 +1,6 @@
 //! Writing the texts of the faults of a strategy file.
 
-ghost use Rattle.std.specs.{Prelude.{◌≡◌, ◌≢◌, ◌++◌, IfOk, codes}, Fmt.{decimal}};
+ghost use Rattle.std.specs.{Prelude.{◌≡◌, ◌≢◌, ◌++◌, IfOk, codes, string_bytes}, Fmt.{decimal}};
 ghost use Rattle.gs_file.specs.Faults.{Fault as GameRule};
 ghost use Rattle.gs_file.specs.declared.fault.FileFault.TheVariants as file;
 ghost use Rattle.gs_filter.specs.FaultText.{fault_text as class_fault_text};
@@ -34,12 +34,11 @@ fn part_text(part: FilePart) -> &'static str
 }
 
 /// Returns the text for a part of a wrong shape.
-fn shape_text(alloc: Global, part: FilePart) -> Result<Vec<u8>, AllocError>
-    ensures { IfOk result (λ v. v.items ≡ codes "shape of " ++ text_of_part part) }
+fn shape_text(alloc: Global, part: FilePart) -> Result<String, AllocError>
+    ensures { IfOk result (λ s. string_bytes s ≡ codes "shape of " ++ text_of_part part) }
 {
-    let mut text = String::from_str(alloc, "shape of ")?;
-    text.push_str(part_text(part))?;
-    Ok(text.into_bytes())
+    let name = part_text(part);
+    format!(in alloc; "shape of {name}")
 }
 
 /// Returns the text for a value that states no game.
@@ -54,33 +53,30 @@ fn game_text(alloc: Global, fault: &FileFault) -> Result<Vec<u8>, AllocError>
 }
 
 /// Returns the text for class numbers that are not classes.
-fn classes_text(alloc: Global, fault: &ClassFault) -> Result<Vec<u8>, AllocError>
-    ensures { IfOk result (λ v. v.items ≡ codes "classes: " ++ class_fault_text fault.now) }
+fn classes_text(alloc: Global, fault: &ClassFault) -> Result<String, AllocError>
+    ensures { IfOk result (λ s. string_bytes s ≡ codes "classes: " ++ class_fault_text fault.now) }
 {
-    let mut text = String::from_str(alloc, "classes: ")?;
-    let wrong = fault.to_string(alloc)?;
-    text.push_str(wrong.as_str())?;
-    Ok(text.into_bytes())
+    format!(in alloc; "classes: {fault}")
 }
 
 /// Returns the text for a point and a class at which a player's weights do not add up.
-fn flow_text(alloc: Global, player: u8, point: u32, class: u32) -> Result<Vec<u8>, AllocError>
-    ensures { IfOk result (λ v. v.items ≡ codes "player " ++ decimal player ++ codes " flow at point " ++ decimal point ++ codes " class " ++ decimal class) }
+fn flow_text(alloc: Global, player: u8, point: u32, class: u32) -> Result<String, AllocError>
+    ensures { IfOk result (λ s. string_bytes s
+        ≡ codes "player " ++ decimal player ++ codes " flow at point " ++ decimal point ++ codes " class " ++ decimal class) }
 {
-    let text = format!(in alloc; "player {player} flow at point {point} class {class}")?;
-    Ok(text.into_bytes())
+    format!(in alloc; "player {player} flow at point {point} class {class}")
 }
 
 /// Returns the player's number, followed by what is wrong with the weights.
-fn player_text(alloc: Global, player: u8, wrong: &str) -> Result<Vec<u8>, AllocError>
-    ensures { IfOk result (λ v. v.items ≡ codes "player " ++ decimal player ++ wrong.now) }
+fn player_text(alloc: Global, player: u8, wrong: &str) -> Result<String, AllocError>
+    ensures { IfOk result (λ s. string_bytes s ≡ codes "player " ++ decimal player ++ wrong.now) }
 {
-    Ok(format!(in alloc; "player {player}{wrong}")?.into_bytes())
+    format!(in alloc; "player {player}{wrong}")
 }
 
 /// Returns the text for weights that are not a plan.
-fn plan_text(alloc: Global, player: u8, fault: PlanFault) -> Result<Vec<u8>, AllocError>
-    ensures { IfOk result (λ v. v.items ≡ text_of_plan player fault) }
+fn plan_text(alloc: Global, player: u8, fault: PlanFault) -> Result<String, AllocError>
+    ensures { IfOk result (λ s. string_bytes s ≡ text_of_plan player fault) }
 {
     match fault {
         PlanFault::Length { .. } => player_text(alloc, player, " length"),
@@ -90,21 +86,18 @@ fn plan_text(alloc: Global, player: u8, fault: PlanFault) -> Result<Vec<u8>, All
 }
 
 /// Returns the text for a part that is not the text of a fraction.
-fn fraction_fault(alloc: Global, part: FilePart, fault: &FracFault) -> Result<Vec<u8>, AllocError>
-    ensures { IfOk result (λ v. v.items ≡ text_of_part part ++ codes " " ++ fraction_fault_text fault.now) }
+fn fraction_fault(alloc: Global, part: FilePart, fault: &FracFault) -> Result<String, AllocError>
+    ensures { IfOk result (λ s. string_bytes s ≡ text_of_part part ++ codes " " ++ fraction_fault_text fault.now) }
 {
-    let mut text = String::from_str(alloc, part_text(part))?;
-    text.push_str(" ")?;
-    let wrong = fault.to_string(alloc)?;
-    text.push_str(wrong.as_str())?;
-    Ok(text.into_bytes())
+    let name = part_text(part);
+    format!(in alloc; "{name} {fault}")
 }
 
 /// Returns what is wrong, followed by a number.
-fn counted_text(alloc: Global, wrong: &str, number: u64) -> Result<Vec<u8>, AllocError>
-    ensures { IfOk result (λ v. v.items ≡ wrong.now ++ decimal number) }
+fn counted_text(alloc: Global, wrong: &str, number: u64) -> Result<String, AllocError>
+    ensures { IfOk result (λ s. string_bytes s ≡ wrong.now ++ decimal number) }
 {
-    Ok(format!(in alloc; "{wrong}{number}")?.into_bytes())
+    format!(in alloc; "{wrong}{number}")
 }
 
 /// Returns why a strategy file is refused, without a line feed.
@@ -112,15 +105,16 @@ pub fn store_fault_text(alloc: Global, fault: &StoreFault) -> Result<Vec<u8>, Al
     requires { (why : Fault) × IsStoreFault fault.now why }
     ensures { IfOk result (λ text. (why : Fault) → IsStoreFault fault.now why → text.items ≡ text_of_store why) }
 {
-    match fault {
-        StoreFault::NotJson => Ok(String::from_str(alloc, "not JSON")?.into_bytes()),
+    let text = match fault {
+        StoreFault::NotJson => String::from_str(alloc, "not JSON"),
         StoreFault::Shape(part) => shape_text(alloc, *part),
         StoreFault::Version(number) => counted_text(alloc, "version ", *number),
-        StoreFault::Game(fault) => game_text(alloc, fault),
+        StoreFault::Game(fault) => return game_text(alloc, fault),
         StoreFault::Classes(fault) => classes_text(alloc, fault),
         StoreFault::Plan { player, fault } => plan_text(alloc, *player, *fault),
         StoreFault::Fraction { part, fault } => fraction_fault(alloc, *part, fault),
         StoreFault::NotCanonical { at } => counted_text(alloc, "not canonical at ", *at),
-        StoreFault::Memory => Ok(String::from_str(alloc, "out of memory")?.into_bytes()),
-    }
+        StoreFault::Memory => String::from_str(alloc, "out of memory"),
+    };
+    Ok(text?.into_bytes())
 }
