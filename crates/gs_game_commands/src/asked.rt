@@ -19,3 +19,12 @@ pub(crate) enum Asked {
     /// The path on which that strategy is found.
     Path,
 }
+
+/// What is asked of a game and the classes of a grouping.
+#[derive(Drop)]
+pub(crate) enum Question {
+    /// The text of the classes, or their summary.
+    Classes { summary: bool },
+    /// What is asked of the game over the classes.
+    Over(Asked),
+}

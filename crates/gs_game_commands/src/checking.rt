@@ -1,23 +1,22 @@
-//! The command `check`.
+//! The answer of `check` for the classes of a grouping.
 
 ghost use Rattle.std.specs.Prelude.{◌≡◌};
 ghost use Rattle.gs_file.specs.Views.{valid_view};
-ghost use Rattle.gs_game_commands.specs.Checking.{Checks, ChecksGame, IsGrouping};
+ghost use Rattle.gs_game_commands.specs.Checking.{ChecksGame, IsGrouping};
 ghost use Rattle.gs_model.specs.Frame.{frame_of};
 ghost use Rattle.gs_reply.specs.Replies.{Answers};
 ghost use Rattle.gs_tree.specs.Trees.{rules_of};
 
-use crate::grouping::{classes_of, lossless_of};
+use crate::grouping::lossless_of;
 use crate::telling::told;
 use gs_filter::Classes;
-use gs_game::ValidGame;
-use gs_reply::{Stop, stated_game};
+use gs_reply::Stop;
 use gs_tree::Signals;
 use gs_words::Grouping;
 use std::alloc::Global;
 
-// Returns the text or the summary of the classes of a grouping, if they are lossless; or the refusal.
-fn listed(
+/// Returns the text or the summary of the classes of a grouping, if they are lossless; or the refusal.
+pub(crate) fn listed(
     alloc: Global,
     signals: &Signals,
     classes: &Classes,
@@ -30,32 +29,4 @@ fn listed(
 {
     lossless_of(alloc, signals, classes, grouping)?;
     Ok(told(alloc, signals, classes, summary)?)
-}
-
-// Returns the answer of `check` for a game.
-fn checked(
-    alloc: Global,
-    game: &ValidGame,
-    grouping: Grouping,
-    summary: bool,
-) -> Result<Vec<u8>, Stop>
-    ensures { Answers (ChecksGame grouping summary (valid_view game.now)) result }
-{
-    let signals = Signals::of(alloc, game)?;
-    let classes = classes_of(alloc, &signals, grouping)?;
-    listed(alloc, &signals, &classes, grouping, summary)
-}
-
-/// Returns the answer of `check` to the bytes of a game file: the text or the summary of the classes of this grouping, if they are lossless; or the
-/// refusal.
-pub fn check_answer(
-    alloc: Global,
-    bytes: &[u8],
-    grouping: Grouping,
-    summary: bool,
-) -> Result<Vec<u8>, Stop>
-    ensures { Answers (Checks grouping summary bytes.now) result }
-{
-    let game = stated_game(alloc, bytes)?;
-    checked(alloc, &game, grouping, summary)
 }

@@ -15,7 +15,6 @@ mod solving;
 mod telling;
 mod writing;
 
-pub use checking::check_answer;
-pub use commands::{path_answer, play_answer, solve_answer};
+pub use commands::{check_answer, path_answer, play_answer, solve_answer};
 pub use laws::{pivot_limit_is_told, printed_are_raw, printed_are_strategies};
 pub use shrinking::shrink_answer;

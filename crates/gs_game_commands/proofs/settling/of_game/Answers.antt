@@ -1,14 +1,14 @@
 use Rattle.std.proofs.Common.{subst, arith}
 use Rattle.gs_file.specs.Views.{valid_view}
 use Rattle.gs_game.specs.declared.valid.ValidGame.{ValidGame}
-use Rattle.gs_game_commands.specs.{Asked.{says_asked}, Settling.{OfGrouping}}
+use Rattle.gs_game_commands.specs.Asked.{says_of}
 use Rattle.gs_reply.specs.Replies.{Answers}
 use Rattle.gs_game_commands.proofs.settling.of_game.Goals as goal
 
 pub returns : goal.returns
 returns c =
-    subst (λ (v : ValidGame). Answers (OfGrouping c.args.grouping (says_asked c.args.asked.now) (valid_view v)) c.of_classes.result) c.in_ok-signals.ensures
-    c.of_classes.ensures
+    subst (λ (v : ValidGame). Answers (says_of c.args.question.now c.args.grouping (valid_view v)) c.with_classes.result) c.in_ok-signals.ensures
+    c.with_classes.ensures
 
 pub invariant_of-signals : goal.invariant_of-signals
 invariant_of-signals c = grind arith
