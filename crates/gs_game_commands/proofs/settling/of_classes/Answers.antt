@@ -23,3 +23,6 @@ pub returns : goal.returns
 returns c =
     said (says_asked c.args.asked.now) c.args.grouping (valid_view c.args.signals.now.game.now) c.of_form.result c.in_ok-lossless.lossless
     (over (goal.at.returns c).In_ok-lossless) c.in_ok-form.form c.in_ok-form.ensures.held c.in_ok-form.ensures.small c.of_form.ensures
+
+pub of_form-requires : goal.of_form-requires
+of_form-requires c = c.in_ok-form.ensures.small

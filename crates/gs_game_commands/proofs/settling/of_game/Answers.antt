@@ -1,4 +1,4 @@
-use Rattle.std.proofs.Common.{subst, arith}
+use Rattle.std.proofs.Common.{subst}
 use Rattle.gs_file.specs.Views.{valid_view}
 use Rattle.gs_game.specs.declared.valid.ValidGame.{ValidGame}
 use Rattle.gs_game_commands.specs.Asked.{says_of}
@@ -11,4 +11,29 @@ returns c =
     c.with_classes.ensures
 
 pub invariant_of-signals : goal.invariant_of-signals
-invariant_of-signals c = grind arith
+invariant_of-signals c =
+    let s = c.in_ok-signals.signals in
+    record {
+      listed = s.listed;
+      ranked = s.ranked;
+      beside = s.beside;
+      dealt = s.dealt;
+      strong = s.strong;
+      masked = s.masked;
+      even = s.even;
+      counted = s.counted;
+    }
+
+pub invariant_of-signals-2 : goal.invariant_of-signals-2
+invariant_of-signals-2 c =
+    let s = c.in_ok-signals.signals in
+    record {
+      listed = s.listed;
+      ranked = s.ranked;
+      beside = s.beside;
+      dealt = s.dealt;
+      strong = s.strong;
+      masked = s.masked;
+      even = s.even;
+      counted = s.counted;
+    }

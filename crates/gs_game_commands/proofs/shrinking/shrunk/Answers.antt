@@ -15,3 +15,36 @@ returns c =
       are = are;
       printed = subst (λ (v : ValidGame). text.items ≡ told c.args.summary (valid_view v).deck (file_rules (valid_view v)) lists) held printed;
     }) c.told.ensures
+
+pub invariant_of-signals : goal.invariant_of-signals
+invariant_of-signals c =
+    let s = c.in_ok-signals.signals in
+    record {
+      listed = s.listed;
+      ranked = s.ranked;
+      beside = s.beside;
+      dealt = s.dealt;
+      strong = s.strong;
+      masked = s.masked;
+      even = s.even;
+      counted = s.counted;
+    }
+
+pub invariant_of-signals-2 : goal.invariant_of-signals-2
+invariant_of-signals-2 c =
+    let s = c.in_ok-signals.signals in
+    record {
+      listed = s.listed;
+      ranked = s.ranked;
+      beside = s.beside;
+      dealt = s.dealt;
+      strong = s.strong;
+      masked = s.masked;
+      even = s.even;
+      counted = s.counted;
+    }
+
+pub told-requires : goal.told-requires
+told-requires c =
+    let are = c.in_ok-classes.ensures.classes in
+    record { rounds = are.rounds; lengths = are.lengths }

@@ -9,3 +9,9 @@ returns-in_ok-text_of-in-Ok c =
     let form = c.args.form.now in
     is_solved (file_game_in form) (lists_of form) c.in-Ok.one c.in-Ok.two c.in_ok-text_of-in-Ok.field-0.items c.in_ok-text_of-in-Ok.ensures
     (some_deal form.lossless.now.signals.now.game.now) c.in-Ok.ensures
+
+pub text_of-requires-clause-one : goal.text_of-requires-clause-one
+text_of-requires-clause-one c = c.in-Ok.ensures.one
+
+pub text_of-requires-clause-two : goal.text_of-requires-clause-two
+text_of-requires-clause-two c = c.in-Ok.ensures.two

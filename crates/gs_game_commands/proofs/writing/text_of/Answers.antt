@@ -46,3 +46,9 @@ returns c =
     IfOk-weaker c.write_strategy.result _ _ (λ text. told_of form c.game.result.now c.classes-classes.result.now c.args.one.now c.args.two.now
     c.verdict-found.result text.items game classes are lossless c.requires.small
     c.requires.one c.requires.two c.verdict-found.ensures.verdict) c.write_strategy.ensures
+
+pub verdict-found-requires-clause-one : goal.verdict-found-requires-clause-one
+verdict-found-requires-clause-one c = c.requires.one
+
+pub verdict-found-requires-clause-two : goal.verdict-found-requires-clause-two
+verdict-found-requires-clause-two c = c.requires.two
