@@ -27,12 +27,13 @@ fn told(
     requires { HoldsStrategy form.now.lossless.now stored.now }
     ensures { Answers (says_wanted wanted.now (stored_view stored.now)) result }
 {
-    match wanted {
-        Wanted::Numbers => Ok(verdict_text(alloc, &stored.verdict)?),
-        Wanted::Upgrade => Ok(stored.text(alloc, Version::Two)?),
-        Wanted::Certificate => Ok(certified_text(alloc, stored, form)?),
-        Wanted::Mixture(query) => located(alloc, query, stored, form),
-    }
+    let text = match wanted {
+        Wanted::Numbers => verdict_text(alloc, &stored.verdict),
+        Wanted::Upgrade => stored.text(alloc, Version::Two),
+        Wanted::Certificate => certified_text(alloc, stored, form),
+        Wanted::Mixture(query) => return located(alloc, query, stored, form),
+    };
+    Ok(text?)
 }
 
 // Returns what is wanted of a strategy over the signals of its game, if it is confirmed; or the refusal.

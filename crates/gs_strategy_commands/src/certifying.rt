@@ -19,8 +19,10 @@ pub(crate) fn certified_text(
     requires { HoldsStrategy form.now.lossless.now stored.now }
     ensures { IfOk result (λ text. IsCertified (stored_view stored.now) text.items) }
 {
-    let c = make_certificate(alloc, form, &stored.one, &stored.two)?;
-    let line = certificate_text(alloc, &c)?;
+    let line = {
+        let c = make_certificate(alloc, form, &stored.one, &stored.two)?;
+        certificate_text(alloc, &c)?
+    };
     let mut text = stored.text(alloc, Version::Two)?;
     text.extend_from_slice(&line)?;
     Ok(text)

@@ -1,4 +1,4 @@
-use Rattle.std.proofs.Common.{subst, sym, arith}
+use Rattle.std.proofs.Common.{subst, sym}
 use Rattle.gs_reply.specs.Replies.{Answers}
 use Rattle.gs_strategy.specs.Views.{stored_view}
 use Rattle.gs_strategy_commands.specs.Wanted.{says_wanted}
@@ -7,6 +7,3 @@ use Rattle.gs_strategy_commands.proofs.answers.told.Goals as goal
 pub returns-in-Mixture : goal.returns-in-Mixture
 returns-in-Mixture c =
     subst (λ w. Answers (says_wanted w (stored_view c.args.stored.now)) c.located.result) (sym c.in-Mixture.is) c.located.ensures
-
-pub returns-in_ok-certified_text-in-Certificate : goal.returns-in_ok-certified_text-in-Certificate
-returns-in_ok-certified_text-in-Certificate c = grind arith
