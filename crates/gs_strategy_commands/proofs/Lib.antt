@@ -1,4 +1,5 @@
 pub mod Spots
 pub mod Told
+pub mod Mixed
 pub mod Moved
 pub mod Lines

@@ -11,12 +11,25 @@ use Rattle.gs_lossless.specs.declared.checking.Lossless.{Lossless}
 use Rattle.gs_model.specs.{Classes.{ClassLists}, Frame.{Frame}}
 use Rattle.gs_reply.proofs.Refused.{stops_more}
 use Rattle.gs_reply.specs.{Replies.{Reply, StopsFor}, Troubles.{SaysUnlike}, declared.refusals.Stop.{Stop}}
-use Rattle.gs_seq.specs.{Games.{frame_in}, Plans.{lifted}}
+use Rattle.gs_seq.specs.{Games.{frame_in}, Plans.{IsPlanOf, lifted}}
 use Rattle.gs_strategy.specs.{Values.{Strategy}, declared.stored.Stored.{Stored}}
 
 pub moved : (P : Frame → ClassLists → Type 0) (l : Lossless) (s : Stored) → HoldsStrategy l s → P (frame_in l.signals.now.game.now) l.classes.now.lists
     → P (frame_in s.game) s.classes.lists
 moved P l s h x = subst (λ k. P (frame_in s.game) k.lists) h.classes (subst (λ g. P (frame_in g) l.classes.now.lists) h.game x)
+
+-- and the other way
+pub moved_back : (P : Frame → ClassLists → Type 0) (l : Lossless) (s : Stored) → HoldsStrategy l s → P (frame_in s.game) s.classes.lists
+    → P (frame_in l.signals.now.game.now) l.classes.now.lists
+moved_back P l s h x = subst (λ k. P (frame_in l.signals.now.game.now) k.lists) (sym h.classes)
+    (subst (λ g. P (frame_in g) s.classes.lists) (sym h.game) x)
+
+-- the plans of a strategy are plans over the game in sequence form
+pub first_plan : (l : Lossless) (s : Stored) → HoldsStrategy l s → IsPlanOf (frame_in l.signals.now.game.now) l.classes.now.lists 1 s.one
+first_plan l s h = moved_back (λ f n. IsPlanOf f n 1 s.one) l s h s.first
+
+pub second_plan : (l : Lossless) (s : Stored) → HoldsStrategy l s → IsPlanOf (frame_in l.signals.now.game.now) l.classes.now.lists 2 s.two
+second_plan l s h = moved_back (λ f n. IsPlanOf f n 2 s.two) l s h s.second
 
 -- a certificate of the strategy's plans over a frame and classes: it is sound, has a fault, or bounds
 abbrev SoundIn : Stored → Certificate → Frame → ClassLists → Type 0

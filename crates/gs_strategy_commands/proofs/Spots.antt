@@ -4,6 +4,9 @@ use Rattle.gs_file.specs.Views.{valid_view}
 use Rattle.gs_game.specs.declared.valid.ValidGame.{ValidGame}
 use Rattle.gs_lift.specs.Queries as lift
 use Rattle.gs_lift.specs.{declared.fault.QueryFault.{QueryFault}, declared.fault.QueryFault.TheVariants.{Line, Player, Signal, Round}}
+use Rattle.gs_lift.specs.declared.spot.Spot.{Spot}
+use Rattle.gs_model.specs.{Frame.{round_of}, Positions.{at_point}}
+use Rattle.gs_seq.specs.Games.{frame_in}
 use Rattle.gs_tree.specs.declared.signals.Signals.{Signals}
 use Rattle.gs_strategy_commands.specs.Queries.{IsBadQuery, NamesOwnPoint, NamesSignal, NamesSomeSignal}
 
@@ -34,3 +37,11 @@ bad_is s player line text Round h = (h.0, own_is s player line h.0 h.1, some_is 
 pub bad_query_is : (s : Signals) (v : ValidGame) (player : ℕ) (line text : List ℕ) (why : QueryFault) → s.game.now ≡ v → lift.IsFaultOf s player line text why
     → IsBadQuery (valid_view v) player line text why
 bad_query_is s v player line text why e h = subst (λ (x : ValidGame). IsBadQuery (valid_view x) player line text why) e (bad_is s player line text why h)
+
+-- the point and the raw signal that words name
+pub spot_is : (s : Signals) (v : ValidGame) (player : ℕ) (line text : List ℕ) (spot : Spot) → s.game.now ≡ v → lift.IsQuerySpot s player line text spot
+    → NamesOwnPoint (valid_view v) player line spot.point × NamesSignal (valid_view v) (round_of (frame_in v) (at_point spot.point)) text spot.signal
+spot_is s v player line text spot e h =
+    subst (λ (x : ValidGame). NamesOwnPoint (valid_view x) player line spot.point
+    × NamesSignal (valid_view x) (round_of (frame_in x) (at_point spot.point)) text spot.signal) e
+    (own_is s player line spot.point h.point, signal_is s _ text spot.signal h.signal)

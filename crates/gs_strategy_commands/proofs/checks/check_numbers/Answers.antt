@@ -1,4 +1,4 @@
-use Rattle.gs_strategy_commands.proofs.{Told.{confirmed, numbers_are, wrong_told}, checks.check_numbers.Goals.{After-verdict-found}}
+use Rattle.gs_strategy_commands.proofs.{Moved.{first_plan, second_plan}, Told.{confirmed, numbers_are, wrong_told}, checks.check_numbers.Goals.{After-verdict-found}}
 use Rattle.gs_strategy.specs.{Confirmed.{AreNumbersOf}, Views.{numbers_of, stored_view}}
 use Rattle.gs_strategy_commands.proofs.checks.check_numbers.Goals as goal
 
@@ -17,3 +17,9 @@ returns-in-Some-clause-wrong c =
 pub returns-clause-confirmed : goal.returns-clause-confirmed
 returns-clause-confirmed c = confirmed c.args.stored.now c.verdict-found.result c.requires.lossless c.requires.small
     (found (goal.at.returns-clause-confirmed c).After-verdict-found) c.in-None.ensures
+
+pub verdict-found-requires-clause-one : goal.verdict-found-requires-clause-one
+verdict-found-requires-clause-one c = first_plan c.args.form.now.lossless.now c.args.stored.now c.requires.held
+
+pub verdict-found-requires-clause-two : goal.verdict-found-requires-clause-two
+verdict-found-requires-clause-two c = second_plan c.args.form.now.lossless.now c.args.stored.now c.requires.held

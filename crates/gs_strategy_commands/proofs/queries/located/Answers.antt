@@ -1,5 +1,5 @@
-use Rattle.std.proofs.Common.{inr, refl, arith}
-use Rattle.gs_strategy_commands.proofs.Spots.{bad_query_is}
+use Rattle.std.proofs.Common.{inl, inr, refl}
+use Rattle.gs_strategy_commands.proofs.Spots.{bad_query_is, spot_is}
 use Rattle.gs_lift.specs.Queries.{signals_of}
 use Rattle.gs_reply.specs.Refusals.{Bad_query}
 use Rattle.gs_strategy_commands.proofs.queries.located.Goals as goal
@@ -12,4 +12,12 @@ returns-in-Err c =
     (Bad_query why, inr (why, bad, refl), refl)
 
 pub returns-in_ok-told_at-in-Ok : goal.returns-in_ok-told_at-in-Ok
-returns-in_ok-told_at-in-Ok c = grind arith
+returns-in_ok-told_at-in-Ok c =
+    let q = c.args.query.now in
+    let spot = c.in-Ok.spot in
+    let named = spot_is (signals_of c.args.form.now) c.args.stored.now.game q.player q.line.now q.signal.now spot c.requires.game c.in-Ok.ensures in
+    inl (
+      c.in_ok-told_at-in-Ok.field-0.items,
+      record { point = spot.point; place = spot.signal; own = named.0; named = named.1; told = c.in_ok-told_at-in-Ok.ensures },
+      refl,
+    )

@@ -28,3 +28,6 @@ form_of-requires-clause-held c = grind arith
 
 pub lossless_of-requires : goal.lossless_of-requires
 lossless_of-requires c = grind arith
+
+pub sound-requires-clause-modest : goal.sound-requires-clause-modest
+sound-requires-clause-modest c = c.requires.modest

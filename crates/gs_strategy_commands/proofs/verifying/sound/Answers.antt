@@ -1,11 +1,12 @@
-use Rattle.std.proofs.Common.{Err, ap, refl, sym, ◌∙◌, arith}
+use mir.Syntax.{w128}
+use Rattle.std.proofs.{Common.{Err, ap, refl, sym, ◌∙◌, arith}, lemmas.Int.{to_z-of_z}}
 use Rattle.gs_best.specs.Judged.{parts}
 use Rattle.gs_certificate.specs.FaultTexts.{cert_fault_text}
 use Rattle.gs_model.specs.Verdict.{IsValue}
 use Rattle.gs_reply.specs.Refusals.{Bad_certificate}
 use Rattle.gs_seq.specs.Plans.{lifted}
 use Rattle.gs_strategy.specs.Views.{parts_of}
-use Rattle.gs_strategy_commands.proofs.Moved.{bounds_moved, fault_moved, moved, sound_moved}
+use Rattle.gs_strategy_commands.proofs.Moved.{bounds_moved, fault_moved, first_plan, moved, second_plan, sound_moved}
 use Rattle.gs_strategy_commands.proofs.verifying.sound.Goals as goal
 
 pub returns-in_ok-why-in-Err-Fault : goal.returns-in_ok-why-in-Err-Fault
@@ -46,13 +47,19 @@ returns-in_ok-bounds_text-in-Ok c =
     }
 
 pub value_of-value-requires-clause-paid : goal.value_of-value-requires-clause-paid
-value_of-value-requires-clause-paid c = grind arith
+value_of-value-requires-clause-paid c = to_z-of_z w128 c.in-Ok.paid (grind arith) ∙ c.in-Ok.ensures.paid
 
 pub value_of-value-requires-clause-one : goal.value_of-value-requires-clause-one
-value_of-value-requires-clause-one c = grind arith
+value_of-value-requires-clause-one c = first_plan c.args.form.now.lossless.now c.args.stored.now c.requires.form.held
 
 pub value_of-value-requires-clause-two : goal.value_of-value-requires-clause-two
-value_of-value-requires-clause-two c = grind arith
+value_of-value-requires-clause-two c = second_plan c.args.form.now.lossless.now c.args.stored.now c.requires.form.held
 
 pub certified_payoff-requires-clause-small : goal.certified_payoff-requires-clause-small
-certified_payoff-requires-clause-small c = grind arith
+certified_payoff-requires-clause-small c = c.requires.modest
+
+pub certified_payoff-requires-clause-x : goal.certified_payoff-requires-clause-x
+certified_payoff-requires-clause-x c = first_plan c.args.form.now.lossless.now c.args.stored.now c.requires.form.held
+
+pub certified_payoff-requires-clause-y : goal.certified_payoff-requires-clause-y
+certified_payoff-requires-clause-y c = second_plan c.args.form.now.lossless.now c.args.stored.now c.requires.form.held
