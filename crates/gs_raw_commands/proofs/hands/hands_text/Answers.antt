@@ -1,5 +1,5 @@
-use Rattle.std.proofs.lemmas.Grind.{common_steps}
-use Rattle.std.proofs.{Common.{◌≡◌, ◌<◌, ◌++◌, get_or, length, map, pos, string_bytes, sym, ap, ◌∙◌, arith}, lemmas.List.{get_or-map}}
+use Rattle.std.specs.List.{flat_map, range_with_len}
+use Rattle.std.proofs.{Common.{◌≡◌, ◌<◌, ◌++◌, get_or, length, map, pos, string_bytes, sym, ap, ◌∙◌, arith}, lemmas.List.{get_or-map, length-map}}
 use Rattle.gs_strategy.specs.{Values.{FractionParts}, Views.{parts_of}}
 use Rattle.gs_tree.specs.Trees.{deck_of, rules_of}
 use Rattle.gs_raw_commands.specs.Judging.{hand_line}
@@ -21,4 +21,11 @@ loop-signal-preserved c =
     (c.in_ok-push_hand.ensures ∙ ap (λ (p : FractionParts). string_bytes c.loop-signal.text ++ hand_line d g n p) at)
 
 pub returns : goal.returns
-returns c = grind (arith, common_steps)
+returns c =
+    let d = deck_of c.args.signals.now in
+    let g = rules_of c.args.signals.now in
+    let xs = c.args.values.now in
+    let end : c.loop-signal.signal ≡ length (map parts_of xs) =
+    omega (arith, length-map xs parts_of, c.requires, c.loop-signal-test.false, c.loop-signal.auto.signal-end, c.count-signal-end.ensures.value) in
+    c.loop-signal.invariant
+    ∙ ap (λ n. flat_map (λ s. hand_line d g s (get_or (map parts_of xs) s (pos 0, pos 1))) (range_with_len 0 n)) end
