@@ -1,5 +1,5 @@
 -- What a run answered, and that it says some reply where nothing outside fails.
-use Rattle.std.proofs.Common.{◌≡◌, inl, inr, ℕ, ◌+◌, ◌≤◌, ◌++◌, true, false, Bool, List, length, Some, None, Option, Ok, Vec, refl, sym, ap, ◌∙◌, subst, arith}
+use Rattle.std.proofs.Common.{◌≡◌, ◌⊎◌, inl, inr, ℕ, ◌+◌, ◌≤◌, ◌++◌, true, false, Bool, List, length, Some, None, Option, Ok, Vec, refl, sym, ap, ◌∙◌, subst, arith}
 use Rattle.std.proofs.{Common.{[]}, KnownBytes.{Consumes-nil}, lemmas.List.{append-nil, length-append}}
 use Rattle.std.specs.{Prelude.{Err, Result, codes}, Io.KnownBytes.{Consumes, IsAtEnd}, declared.alloc.Global.{Global}}
 use Rattle.gs_io.specs.{declared.ReadStop.{ReadStop}}
@@ -102,7 +102,7 @@ replied words old new s runs task bytes asked h good = refused words task old ne
 -- ---- answers that are written
 
 -- a refusal is told with its status
-pub tells_refusal : (says : Reply → Type 0) (old new : Ends) (why : Refusal) → says (Refuses why) → Quiet old new → TellsLine old new (line_of why)
+tells_refusal : (says : Reply → Type 0) (old new : Ends) (why : Refusal) → says (Refuses why) → Quiet old new → TellsLine old new (line_of why)
     → Writes says old new (status_of why)
 tells_refusal says old new (Bad_game rule) h quiet told = (Bad_game rule, h, refl, quiet, told)
 tells_refusal says old new (Unlike_pair round one two) h quiet told = (Unlike_pair round one two, h, refl, quiet, told)
@@ -114,6 +114,12 @@ tells_refusal says old new (Wrong_number name stated found) h quiet told = (Wron
 tells_refusal says old new (Bad_query rule) h quiet told = (Bad_query rule, h, refl, quiet, told)
 tells_refusal says old new Other_game h quiet told = (Other_game, h, refl, quiet, told)
 tells_refusal says old new (Bad_certificate text) h quiet told = (Bad_certificate text, h, refl, quiet, told)
+
+-- the line of a refusal is told with its status, or that memory ran out
+pub refusal_written : (says : Reply → Type 0) (old new : Ends) (why : Refusal) (s : Status) → says (Refuses why) → Quiet old new
+    → ((s ≡ status_of why) × TellsLine old new (line_of why)) ⊎ ((s ≡ status.Memory) × TellsLine old new memory_line) → Writes says old new s
+refusal_written says old new why s h quiet (inl (e, told)) = subst (Writes says old new) (sym e) (tells_refusal says old new why h quiet told)
+refusal_written says old new why s h quiet (inr (e, told)) = subst (Writes says old new) (sym e) (quiet, told)
 
 -- the input that was read
 pub inputs : (reads_source : Bool) (old new : Ends) (v : Vec ℕ Global) → ReadsInput reads_source old.left new.left old.read_faults new.read_faults (Ok v)

@@ -1,5 +1,5 @@
 -- How each command ends over bytes that it accepts, from the reply that its definition says of them.
-use Rattle.std.proofs.Common.{◌≡◌, inl, inr, ℕ, ◌++◌, false, true, Bool, List, Err, sym, ap, ◌∙◌, subst}
+use Rattle.std.proofs.Common.{◌≡◌, inl, inr, ℕ, ◌++◌, false, true, Bool, List, Err, Ok, sym, ap, ◌∙◌, subst}
 use Rattle.gs_certificate.specs.{TextLaws.{IsStated}, Texts.{Stated, certificate_text}, Views.{certificate_view}}
 use Rattle.gs_certificate.specs.declared.certificate.Certificate.{Certificate}
 use Rattle.gs_certificate.proofs.{OneText.{one_certificate}, Only.{only as certificate_only, stated}}
@@ -93,10 +93,14 @@ of_texts v w one two reply is_one is_two h =
 
 -- ---- certificates
 
+-- a fault is not what is read
+no_fault : {A E : Type 0} (why : E) (x : A) → Err why ≡ Ok x → ⊥
+no_fault why x e = cc
+
 -- what is said of a certificate's text is said of a certificate of that text
 of_certificate : (t : Strategy) (c : Stated) (reply : Reply) → IsStated c → SaysVerified (certificate_text c) t reply
     → (d : Certificate) × (certificate_view d ≡ c) × SaysChecked t d reply
-of_certificate t c reply is (inl h) = let bad = certificate_only c (Err h.why) is h.reads in cc
+of_certificate t c reply is (inl h) = absurd (no_fault h.why c (certificate_only c (Err h.why) is h.reads))
 of_certificate t c reply is (inr h) = (h.0, sym (one_certificate c (certificate_view h.0) is (stated h.0 h.1.small) h.1.text), h.2)
 
 of_lines : (version : Version) (t : Strategy) (c : Stated) (reply : Reply) → IsStrategy version t → IsStated c

@@ -1,13 +1,14 @@
 //! The program over words and bytes in memory.
 
 ghost use Rattle.std.specs.Prelude.{◌≡◌, [], IfOk, map, string_bytes};
+ghost use Rattle.gs_reply.specs.{Refusals.{Refusal as Why}, Replies.{IsRefusal, Refuses}};
 ghost use Rattle.gs_words.specs.Tasks.{IsInRange, task_of};
-ghost use Rattle.gs_run.specs.{Asking.{Asks}, InMemory.{DoesInMemory, GivesAnswer, GivesOutcome}};
+ghost use Rattle.gs_run.specs.{Asking.{Asks}, InMemory.{DoesInMemory, GivesAnswer, GivesOutcome, GivesReply}};
 
 use crate::asking::{answer, reads_input};
 use crate::runs::{LONG_LINE, MOST_BYTES, USAGE_LINE};
 use crate::status::Status;
-use gs_reply::{Stop, refusal_line};
+use gs_reply::{Refusal, Stop, refusal_line};
 use gs_words::{Request, WordsStop, read_words};
 use std::alloc::{AllocError, Global};
 
@@ -34,6 +35,19 @@ fn refusal(alloc: Global, status: Status, line: &str) -> Result<Outcome, AllocEr
     })
 }
 
+// Returns the outcome of a refusal: its status, nothing for stdout and its line for stderr.
+fn refused(alloc: Global, refusal: &Refusal) -> Result<Outcome, AllocError>
+    requires { (why : Why) × IsRefusal refusal.now why }
+    ensures { IfOk result (λ o. (why : Why) → IsRefusal refusal.now why → GivesReply (Refuses why) o.status o.printed.items o.told.items) }
+{
+    let told = refusal_line(alloc, refusal)?;
+    Ok(Outcome {
+        status: Status::of(refusal),
+        printed: Vec::new(alloc),
+        told,
+    })
+}
+
 // Returns the outcome of a request, once the length of its input is checked.
 fn answered(alloc: Global, request: Request, input: &[u8]) -> Result<Outcome, AllocError>
     requires { IsInRange (task_of request) }
@@ -45,11 +59,7 @@ fn answered(alloc: Global, request: Request, input: &[u8]) -> Result<Outcome, Al
             printed,
             told: Vec::new(alloc),
         }),
-        Err(Stop::Refused(refusal)) => Ok(Outcome {
-            status: Status::of(&refusal),
-            printed: Vec::new(alloc),
-            told: refusal_line(alloc, &refusal)?,
-        }),
+        Err(Stop::Refused(refusal)) => refused(alloc, &refusal),
         Err(Stop::Memory) => Err(AllocError),
     }
 }

@@ -1,15 +1,16 @@
 //! The whole program, over any source and any two sinks.
 
-ghost use Rattle.std.specs.Prelude.{◌≡◌, map, string_bytes};
+ghost use Rattle.std.specs.Prelude.{◌≡◌, ◌⊎◌, map, string_bytes};
+ghost use Rattle.gs_reply.specs.{Refusals.{Refusal as Why, line_of}, Replies.{IsRefusal}};
 ghost use Rattle.gs_words.specs.Tasks.{IsInRange, task_of};
-ghost use Rattle.gs_run.specs.{Asking.{Asks, reads}, Theorem.{Does}, Told.{TellsTo}};
+ghost use Rattle.gs_run.specs.{Asking.{Asks, reads}, Statuses.{status_of}, Theorem.{Does}, Told.{TellsTo}};
 ghost use Rattle.gs_run.specs.Running.{ReadsInput, RunsTo, Writes, ends, memory_line, sinks, usage_line};
 ghost use Rattle.gs_run.specs.declared.status.Status.TheVariants as status;
 
 use crate::asking::{answer, reads_input};
 use crate::status::Status;
 use gs_io::{ReadStop, Sink, Source, read_all, write_all};
-use gs_reply::{Stop, refusal_line};
+use gs_reply::{Refusal, Stop, refusal_line};
 use gs_words::{Request, WordsStop, read_words};
 use std::alloc::Global;
 
@@ -66,6 +67,22 @@ fn input<S: Source>(alloc: Global, source: &mut S, request: Request) -> Result<V
     }
 }
 
+// Writes the line of a refusal to `err`, and returns the status for it; or the status for out of memory.
+fn tell_refusal<E: Sink>(alloc: Global, refusal: &Refusal, err: &mut E) -> Status
+    requires { (why : Why) × IsRefusal refusal.now why }
+    ensures { (why : Why) → IsRefusal refusal.now why
+        → ((result ≡ status_of why) × TellsTo (E.given err.old) (E.faults err.old) (E.given err.new) (E.faults err.new) (line_of why))
+        ⊎ ((result ≡ status.Memory) × TellsTo (E.given err.old) (E.faults err.old) (E.given err.new) (E.faults err.new) memory_line) }
+{
+    match refusal_line(alloc, refusal) {
+        Ok(line) => {
+            tell(err, &line);
+            Status::of(refusal)
+        }
+        Err(_) => out_of_memory(err),
+    }
+}
+
 // Answers a request for the bytes of its input: writes the text to `out`, or why it stops to `err`, and returns the status.
 fn reply<O: Sink, E: Sink>(
     alloc: Global,
@@ -83,13 +100,7 @@ fn reply<O: Sink, E: Sink>(
             Ok(()) => Status::Ok,
             Err(_) => refuse(err, Status::WriteFault, "write fault\n"),
         },
-        Err(Stop::Refused(refusal)) => match refusal_line(alloc, &refusal) {
-            Ok(line) => {
-                tell(err, &line);
-                Status::of(&refusal)
-            }
-            Err(_) => out_of_memory(err),
-        },
+        Err(Stop::Refused(refusal)) => tell_refusal(alloc, &refusal, err),
         Err(Stop::Memory) => out_of_memory(err),
     }
 }
