@@ -1,14 +1,16 @@
 -- What a run answered, and that it says some reply where nothing outside fails.
-use Rattle.std.proofs.Common.{◌≡◌, ◌⊎◌, inl, inr, ℕ, ◌+◌, ◌≤◌, ◌++◌, true, false, Bool, List, length, Some, None, Option, Ok, Vec, refl, sym, ap, ◌∙◌, subst, arith}
-use Rattle.std.proofs.{Common.{[]}, KnownBytes.{Consumes-nil}, lemmas.List.{append-nil, length-append}}
-use Rattle.std.specs.{Prelude.{Err, Result, codes}, Io.KnownBytes.{Consumes, IsAtEnd}, declared.alloc.Global.{Global}}
+use Rattle.std.proofs.Common.{◌≡◌, ◌⊎◌, inl, inr, ℕ, ◌+◌, ◌<◌, ◌≤◌, ◌++◌, true, false, Bool, List, length, take, Some, None, Option, Ok, Vec, refl, sym, ap, ◌∙◌, subst, arith}
+use Rattle.std.proofs.{Common.{[]}, KnownBytes.{Consumes-nil}, lemmas.Bool.{true≢false}, lemmas.List.{append-nil, length-append}}
+use Rattle.std.specs.{Prelude.{Err, Result, codes}, Io.KnownBytes.{Appends, Consumes, IsAtEnd}, declared.alloc.Global.{Global}}
 use Rattle.gs_io.specs.{declared.ReadStop.{ReadStop}}
 use Rattle.gs_io.specs.declared.ReadStop.TheVariants as read
+use Rattle.gs_io.specs.{Causes.{Rose}, Moves.{WritesAll}, declared.WriteStop.{WriteStop}}
+use Rattle.gs_io.specs.declared.WriteStop.TheVariants as write
 use Rattle.gs_reply.specs.Refusals.{Refusal, Bad_game, Unlike_pair, Overflows, Many_pivots, Too_large, Bad_strategy, Wrong_number, Bad_query, Other_game}
 use Rattle.gs_reply.specs.{Refusals.{Bad_certificate, line_of}, Replies.{Reply, Prints, Refuses}}
 use Rattle.gs_words.specs.{Requests.{request_of}, Tasks.{Task, Shrink, Check, Make, Evaluate, Query, Upgrade, Certify, Verify, Solve, Play, Path, Judge, Duel}}
 use Rattle.gs_run.specs.{Asking.{Asks, reads}, Deciding.{Holds}, Endings.{EndsSo}, Statuses.{status_of}}
-use Rattle.gs_run.specs.Running.{Writes, long_line, memory_line, most_bytes, sinks}
+use Rattle.gs_run.specs.Running.{Unread, Writes, long_line, memory_line, most_bytes, sinks, usage_line}
 use Rattle.gs_run.specs.Running.{Asked, Ends, Inputs, IsAnswered, IsRefused, NothingFailed, Quiet, ReadsInput, ReadsWhole, RunsTo, TellsLine, TookInput}
 use Rattle.gs_run.specs.declared.status.Status.{Status}
 use Rattle.gs_run.specs.declared.status.Status.TheVariants as status
@@ -41,18 +43,18 @@ read_is_held old new bytes found e whole = sym (all_there new.left bytes found
 -- a task that reads nothing says the same of any bytes
 of_no_bytes : (task : Task) (old new : Ends) (bytes : List ℕ) (reply : Reply) → reads task ≡ false → IsAnswered task old new reply → Asks task bytes reply
 of_no_bytes (Make kind ranks suits cap summary) old new bytes reply r a = a.says
-of_no_bytes (Shrink summary) old new bytes reply r a = cc
-of_no_bytes (Check grouping summary) old new bytes reply r a = cc
-of_no_bytes Certify old new bytes reply r a = cc
-of_no_bytes Verify old new bytes reply r a = cc
-of_no_bytes (Solve grouping) old new bytes reply r a = cc
-of_no_bytes (Play grouping turns) old new bytes reply r a = cc
-of_no_bytes (Path grouping) old new bytes reply r a = cc
-of_no_bytes Judge old new bytes reply r a = cc
-of_no_bytes Duel old new bytes reply r a = cc
-of_no_bytes Evaluate old new bytes reply r a = cc
-of_no_bytes (Query player line signal) old new bytes reply r a = cc
-of_no_bytes Upgrade old new bytes reply r a = cc
+of_no_bytes (Shrink summary) old new bytes reply r a = absurd (true≢false r)
+of_no_bytes (Check grouping summary) old new bytes reply r a = absurd (true≢false r)
+of_no_bytes Certify old new bytes reply r a = absurd (true≢false r)
+of_no_bytes Verify old new bytes reply r a = absurd (true≢false r)
+of_no_bytes (Solve grouping) old new bytes reply r a = absurd (true≢false r)
+of_no_bytes (Play grouping turns) old new bytes reply r a = absurd (true≢false r)
+of_no_bytes (Path grouping) old new bytes reply r a = absurd (true≢false r)
+of_no_bytes Judge old new bytes reply r a = absurd (true≢false r)
+of_no_bytes Duel old new bytes reply r a = absurd (true≢false r)
+of_no_bytes Evaluate old new bytes reply r a = absurd (true≢false r)
+of_no_bytes (Query player line signal) old new bytes reply r a = absurd (true≢false r)
+of_no_bytes Upgrade old new bytes reply r a = absurd (true≢false r)
 
 -- what is answered is said of the bytes that the source holds
 pub said : (task : Task) (old new : Ends) (bytes : List ℕ) (reply : Reply) → Holds (reads task) old bytes → IsAnswered task old new reply
@@ -115,6 +117,19 @@ tells_refusal says old new (Bad_query rule) h quiet told = (Bad_query rule, h, r
 tells_refusal says old new Other_game h quiet told = (Other_game, h, refl, quiet, told)
 tells_refusal says old new (Bad_certificate text) h quiet told = (Bad_certificate text, h, refl, quiet, told)
 
+-- a write of the text failed
+pub write_fault : (says : Reply → Type 0) (old new : Ends) (text bytes : List ℕ) (s : Status) (e : WriteStop) → s ≡ status.WriteFault → says (Prints text)
+    → bytes ≡ text → WritesAll bytes old.given new.given old.write_faults new.write_faults {T = Unit {0}} (Err e) → TellsLine old new (codes "write fault\n")
+    → Writes says old new s
+write_fault says old new text bytes s (write.Fault written) is said same h told =
+    let fault = subst (λ (b : List ℕ). (written < length b) × Appends old.given new.given (take written b) × Rose old.write_faults new.write_faults) same h in
+    subst (Writes says old new) (sym is) ((text, said, (written, fault.0, fault.1)), fault.2, told)
+
+-- memory ran out
+pub no_memory : (says : Reply → Type 0) (old new : Ends) (s : Status) → s ≡ status.Memory → Quiet old new → TellsLine old new memory_line
+    → Writes says old new s
+no_memory says old new s is quiet told = subst (Writes says old new) (sym is) (quiet, told)
+
 -- the line of a refusal is told with its status, or that memory ran out
 pub refusal_written : (says : Reply → Type 0) (old new : Ends) (why : Refusal) (s : Status) → says (Refuses why) → Quiet old new
     → ((s ≡ status_of why) × TellsLine old new (line_of why)) ⊎ ((s ≡ status.Memory) × TellsLine old new memory_line) → Writes says old new s
@@ -158,6 +173,25 @@ run_of words task old new bytes s asked input h =
     (task, asked, record { why = h.0; answered = record { bytes = bytes; input = input; says = h.1 }; status = h.2; quiet = h.3; told = h.4 })
 
 -- ---- what was not read
+
+-- the words are no request
+pub no_request : (words : List (List ℕ)) (old new : Ends) (s : Status) → s ≡ status.Usage → request_of words ≡ None → Unread old new → Quiet old new
+    → TellsLine old new usage_line → RunsTo words old new s
+no_request words old new s is none unread quiet told = subst (RunsTo words old new) (sym is) (none, unread, quiet, told)
+
+-- there was no room for the words
+pub no_room_for_words : (words : List (List ℕ)) (old new : Ends) (s : Status) → s ≡ status.Memory → Unread old new → Quiet old new
+    → TellsLine old new memory_line → RunsTo words old new s
+no_room_for_words words old new s is unread quiet told =
+    subst (RunsTo words old new) (sym is) (
+      record {
+        front = ([], subst (λ (l : Option (List ℕ)). Consumes old.left l []) (sym unread.0) (Consumes-nil old.left), omega arith);
+        unread = inl unread.0;
+      },
+      unread.1,
+      quiet,
+      told,
+    )
 
 -- where reading the input stops, the task reads it
 stopped : (b : Bool) (old new : Option (List ℕ)) (before now : ℕ) (e : ReadStop) → ReadsInput b old new before now (Err e)

@@ -1,6 +1,6 @@
 use Rattle.std.proofs.Common.{◌≡◌, ◌∙◌, Err, Some, ap, map, refl, string_bytes, rules}
 use Rattle.gs_words.specs.{Requests.{request_of}, Tasks.{task_of}}
-use Rattle.gs_run.proofs.Answered.{inputs, no_room, read_fault, run_of, too_long}
+use Rattle.gs_run.proofs.Answered.{inputs, no_request, no_room, no_room_for_words, read_fault, run_of, too_long}
 use Rattle.gs_run.specs.{Asking.{reads}, Running.{Ends, ends}}
 use Rattle.gs_run.proofs.runs.run_words.Goals as goal
 
@@ -54,3 +54,12 @@ returns-in-Err-Memory-input g c =
     let asked : request_of words ≡ Some task = search rules in
     let stop = c.in-Err-Memory-input.is ∙ ap (λ e. Err e) c.in-Err-Memory-input.field-0-is in
     no_room words task old new asked c.input.result c.input.ensures (refl, refl) last.result last.ensures.status stop last.ensures.told
+
+pub returns-in-Err-Memory : goal.returns-in-Err-Memory
+returns-in-Err-Memory g c =
+    no_room_for_words _ _ _ c.out_of_memory.result c.out_of_memory.ensures.status (refl, refl) (refl, refl) c.out_of_memory.ensures.told
+
+pub returns-in-Err-Usage : goal.returns-in-Err-Usage
+returns-in-Err-Usage g c =
+    let none = rw c.in-Err-Usage.field-0-is at c.in-Err-Usage.ensures.reads in
+    no_request _ _ _ c.refuse_words.result c.refuse_words.ensures.status none (refl, refl) (refl, refl) c.refuse_words.ensures.told
