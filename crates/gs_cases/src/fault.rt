@@ -1,43 +1,57 @@
 //! Faults of the lines of a file of rows.
 
-use std::alloc::{AllocError, AllocFailed};
-use thiserror::Error;
+use std::alloc::AllocError;
+use std::fmt;
 
 /// The reason why a line of a file of rows is not a valid row.
-#[derive(Clone, Copy, Debug, PartialEq, Eq, Drop, Error)]
+#[derive(Clone, Copy, Drop)]
 pub enum RowFault {
-    #[error("{0} fields in place of words | input | status | out | err | why")]
+    /// The row has another number of fields than six.
     Fields(usize),
-    #[error("no reason why the row stands")]
     NoReason,
-    #[error("the status is no number from 0 to 255")]
     Status,
-    #[error("what stands in brackets is none of `pieces N`, `read N`, `write N` and `tell N`")]
+    /// What stands in brackets is no option.
     Ends,
-    #[error("a text without a name, or with one that stands already")]
     Naming,
-    #[error("no text has this name")]
     NoName,
-    #[error("what is to be changed does not stand there")]
+    /// What is to be changed does not stand there.
     NoPlace,
-    #[error("the text is shorter than that")]
+    /// A text is shorter than the row says.
     Short,
-    #[error("what repeats is not written `COUNT x BYTE`, with the byte in hexadecimal")]
     Repeat,
-    #[error("the run that makes a text does not end with the status 0")]
+    /// The run that makes a text does not end with the status 0.
     Making,
-    #[error("out of memory")]
     Memory,
 }
 
-impl From<AllocError> for RowFault {
-    fn from(_: AllocError) -> RowFault {
-        RowFault::Memory
+impl fmt::Display for RowFault {
+    fn fmt<W: fmt::Write>(&self, f: &mut fmt::Formatter<W>) -> fmt::Result {
+        let text = match self {
+            RowFault::Fields(count) => {
+                let expected = "words | input | status | out | err | why";
+                return write!(f, "{count} fields in place of {expected}");
+            }
+            RowFault::NoReason => "no reason why the row stands",
+            RowFault::Status => "the status is no number from 0 to 255",
+            RowFault::Ends => {
+                "what stands in brackets is none of `pieces N`, `read N`, `write N` and `tell N`"
+            }
+            RowFault::Naming => "a text without a name, or with one that stands already",
+            RowFault::NoName => "no text has this name",
+            RowFault::NoPlace => "what is to be changed does not stand there",
+            RowFault::Short => "the text is shorter than that",
+            RowFault::Repeat => {
+                "what repeats is not written `COUNT x BYTE`, with the byte in hexadecimal"
+            }
+            RowFault::Making => "the run that makes a text does not end with the status 0",
+            RowFault::Memory => "out of memory",
+        };
+        f.write_str(text)
     }
 }
 
-impl<T: Drop> From<AllocFailed<T>> for RowFault {
-    fn from(_: AllocFailed<T>) -> RowFault {
+impl<E: Into<AllocError> + Drop> From<E> for RowFault {
+    fn from(_error: E) -> RowFault {
         RowFault::Memory
     }
 }

@@ -12,6 +12,7 @@ mod runs;
 mod tally;
 mod texts;
 
+use report::Found;
 use std::process::ExitCode;
 use std::rt::{Env, Files};
 use std::{env, fs, io};
@@ -27,24 +28,45 @@ fn read<R: Files + Eprint + AllocGlobal>(rt: &R, path: &str) -> io::Result<Strin
     text
 }
 
-/// Compares the runs of a file, adds the texts that its lines name, and returns the counts.
+/// Prints what differs in a line, with the line and its number.
+fn print_found<R: Print>(
+    rt: &R,
+    path: &str,
+    number: usize,
+    line: &str,
+    found: &Found,
+) -> io::Result<()> {
+    if let Some(differences) = found.text() {
+        println!(rt; "{path} line {number}: {line}{differences}")?;
+    }
+    Ok(())
+}
+
+/// Compares the runs of the lines of a file, adds the texts that they name, and returns the counts.
+fn compare_lines<R: Print + AllocGlobal>(
+    rt: &R,
+    texts: &mut Texts,
+    path: &str,
+    text: &str,
+) -> io::Result<Tally> {
+    let mut tally = Tally::default();
+    for (place, line) in text.lines().enumerate() {
+        let found = runs::compare_line(rt.alloc(), texts, line)?;
+        tally.count(&found);
+        print_found(rt, path, place.saturating_add(1), line, &found)?;
+    }
+    Ok(tally)
+}
+
+/// Compares the runs of a file, prints their counts, and returns them.
 fn compare_file<R: Files + Print + Eprint + AllocGlobal>(
     rt: &R,
     texts: &mut Texts,
     path: &str,
 ) -> io::Result<Tally> {
     let text = read(rt, path)?;
-    let mut tally = Tally::default();
-    for (place, line) in text.as_str().lines().enumerate() {
-        let found = runs::compare_line(rt.alloc(), texts, line)?;
-        tally.count(&found);
-        if let Some(differences) = found.text() {
-            println!(rt;
-                "{path} line {}: {line}{differences}",
-                place.saturating_add(1)
-            )?;
-        }
-    }
+    let tally = compare_lines(rt, texts, path, text.as_str())?;
+    println!(rt; "{path}: {tally}")?;
     Ok(tally)
 }
 
@@ -53,15 +75,13 @@ fn compare_files<R: Files + Print + Eprint + Env + AllocGlobal>(rt: &R) -> io::R
     let mut texts = Texts::new(rt.alloc());
     let mut all = Tally::default();
     for path in env::args(rt)?.skip(1) {
-        let tally = compare_file(rt, &mut texts, path.as_str())?;
-        println!(rt; "{path}: {tally}")?;
-        all.add(tally);
+        all.add(compare_file(rt, &mut texts, path.as_str())?);
     }
-    println!(rt; "all: {all}")?;
     Ok(all)
 }
 
 fn main(rt: HostRuntime) -> io::Result<ExitCode> {
     let all = compare_files(&rt)?;
+    println!(rt; "all: {all}")?;
     Ok(ExitCode::from(u8::from(all.has_differences())))
 }

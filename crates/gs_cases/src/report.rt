@@ -30,11 +30,9 @@ impl Found {
 
 /// Returns bytes as a row writes them.
 fn written(alloc: Global, bytes: &[u8]) -> Result<String, AllocError> {
-    let mut text = String::new(alloc);
-    for letter in String::from_utf8_lossy(alloc, bytes)?.as_str().chars() {
-        text.push(if letter == '\n' { '~' } else { letter })?;
-    }
-    Ok(text)
+    String::from_utf8_lossy(alloc, bytes)?
+        .as_str()
+        .replace(alloc, '\n', "~")
 }
 
 /// Returns whether bytes are what a field describes: a text; `@` and the name of an input; or, as `800 bytes ending TEXT`, their number and their end.
@@ -43,7 +41,7 @@ fn is_field(alloc: Global, texts: &Texts, field: &str, bytes: &[u8]) -> Result<b
         return Ok(texts.of(name)? == bytes);
     }
     if let Some((count, end)) = field.split_once(" bytes ending ") {
-        let count = count.parse::<usize>().map_err(|_| RowFault::Short)?;
+        let count = count.parse::<usize>().or(Err(RowFault::Short))?;
         return Ok(bytes.len() == count && bytes.ends_with(text_of(alloc, end)?.as_bytes()));
     }
     Ok(text_of(alloc, field)?.as_bytes() == bytes)

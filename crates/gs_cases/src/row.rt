@@ -36,43 +36,19 @@ impl Ends {
     /// Returns the ends as an option of a row changes them.
     fn with(self, option: &str) -> Result<Ends, RowFault> {
         let (name, number) = option.split_once(' ').ok_or(RowFault::Ends)?;
-        let number = number.parse::<u32>().map_err(|_| RowFault::Ends)?;
+        let number = number.parse::<u32>().or(Err(RowFault::Ends))?;
         if number == 0 {
             return Err(RowFault::Ends);
         }
-        let Ends {
-            piece,
-            read,
-            write,
-            tell,
-        } = self;
+        let mut ends = self;
         match name {
-            "pieces" => Ok(Ends {
-                piece: number,
-                read,
-                write,
-                tell,
-            }),
-            "read" => Ok(Ends {
-                piece,
-                read: number,
-                write,
-                tell,
-            }),
-            "write" => Ok(Ends {
-                piece,
-                read,
-                write: number,
-                tell,
-            }),
-            "tell" => Ok(Ends {
-                piece,
-                read,
-                write,
-                tell: number,
-            }),
-            _ => Err(RowFault::Ends),
+            "pieces" => ends.piece = number,
+            "read" => ends.read = number,
+            "write" => ends.write = number,
+            "tell" => ends.tell = number,
+            _ => return Err(RowFault::Ends),
         }
+        Ok(ends)
     }
 
     /// Returns the ends that options with a comma between two describe.
@@ -135,7 +111,7 @@ fn run_of<'t>(fields: &[&'t str]) -> Result<Row<'t>, RowFault> {
                 return Err(RowFault::NoReason);
             }
             let (ends, words) = ends_and_words(first)?;
-            let status = status.parse::<u8>().map_err(|_| RowFault::Status)?;
+            let status = status.parse::<u8>().or(Err(RowFault::Status))?;
             Ok(Row {
                 ends,
                 words,

@@ -72,14 +72,13 @@ fn name_made(
 
 /// Does what a line says: adds a named text, or compares a run.
 fn done(alloc: Global, texts: &mut Texts, line: &str) -> Result<Found, RowFault> {
-    match line_of(alloc, line)? {
-        Line::Remark => {}
-        Line::Text { name, text } => {
-            texts.name(alloc, name, text_of(alloc, text)?.into_bytes())?;
-        }
-        Line::Made { name, words, input } => name_made(alloc, texts, name, words, input)?,
+    let naming = match line_of(alloc, line)? {
+        Line::Remark => Ok(()),
+        Line::Text { name, text } => texts.name(alloc, name, text_of(alloc, text)?.into_bytes()),
+        Line::Made { name, words, input } => name_made(alloc, texts, name, words, input),
         Line::Run(row) => return compare_run(alloc, texts, &row),
-    }
+    };
+    naming?;
     Ok(Found::Nothing)
 }
 

@@ -13,21 +13,14 @@ pub struct Texts {
 
 /// Returns the text that a row writes. `~` stands for a line feed, and `␣` for a space at the beginning or the end.
 pub fn text_of(alloc: Global, written: &str) -> Result<String, AllocError> {
-    let mut text = String::new(alloc);
-    for letter in written.trim().chars() {
-        text.push(match letter {
-            '~' => '\n',
-            '␣' => ' ',
-            other => other,
-        })?;
-    }
-    Ok(text)
+    let lines = written.trim().replace(alloc, '~', "\n")?;
+    lines.as_str().replace(alloc, '␣', " ")
 }
 
 /// Adds the bytes of a part like `200 x 5b`: the number of times, and the byte in hexadecimal.
 fn push_repeated(bytes: &mut Vec<u8>, count: &str, byte: &str) -> Result<(), RowFault> {
-    let count = count.trim().parse::<u32>().map_err(|_| RowFault::Repeat)?;
-    let byte = u8::from_str_radix(byte.trim(), 16).map_err(|_| RowFault::Repeat)?;
+    let count = count.trim().parse::<u32>().or(Err(RowFault::Repeat))?;
+    let byte = u8::from_str_radix(byte.trim(), 16).or(Err(RowFault::Repeat))?;
     for _ in 0..count {
         bytes.push(byte)?;
     }
@@ -45,7 +38,7 @@ fn changed(alloc: Global, file: &str, change: &str) -> Result<String, RowFault> 
 
 /// Returns a text with several changes made one after the other; ` ; ` stands between two.
 fn changed_by(alloc: Global, file: &[u8], changes: &str) -> Result<String, RowFault> {
-    let text = str::from_utf8(file).map_err(|_| RowFault::NoPlace)?;
+    let text = str::from_utf8(file).or(Err(RowFault::NoPlace))?;
     let mut text = String::from_str(alloc, text)?;
     for change in changes.split(" ; ") {
         text = changed(alloc, text.as_str(), change)?;
@@ -80,7 +73,7 @@ impl Texts {
 
     /// Adds the prefix that a part like `100 bytes of kuhn` describes.
     fn push_front(&self, bytes: &mut Vec<u8>, count: &str, name: &str) -> Result<(), RowFault> {
-        let count = count.parse::<usize>().map_err(|_| RowFault::Short)?;
+        let count = count.parse::<usize>().or(Err(RowFault::Short))?;
         let front = self.of(name)?.get(..count).ok_or(RowFault::Short)?;
         bytes.extend_from_slice(front)?;
         Ok(())
@@ -89,17 +82,17 @@ impl Texts {
     /// Adds one part of an input.
     fn push_part(&self, alloc: Global, bytes: &mut Vec<u8>, part: &str) -> Result<(), RowFault> {
         if let Some(written) = part.strip_prefix("= ") {
-            bytes.extend_from_slice(text_of(alloc, written)?.as_bytes())?;
+            Ok(bytes.extend_from_slice(text_of(alloc, written)?.as_bytes())?)
         } else if let Some((name, change)) = part.split_once(": ") {
-            bytes.extend_from_slice(changed_by(alloc, self.of(name)?, change)?.as_bytes())?;
+            let text = changed_by(alloc, self.of(name)?, change)?;
+            Ok(bytes.extend_from_slice(text.as_bytes())?)
         } else if let Some((count, name)) = part.split_once(" bytes of ") {
-            self.push_front(bytes, count, name)?;
+            self.push_front(bytes, count, name)
         } else if let Some((count, byte)) = part.split_once(" x ") {
-            push_repeated(bytes, count, byte)?;
+            push_repeated(bytes, count, byte)
         } else {
-            bytes.extend_from_slice(self.of(part)?)?;
+            Ok(bytes.extend_from_slice(self.of(part)?)?)
         }
-        Ok(())
     }
 
     /// Returns the input that the parts of a row describe, and an empty one without parts.
