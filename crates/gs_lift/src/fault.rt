@@ -3,7 +3,7 @@
 use thiserror::Error;
 
 /// The first rule that a line and a signal's text break.
-#[derive(Clone, Copy, Debug, PartialEq, Eq, Error)]
+#[derive(Clone, Copy, Debug, Error)]
 pub enum QueryFault {
     /// No point has this line.
     #[error("line")]

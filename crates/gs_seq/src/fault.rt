@@ -1,7 +1,7 @@
 //! Why weights do not form a plan.
 
 /// Why a total and weights do not form a plan of a player.
-#[derive(Clone, Copy, Debug, PartialEq, Eq)]
+#[derive(Clone, Copy, Debug)]
 pub enum PlanFault {
     /// The number of weights is not `want`, the number of the player's slots.
     Length { want: u64 },

@@ -17,7 +17,7 @@ use gs_game::ValidGame;
 pub const MOST_TOTAL: u64 = 1 << 36;
 
 /// A player's last step before a position.
-#[derive(Clone, Copy, Debug)]
+#[derive(Clone, Copy)]
 pub struct StepSource {
     /// The round of the point where it was made.
     pub(crate) round: u8,

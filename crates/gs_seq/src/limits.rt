@@ -1,7 +1,7 @@
 //! Limits on the size of a game in sequence form.
 
 /// Limits on the size of a game in sequence form.
-#[derive(Clone, Copy, Debug, PartialEq, Eq)]
+#[derive(Clone, Copy)]
 pub struct Limits {
     /// The most sequences that a player may have, with the empty one counted.
     pub sequences: u32,

@@ -1,7 +1,7 @@
 //! Pairs of classes that meet in some deal.
 
 /// A class of player 1 and a class of player 2 that meet in some deal. Player 1's class is known from where the pair stands.
-#[derive(Clone, Copy, Debug, PartialEq, Eq)]
+#[derive(Clone, Copy)]
 pub struct Pair {
     /// Player 2's class.
     pub two: u32,

@@ -5,7 +5,7 @@
 /// The weights stand in slot order: the player's points in order, for each point the classes of its round, for each class the moves.
 /// The weights of the moves at a point and a class add up to the weight of the player's previous move, at the class above.
 /// The class above is the one from which this class descends. If the player made no move before, the weights add up to the total.
-#[derive(Debug, Drop)]
+#[derive(Drop)]
 pub struct Plan {
     pub player: u8,
     pub total: u64,

@@ -6,7 +6,7 @@ use gs_frac::Fraction;
 use std::alloc::AllocError;
 
 /// The last basis of the path, with the values and prices there.
-#[derive(Debug, Drop)]
+#[derive(Drop)]
 pub struct Best {
     /// The number of pivots after the opening.
     pub pivots: u32,
@@ -19,14 +19,14 @@ pub struct Best {
 }
 
 /// A pivot: the column that enters the basis and the one that leaves it, both counted from 1.
-#[derive(Clone, Copy, Debug, PartialEq, Eq)]
+#[derive(Clone, Copy, Debug)]
 pub struct Turn {
     pub enter: u32,
     pub leave: u32,
 }
 
 /// The path from the end of the opening on, without its bases.
-#[derive(Debug, Drop)]
+#[derive(Drop)]
 pub struct Path {
     /// The aim's value after the opening.
     pub start: Fraction,
@@ -37,7 +37,7 @@ pub struct Path {
 }
 
 /// The path from the end of the opening on.
-#[derive(Debug, Drop)]
+#[derive(Drop)]
 pub struct PathTrace {
     /// The aim's value after the opening.
     pub start: Fraction,
@@ -50,7 +50,7 @@ pub struct PathTrace {
 }
 
 /// Why the path did not reach its end.
-#[derive(Debug, PartialEq, Eq, Drop)]
+#[derive(Debug, Drop)]
 pub enum Stop {
     /// The table has `(rows + 1) * (cols + 1)` numbers, more than 1,048,576.
     TableTooLarge {

@@ -3,7 +3,7 @@
 use std::marker::Model;
 
 /// A linear program in whole numbers. The aim, or objective, is maximised, the rows hold as equations, and a column that is not free is at least 0.
-#[derive(Debug, Drop)]
+#[derive(Drop)]
 pub struct Program {
     /// The number of rows.
     pub rows: u32,

@@ -12,7 +12,7 @@ use std::alloc::{AllocError, Global};
 use std::marker::Model;
 
 /// A row's numbers. Each number other than 0 is kept behind the number of zeros before it, and the zeros at the end are counted.
-#[derive(Debug, Drop)]
+#[derive(Drop)]
 pub struct Row {
     kept: Vec<(usize, i64)>,
     zeros: usize,
@@ -28,7 +28,7 @@ impl Model for Row {
 }
 
 /// What a program states: for each column whether it may be below 0, the rows, each with its right side at the end, and the aim.
-#[derive(Debug, Drop)]
+#[derive(Drop)]
 pub struct Parts {
     pub free: Vec<bool>,
     pub numbers: Vec<Row>,
@@ -44,7 +44,7 @@ impl Model for Parts {
 }
 
 /// A linear program with sparse rows: the number of rows, the number of columns and what it states.
-#[derive(Debug, Drop)]
+#[derive(Drop)]
 pub struct Program {
     pub rows: u32,
     pub cols: u32,
