@@ -63,12 +63,6 @@ and_none : (a : Bool) → (a && false) ≡ false
 and_none true = refl
 and_none false = refl
 
-none_and : (b c : Bool) → (false && (b && c)) ≡ false
-none_and true true = refl
-none_and true false = refl
-none_and false true = refl
-none_and false false = refl
-
 pub no_and : (b : Bool) → (false && b) ≡ false
 no_and true = refl
 no_and false = refl
