@@ -1,3 +1,4 @@
+use Rattle.std.proofs.lemmas.Grind.{common_steps}
 use Rattle.std.proofs.Common.{◌≡◌, ◌<◌, ◌-◌, ℕ, List, All, length, get_or, arith, ap, sym, ◌∙◌, subst}
 use Rattle.gs_card.proofs.TakenCards.{ways_more, few_ways, ways-none}
 use Rattle.gs_card.proofs.counting.ways.Goals as goal
@@ -20,3 +21,15 @@ loop-i-preserved c =
       counted = ways_more left _ c.loop-i.i card _ _ _ (omega arith) c.index-cards-i.is here c.loop-i.invariant.counted c.times-taken.ensures.value rest;
       small = few_ways c.loop-i.ways _ (get_or left card 0) _ c.loop-i.i c.loop-i.invariant.small (c.requires.few_copies card 0 here) rest;
     }
+
+pub bounds-left-from : goal.bounds-left-from
+bounds-left-from c = grind arith
+
+pub returns : goal.returns
+returns c = grind (arith, common_steps)
+
+pub overflow_add-ways : goal.overflow_add-ways
+overflow_add-ways c = grind arith
+
+pub slice_bounds-times-end : goal.slice_bounds-times-end
+slice_bounds-times-end c = grind arith

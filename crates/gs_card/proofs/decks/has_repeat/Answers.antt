@@ -1,3 +1,4 @@
+use Rattle.std.proofs.lemmas.Grind.{common_steps}
 use Rattle.std.proofs.Common.{sym, ◌∙◌, arith}
 use Rattle.gs_card.proofs.Letters.{repeats_found, repeats_next}
 use Rattle.gs_card.proofs.decks.has_repeat.Goals as goal
@@ -7,3 +8,6 @@ returns-then-contains c = sym (repeats_found c.args.letters.now c.loop-i.i _ (om
 
 pub loop-i-preserved : goal.loop-i-preserved
 loop-i-preserved c = repeats_next c.args.letters.now c.loop-i.i _ (omega arith) c.loop-i.invariant (sym c.contains.ensures.value ∙ c.if-contains.false)
+
+pub returns : goal.returns
+returns c = grind (arith, common_steps)

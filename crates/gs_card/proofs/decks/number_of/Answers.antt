@@ -23,3 +23,12 @@ returns-clause-all c = λ n h.
 
 pub overflow_cast-result : goal.overflow_cast-result
 overflow_cast-result c = grind (arith, common_steps)
+
+pub overflow_mul-result : goal.overflow_mul-result
+overflow_mul-result c = grind (arith, common_steps)
+
+pub overflow_add-result : goal.overflow_add-result
+overflow_add-result c = grind (arith, common_steps)
+
+pub returns-in_err-column-clause-found : goal.returns-in_err-column-clause-found
+returns-in_err-column-clause-found c = grind arith

@@ -1,3 +1,4 @@
+use Rattle.std.proofs.lemmas.Grind.{common_steps}
 use Rattle.std.proofs.Common.{◌≡◌, ◌+◌, ◌-◌, ◌<◌, ◌≤◌, ◌++◌, map, ℕ, List, [], ◌∷◌, length, sym, ◌∙◌, ap, arith, get_or}
 use Rattle.std.proofs.Common.{slice_index, slice_set, subst, take, vec_len}
 use Rattle.std.proofs.{lemmas.List.{get_or_read, length-append}, Math.Seq.{take-append_seam}}
@@ -95,3 +96,33 @@ push_with-returns-clause-left_kept t c =
     let h = here t (goal.at.push_with-returns-clause-left_kept t c).After-index_mut in
     raised_again c.args.left.now.items c.push_groups.new.left.items c.args.card c.index_mut-2.result.now h.within h.some
     (c.in_ok-push_groups.ensures.left_kept ∙ h.lowered) c.index_mut-2.ensures.value
+
+pub push_with-push_groups-requires : goal.push_with-push_groups-requires
+push_with-push_groups-requires t c = grind arith
+
+pub push_groups-loop-card-smaller : goal.push_groups-loop-card-smaller
+push_groups-loop-card-smaller t c = omega arith
+
+pub push_groups-returns-then-size-eq0-clause-left_kept : goal.push_groups-returns-then-size-eq0-clause-left_kept
+push_groups-returns-then-size-eq0-clause-left_kept t c = grind arith
+
+pub push_groups-returns-then-size-eq0-clause-kept : goal.push_groups-returns-then-size-eq0-clause-kept
+push_groups-returns-then-size-eq0-clause-kept t c = grind arith
+
+pub push_with-overflow_add-index_mut : goal.push_with-overflow_add-index_mut
+push_with-overflow_add-index_mut t c = grind (arith, common_steps)
+
+pub push_groups-returns-then-size-eq0-clause-found : goal.push_groups-returns-then-size-eq0-clause-found
+push_groups-returns-then-size-eq0-clause-found t c = grind (arith, common_steps)
+
+pub push_with-index_mut-requires-2 : goal.push_with-index_mut-requires-2
+push_with-index_mut-requires-2 t c = grind arith
+
+pub push_with-overflow_sub-index_mut : goal.push_with-overflow_sub-index_mut
+push_with-overflow_sub-index_mut t c = grind (arith, common_steps)
+
+pub push_groups-push_group-requires : goal.push_groups-push_group-requires
+push_groups-push_group-requires t c = grind arith
+
+pub push_with-returns-clause-same_len : goal.push_with-returns-clause-same_len
+push_with-returns-clause-same_len t c = grind arith
