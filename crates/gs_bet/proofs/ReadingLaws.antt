@@ -1,9 +1,10 @@
 -- Steps of reading, as the program takes them.
 use Rattle.std.proofs.Common.{◌≡◌, ℕ, zero, suc, ◌+◌, ◌-◌, ◌<◌, ◌≤◌, List, [], ◌∷◌, ◌++◌, length, Ok, Err, refl, sym, ap, ◌∙◌, get_or, inl, inr, Bool, true}
-use Rattle.std.proofs.{Common.{false, cond, eqb, ltb, ◌&&◌, ◌||◌, arith}, lemmas.Bool.{cases_Bool, false≢true, ltb-true, ne_eqb}}
-use Rattle.gs_bet.specs.{declared.fault.Mistake.TheVariants.{TooDeep, Syntax}, declared.fault.Stop.{Stop}, declared.shape.Move.{Move, out-Move}}
+use Rattle.std.proofs.{Common.{false, cond, eqb, ltb, ◌&&◌, ◌||◌, arith, take, drop, take_all}, lemmas.Bool.{cases_Bool, false≢true, ltb-true}, lemmas.List.{length-append}}
+use Rattle.gs_bet.specs.{declared.fault.Mistake.TheVariants.{TooDeep, Syntax}, declared.fault.Stop.{Stop}, declared.shape.Move.{Move, out-Move}, declared.shape.Tree.TheVariants.{Even, Fold}}
 use Rattle.gs_bet.specs.{MoveLists.{count, push_move}, TreeView.{plain, plain_moves}}
 use Rattle.gs_bet.specs.Reading.{Read, Fails, outer_at, ◌>>=◌, player_digit, act_with, act_at, moves_at, move_at, more_at, inner_at}
+use Rattle.gs_bet.proofs.TreeLaws.{plain-even, plain-fold}
 use Rattle.gs_bet.specs.declared.fault.Stop.TheVariants as stops
 use Rattle.gs_model.specs.Betting.{Bet, Moves, move}
 
@@ -31,17 +32,30 @@ unfolding act_at act_with
 act_is zero bytes = no_room bytes _ _
 act_is (suc left) bytes = let e : left ≡ suc left - 1 = omega arith in ap (λ k. act_with (suc left) (act_at k) bytes) e
 
--- neither end stands in front
-pub inner_act : (deeper : List ℕ → Read Bet) (bytes : List ℕ) → (1 ≤ length bytes → get_or bytes 0 0 ≡ 61 → ⊥)
-    → (1 ≤ length bytes → get_or bytes 0 0 ≡ 33 → ⊥) → inner_at deeper bytes ≡ deeper bytes
+-- an end stands in front
+pub inner_even : (deeper : List ℕ → Read Bet) (bytes : List ℕ) → 1 ≤ length bytes → get_or bytes 0 0 ≡ 61
+    → inner_at deeper bytes ≡ Ok (plain Even, take (length bytes - 1) (drop 1 bytes))
 unfolding inner_at
-inner_act deeper [] no_even no_fold = refl
-inner_act deeper (b ∷ bytes) no_even no_fold = rw (ne_eqb b 61 (no_even (omega arith)), ne_eqb b 33 (no_fold (omega arith))) refl
+inner_even deeper [] some e = absurd (omega (arith, some))
+inner_even deeper (b ∷ bytes) some e =
+    let is : eqb b 61 ≡ true = grind (arith, e) in
+    rw (is, plain-even, take_all (length (b ∷ bytes) - 1) bytes (omega arith)) refl
 
-pub outer_act : (bytes : List ℕ) → (1 ≤ length bytes → get_or bytes 0 0 ≡ 61 → ⊥) → outer_at bytes ≡ act_at 16 bytes
+pub inner_fold : (deeper : List ℕ → Read Bet) (bytes : List ℕ) → 1 ≤ length bytes → get_or bytes 0 0 ≡ 33
+    → inner_at deeper bytes ≡ Ok (plain Fold, take (length bytes - 1) (drop 1 bytes))
+unfolding inner_at
+inner_fold deeper [] some e = absurd (omega (arith, some))
+inner_fold deeper (b ∷ bytes) some e =
+    let is : eqb b 33 ≡ true = grind (arith, e) in let not_even : eqb b 61 ≡ false = grind (arith, e) in
+    rw (not_even, is, plain-fold, take_all (length (b ∷ bytes) - 1) bytes (omega arith)) refl
+
+pub outer_even : (bytes : List ℕ) → 1 ≤ length bytes → get_or bytes 0 0 ≡ 61
+    → outer_at bytes ≡ Ok (plain Even, take (length bytes - 1) (drop 1 bytes))
 unfolding outer_at
-outer_act [] no_even = refl
-outer_act (b ∷ bytes) no_even = rw (ne_eqb b 61 (no_even (omega arith))) refl
+outer_even [] some e = absurd (omega (arith, some))
+outer_even (b ∷ bytes) some e =
+    let is : eqb b 61 ≡ true = grind (arith, e) in
+    rw (is, plain-even, take_all (length (b ∷ bytes) - 1) bytes (omega arith)) refl
 
 -- one move more
 moves_step : (tree : List ℕ → Read Bet) (k : ℕ) (ms more : Moves) (bytes behind : List ℕ) → 0 < k → move_at tree ms bytes ≡ Ok (more, behind)
@@ -95,6 +109,9 @@ more_room moves (b ∷ bytes) others h =
       | inl lt ↦ ltb-true moves 26 lt
       | inr ge ↦ absurd (not_more bytes others (b ∷ bytes) (eqb b 93) (eqb b 44) (rw ge at h))
     ]
+
+pub pushed_long : (ms new : List Move) (m : Move) → new ≡ ms ++ m ∷ [] → length new ≡ length ms + 1
+pushed_long ms new m h = omega (arith, ap (λ (x : List Move). length x) h, length-append ms (m ∷ []))
 
 -- a pushed move, and what is read behind it
 pub record Pushed (tree : List ℕ → Read Bet) (ms new : List Move) (bytes behind : List ℕ) (total : Read Moves) : Type 0 where

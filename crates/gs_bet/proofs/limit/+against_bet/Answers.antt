@@ -33,3 +33,9 @@ returns t c =
           c.choice.ensures ∙ ap (λ v. act c.args.player (plain_moves v.items)) w.moves-is ∙ ap (act c.args.player) called
           ∙ without bet c.args.left c.args.player w.if-left-gt0.false
     ]
+
+pub overflow_sub-left : goal.overflow_sub-left
+overflow_sub-left t c = omega arith
+
+pub overflow_mul-bet : goal.overflow_mul-bet
+overflow_mul-bet t c = omega arith
