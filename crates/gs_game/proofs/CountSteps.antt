@@ -50,10 +50,6 @@ with_card later left lower size card some e =
     (λ g. count_sequences (left_after (slice_set left card (slice_index left card - 1)) g) later)
     (λ g. ap (λ (l : List ℕ). count_sequences l later) (taken card left g)) (groups_above size (slice_set left card (slice_index left card - 1)) card))
 
-pub without_card : (later left : List ℕ) (size card : ℕ) → slice_index left card ≡ 0
-    → sum_by (λ g. count_sequences (left_after left g) later) (groups_with (groups_above size) left card) ≡ 0
-without_card later left size card none = rw none refl
-
 -- the sequences whose first group begins with a card of the kinds from one on
 abbrev pub count_rest : List ℕ → List ℕ → ℕ → ℕ → ℕ
 count_rest later left size card = sum_by (λ g. count_sequences (left_after left g) later)

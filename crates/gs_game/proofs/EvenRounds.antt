@@ -59,10 +59,3 @@ pub move_follows : (ts : List Bet) (points ends letter chips : ℕ) (t : Bet) (m
 move_follows ts points ends letter chips t ms all h e =
     let h' : MovesFollow ts (move letter chips t ms) points ends = rw e at h in
     record { evens = h'.evens; few_points = omega (arith, h'.few_points); few_ends = omega (arith, h'.few_ends) }
-
-pub others_follow : (ts : List Bet) (points ends points' ends' letter chips : ℕ) (t : Bet) (ms all : Moves) → MovesFollow ts all points ends
-    → all ≡ move letter chips t ms
-    → points' ≡ points + points_of (points_in ts) t → ends' ≡ ends + ends_of (ends_in ts) t → MovesFollow ts ms points' ends'
-others_follow ts points ends points' ends' letter chips t ms all h e f g =
-    let h' : MovesFollow ts (move letter chips t ms) points ends = rw e at h in
-    record { evens = h'.evens; few_points = omega (arith, f, h'.few_points); few_ends = omega (arith, g, h'.few_ends) }

@@ -27,10 +27,6 @@ pub among_rest : (p e p' e' : ℕ) (at further : Target) → IsAmong (p + p') (e
 among_rest p e p' e' (at_point q) further h k = rw k.1 (omega (arith, h, k.0))
 among_rest p e p' e' (at_end z) further h k = rw k.1 (omega (arith, h, k.0))
 
-pub among_none : (at : Target) → IsAmong 0 0 at → ⊥
-among_none (at_point q) h = omega arith
-among_none (at_end z) h = omega arith
-
 -- where the moves begin with one, a position is among what it leads to, or behind that
 pub text_here : (rs : List Round) (before : List ℕ) (letter chips mp me : ℕ) (t : Bet) (ms all : Moves) (at : Target) → mp ≡ points_in (plain_trees rs)
     → me ≡ ends_in (plain_trees rs) → all ≡ move letter chips t ms

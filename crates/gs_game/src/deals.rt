@@ -140,13 +140,13 @@ pub fn check_deals(alloc: Global, game: &Game) -> Result<DealTotals, GameFault>
         × (totals.count ≡ length (deals (game_of game.now)))) (IsFaultOf (deal_refusal (game_of game.now))) }
 {
     let counts = game.deck.counts();
-    let mut left = Vec::from_slice(alloc, counts)?;
     let sizes = sizes_of(alloc, &game.rounds)?;
     let weight = draws(all_copies(counts), &sizes);
     if weight > 67_108_864 {
         return Err(GameFault::TooHeavy { weight });
     }
     let weight = weight as u64;
+    let mut left = Vec::from_slice(alloc, counts)?;
     let count = check_counts(game, &mut left, &sizes, weight)?;
     Ok(DealTotals { count, weight })
 }

@@ -1,3 +1,5 @@
+use Rattle.std.proofs.Common.{arith}
+use Rattle.std.proofs.lemmas.Grind.{common_steps}
 use Rattle.std.proofs.Common.{◌≡◌, ◌-◌, ◌∙◌, length, take, drop, subst, sym}
 use Rattle.std.specs.Prelude.{MatchResult, Option, None}
 use Rattle.gs_game.specs.{FaultOf.{IsFaultOf}, Refusals.{Refusal}}
@@ -12,3 +14,9 @@ returns-else-not-has_even t c =
     (sym (evens_step c.args.number rounds (take (length rounds - 1) (drop 1 rounds)) c.first-item.result first
     (sym c.is_empty.ensures ∙ c.if-not-is_empty.true) (sym c.has_even.ensures ∙ c.if-not-has_even.false)))
     c.check_evens.ensures
+
+pub returns-in_default : goal.returns-in_default
+returns-in_default t c = grind (arith, common_steps)
+
+pub returns-then-not-has_even : goal.returns-then-not-has_even
+returns-then-not-has_even t c = grind arith

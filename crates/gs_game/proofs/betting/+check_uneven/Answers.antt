@@ -1,3 +1,4 @@
+use Rattle.std.proofs.lemmas.Grind.{common_steps}
 use Rattle.std.proofs.Common.{arith, ◌≡◌, ◌-◌, ◌∙◌, ℕ, List, length, take, drop, subst, sym, ap}
 use Rattle.std.specs.Prelude.{MatchResult, Option, None}
 use Rattle.gs_bet.specs.TreeView.{plain}
@@ -19,3 +20,12 @@ returns-else-branch t c =
     (sym (uneven_step c.args.number rounds (take (length rounds - 1) (drop 1 rounds)) c.first-item.result first
     (ap (λ (path : List ℕ). uneven_path path 0 0 tree) (sym c.new-path.ensures.items) ∙ none.0)))
     c.check_uneven.ensures
+
+pub returns-in-empty : goal.returns-in-empty
+returns-in-empty t c = grind (arith, common_steps)
+
+pub returns-then-branch : goal.returns-then-branch
+returns-then-branch t c = grind arith
+
+pub overflow_add-number : goal.overflow_add-number
+overflow_add-number t c = omega arith

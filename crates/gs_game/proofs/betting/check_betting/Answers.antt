@@ -1,3 +1,4 @@
+use Rattle.std.proofs.Common.{arith}
 use Rattle.std.proofs.lemmas.Result.{err_from_is_err_and}
 use Rattle.gs_game.proofs.Deciding.{evens_fault, uneven_fault, put_fault, evens_pass, lines_decide}
 use Rattle.gs_game.proofs.betting.check_betting.Goals as goal
@@ -25,3 +26,6 @@ returns c =
     let pass = evens_pass c.args.game.now c.deref.result.now c.deref-2.result.now c.deref.ensures.value c.in_ok-check_evens.ensures c.deref-2.ensures.value
     c.in_ok-check_uneven.ensures in
     lines_decide c.args.game.now c.check_lines.result pass c.in_ok-check_put.ensures c.check_lines.ensures
+
+pub check_put-requires-clause-even : goal.check_put-requires-clause-even
+check_put-requires-clause-even c = grind arith

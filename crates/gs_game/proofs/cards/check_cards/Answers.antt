@@ -44,3 +44,6 @@ returns-then-index-eq0 c =
     let first : round_rules now ≡ round_at g 1 = ap round_rules c.index.ensures ∙ sym (get_or-map round_rules rounds 0 now none some) in
     private_refused g (omega (arith, same, some)) (omega (arith, same, count, c.if-count-gt4.false))
     (ap (λ (r : RoundRules). r.private) (sym first) ∙ c.if-index-eq0.true)
+
+pub overflow_add-need : goal.overflow_add-need
+overflow_add-need c = omega arith

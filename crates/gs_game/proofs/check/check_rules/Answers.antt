@@ -27,3 +27,6 @@ returns c =
     let betting = c.in_ok-check_betting.ensures in
     MatchResult-weaker c.check_deals.result c.check_deals.ensures (λ totals h. (card, betting, h.0, h.1, h.2))
     (λ fault h. deals_fault (game_of c.args.game.now) fault card betting h)
+
+pub check_deals-requires-clause-cards : goal.check_deals-requires-clause-cards
+check_deals-requires-clause-cards c = c.requires.cards

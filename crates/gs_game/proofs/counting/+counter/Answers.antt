@@ -63,3 +63,15 @@ count_from-returns-in-empty-clause-count t c = grind (arith, common_steps)
 
 pub count_from-returns-clause-count : goal.count_from-returns-clause-count
 count_from-returns-clause-count t c = grind arith
+
+pub count_with-overflow_add-left : goal.count_with-overflow_add-left
+count_with-overflow_add-left t c = grind (arith, common_steps)
+
+pub count_from-returns-then-total-cap-clause-kept : goal.count_from-returns-then-total-cap-clause-kept
+count_from-returns-then-total-cap-clause-kept t c = grind arith
+
+pub count_with-bounds-left-card-4 : goal.count_with-bounds-left-card-4
+count_with-bounds-left-card-4 t c = grind (arith, common_steps)
+
+pub count_with-bounds-left-card-5 : goal.count_with-bounds-left-card-5
+count_with-bounds-left-card-5 t c = grind (arith, common_steps)

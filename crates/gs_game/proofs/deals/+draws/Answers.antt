@@ -36,3 +36,6 @@ returns-in-len1-up-clause-ways t c = grind (arith, common_steps)
 
 pub returns-in-empty-clause-bound : goal.returns-in-empty-clause-bound
 returns-in-empty-clause-bound t c = some_power c.args.sizes.now c.in-empty.len_below
+
+pub returns-in-empty-clause-ways : goal.returns-in-empty-clause-ways
+returns-in-empty-clause-ways t c = grind (arith, common_steps)

@@ -1,10 +1,10 @@
 use Rattle.std.proofs.{Common.{◌≡◌, ◌-◌, ◌++◌, ◌∷◌, [], ◌∙◌, ℕ, ap, List, length, take, drop, arith}, lemmas.Grind.{common_steps}}
 use Rattle.std.specs.{Prelude.{encode_utf8}, String.{string_bytes}}
-use Rattle.gs_model.specs.Betting.{Bet, act}
+use Rattle.gs_model.specs.Betting.{Bet, act, even}
 use Rattle.gs_bet.specs.{TreeView.{plain, plain_moves}, declared.shape.Act.{out-Act}}
-use Rattle.gs_bet.proofs.TreeLaws.{plain-act, plain_act-out}
+use Rattle.gs_bet.proofs.TreeLaws.{plain-act, plain-even, plain_act-out}
 use Rattle.gs_game.specs.{Games.{plain_trees}, Lines.{lines_from}, Seen.{target_of}, declared.game.Round.{Round}}
-use Rattle.gs_game.proofs.EvenRounds.{behind_first, first_follows, move_follows}
+use Rattle.gs_game.proofs.EvenRounds.{behind_first, even_follows, first_follows, move_follows}
 use Rattle.gs_game.proofs.LineWriting.{among_act, among_rest, act_text, act_room, others_room, text_here, text_further, small_letter}
 use Rattle.gs_game.proofs.{MoneyLaws.{sound_act, sound_move, tree_sound}, RoundSteps.{split_first}, Sizes.{steps_of, steps_in}, TreeSteps.{moves_step}}
 use Rattle.gs_game.proofs.line_texts.+writer.Goals as goal
@@ -136,3 +136,14 @@ push_from-returns-in_ok-push-in-len1-up t c = grind (arith, common_steps)
 
 pub push_from-returns-in-empty : goal.push_from-returns-in-empty
 push_from-returns-in-empty t c = grind (arith, common_steps)
+
+pub push_below-push_from-requires : goal.push_below-push_from-requires
+push_below-push_from-requires t c =
+    let ts : List Bet = plain_trees c.args.rest.now in
+    let e : plain c.args.tree.now ≡ even = ap plain c.in-Even.is ∙ plain-even in (
+      omega (arith, ap (steps_of (steps_in ts)) e, c.decreases),
+      (even_follows ts 0 0 (rw e at c.requires.room), rw (c.requires.points, c.requires.ends) at (rw e at c.requires.within)),
+    )
+
+pub push_act-loop-next-smaller : goal.push_act-loop-next-smaller
+push_act-loop-next-smaller t c = omega arith

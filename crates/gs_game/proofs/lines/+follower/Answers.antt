@@ -85,3 +85,12 @@ follow_from-slice_bounds-text-start t c = grind arith
 
 pub follow_from-bounds-text-0 : goal.follow_from-bounds-text-0
 follow_from-bounds-text-0 t c = grind arith
+
+pub follow_act-returns : goal.follow_act-returns
+follow_act-returns t c = grind (arith, common_steps)
+
+pub follow_from-returns-in_default-2 : goal.follow_from-returns-in_default-2
+follow_from-returns-in_default-2 t c = grind arith
+
+pub follow_from-returns-in-empty : goal.follow_from-returns-in-empty
+follow_from-returns-in-empty t c = grind (arith, common_steps)

@@ -61,3 +61,12 @@ returns-then-branch t c =
     c.loop-next.invariant.search
     ∙ below_move c.loop-next.path.items c.push.new.self.items c.args.put.one c.args.put.two player m.letter m.chips c.after.result.one c.after.result.two
     (plain m.next) _ _ (Some c.find_uneven.new.path.items) step c.in_ok-push-in-Act.ensures.items c.after.ensures.one c.after.ensures.two some
+
+pub after-requires-clause-two : goal.after-requires-clause-two
+after-requires-clause-two t c = grind arith
+
+pub loop-next-smaller : goal.loop-next-smaller
+loop-next-smaller t c = omega arith
+
+pub after-requires-clause-one : goal.after-requires-clause-one
+after-requires-clause-one t c = grind arith

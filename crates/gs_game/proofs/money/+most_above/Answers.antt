@@ -44,3 +44,12 @@ loop-next-preserved t c =
 
 pub returns-after-loop-next-clause-most : goal.returns-after-loop-next-clause-most
 returns-after-loop-next-clause-most t c = grind (arith, common_steps)
+
+pub after-requires-clause-one : goal.after-requires-clause-one
+after-requires-clause-one t c = grind arith
+
+pub after-requires-clause-two : goal.after-requires-clause-two
+after-requires-clause-two t c = grind arith
+
+pub loop-next-smaller : goal.loop-next-smaller
+loop-next-smaller t c = omega arith

@@ -133,3 +133,6 @@ check-requires-clause-bonus c = subst (IsBonus High) (sym (c.in_ok-vec.ensures.i
 
 pub check-requires-clause-cards : goal.check-requires-clause-cards
 check-requires-clause-cards c = grind (arith, common_steps)
+
+pub same-stopped : goal.same-stopped
+same-stopped c = grind arith
