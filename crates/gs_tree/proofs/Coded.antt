@@ -1,8 +1,8 @@
 -- Numbers of lists of cards, and a table of the last place with each list.
-use Rattle.std.proofs.Common.{◌≡◌, ◌≢◌, ℕ, zero, suc, ◌+◌, ◌*◌, ◌^◌, ◌<◌, ◌≤◌, ◌++◌, List, [], ◌∷◌, length, take, get_or, set, replicate, refl, sym, ap, ◌∙◌}
+use Rattle.std.proofs.Common.{◌≡◌, ◌≢◌, ℕ, zero, suc, ◌+◌, ◌*◌, ◌^◌, ◌<◌, ◌≤◌, ◌++◌, List, [], ◌∷◌, length, get_or, set, replicate, refl, sym, ap, ◌∙◌}
 use Rattle.std.proofs.Common.{arith, subst, ⊎_elim, Bool, true, false, cond, Some, None, All, get_or-set_same, get_or-set_other, length-set}
 use Rattle.std.proofs.{lemmas.Bool.{cases_lt, lt-ltb, ltb-true}, lemmas.Grind.{get_or_default_zero}, Math.Nat.{pow-zero, pow-succ'}}
-use Rattle.std.proofs.{lemmas.List.{get_or-replicate, length-replicate, length-take-le}, lemmas.List.Elements.{All-take, recursion_from_All}}
+use Rattle.std.proofs.{lemmas.List.{get_or-replicate, length-replicate}, lemmas.List.Elements.{recursion_from_All}}
 use Rattle.std.specs.{List.{AllByRecursion}, Prelude.{nat_eq, nat_lt}}
 use lib.Pointwise.{pointwise}
 use Rattle.gs_model.specs.{Game.{Game, round_count}, Signals.{public_cards, signal_at}}
@@ -48,12 +48,6 @@ power_small k n h l = at_three n l (k ^ n) (power_below n)
     at_three (suc (suc zero)) l w h = omega arith
     at_three (suc (suc (suc zero))) l w h = omega arith
     at_three (suc (suc (suc (suc n)))) l w h = absurd (omega arith)
-
-pub code_fits : (k i : ℕ) (xs : List ℕ) → k ≤ 52 → length xs ≤ 3 → All (λ c. c < k) xs → i ≤ length xs → code_behind k 0 (take i xs) < 140608
-code_fits k i xs h l all m =
-    let long : length (take i xs) ≡ i = length-take-le i xs m in
-    let small : k ^ length (take i xs) ≤ 140608 = power_small k (length (take i xs)) h (omega (arith, long)) in
-    omega (arith, code_within k (take i xs) (All-take (λ c. c < k) i xs all), small)
 
 -- the last digit and those before it
 digits : (k a b c d : ℕ) → c < k → d < k → a * k + c ≡ b * k + d → (a ≡ b) × (c ≡ d)

@@ -1,5 +1,6 @@
 pub mod Pairs
 pub mod Taken
+pub mod Results
 pub mod Pushed
 pub mod Grown
 pub mod Lookups

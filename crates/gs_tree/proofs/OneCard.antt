@@ -12,11 +12,6 @@ with_some left kind h =
     let t : nat_lt 0 (get_or left kind 0) ≡ true = grind (arith, h) in
     ap (λ b. cond b (map (λ g. kind ∷ g) ([] ∷ [])) []) t
 
-pub with_none : (left : List ℕ) (kind : ℕ) → get_or left kind 0 ≡ 0 → groups_with (groups_above 0) left kind ≡ []
-with_none left kind h =
-    let t : nat_lt 0 (get_or left kind 0) ≡ false = grind (arith, h) in
-    ap (λ b. cond b (map (λ g. kind ∷ g) ([] ∷ [])) []) t
-
 choose_none : (n : ℕ) → choose n 0 ≡ 1
 choose_none zero = refl
 choose_none (suc n) = refl

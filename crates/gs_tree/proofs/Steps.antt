@@ -51,12 +51,6 @@ row_start g firsts nexts one two t l e =
           (t.none_before one (k - one * last_count g) l (omega (arith, e))));
     }
 
-pub row_end : (g : Game) (one : ℕ) → last_count g ≤ one → IsRowStart g one 0
-row_end g one l = record {
-  start = record { end_in = omega arith; two_in = λ m. absurd (omega arith); same = λ m. absurd (omega arith) };
-  passes = λ end. let e : one * last_count g ≡ pair_number g one 0 = omega arith in ap (λ n. deals_between g n end) e;
-}
-
 pub next_in_row : (g : Game) (firsts nexts : List ℕ) (one two next : ℕ) → AreBoards g firsts nexts → one < last_count g → two < last_count g
     → shows_same g one two ≡ true → next ≡ get_or nexts two 0 → next < last_count g → IsNextPair g one two one next
 next_in_row g firsts nexts one two next t lo lt same e l =

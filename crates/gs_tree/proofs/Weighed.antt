@@ -213,10 +213,6 @@ module _ (g : Game) (plain : IsPlain g) where
   unfolding card
   own_is i l = only (own_cards (signal_at g (round_count g) i)) (plain.one_own i l)
 
-  card_in : (i : ℕ) → i < last_count g → card i < length g.copies
-  unfolding card
-  card_in i l = (dealt g (round_count g) i (omega arith) l).own_in 0 0 (omega (arith, plain.one_own i l))
-
   times_own : (i k : ℕ) → i < last_count g → times k (own_cards (signal_at g (round_count g) i)) ≡ times k (card i ∷ [])
   times_own i k l = ap (times k) (own_is i l)
 

@@ -36,8 +36,7 @@ fn board_of(alloc: Global, game: &Game, hands: &Hands, signal: u32) -> Result<Ve
     ensures { IfOk result (λ v. v.items ≡ public_cards (signal_at (game_of game.now) (round_count (game_of game.now)) signal)) }
 {
     let public = part(&hands.publics, hands.public, signal);
-    let board = numbers_of(alloc, public)?;
-    Ok(board)
+    numbers_of(alloc, public)
 }
 
 /// Returns the signal that an entry of a table names, none where the entry is not below `count`.

@@ -108,8 +108,7 @@ fn push_card(
         own: *own,
         public: FewCards::one(Card::new(kind as u8)),
     })?;
-    layer.edges.push(own_ways * u64::from(copies))?;
-    Ok(())
+    layer.edges.push(own_ways * u64::from(copies))
 }
 
 /// Adds what the signals with these own cards and one public card show, in order.

@@ -17,8 +17,7 @@ pub(crate) fn push_card(text: &mut String, deck: &Deck, card: Card) -> Result<()
     let _deck = deck.kinds();
     let [rank, suit] = deck.card_text(card);
     text.push(char::from(rank))?;
-    text.push(char::from(suit))?;
-    Ok(())
+    text.push(char::from(suit))
 }
 
 /// Adds the texts of a group's cards to `text`.

@@ -1,4 +1,5 @@
-use Rattle.std.proofs.Common.{◌+◌, ◌*◌, ◌≤◌, ℕ, List, length, drop, take, sym, ap, ◌∙◌, subst}
+use Rattle.std.proofs.Common.{◌≡◌, ◌+◌, ◌*◌, ◌≤◌, ℕ, List, length, drop, take, sym, ap, ◌∙◌, subst}
+use Rattle.std.specs.Prelude.{IfOk}
 use Rattle.gs_game.specs.Games.{game_of}
 use Rattle.gs_model.specs.Game.{round_count}
 use Rattle.gs_tree.proofs.Parts.{public_part, public_room}
@@ -14,7 +15,8 @@ part-public-requires c =
 pub returns : goal.returns
 returns c =
     let h = c.args.hands.now in
-    c.in_ok-board.ensures ∙ c.part-public.ensures
+    let same = c.part-public.ensures
     ∙ ap (λ (x : List ℕ). take h.public (drop (c.args.signal * h.public) x)) c.deref.ensures.value
     ∙ public_part (game_of c.args.game.now) (round_count (game_of c.args.game.now)) h.paths h.owns.items h.publics.items h.own h.public c.requires.hands
-    c.args.signal c.requires.signal_in
+    c.args.signal c.requires.signal_in in
+    subst (λ (x : List ℕ). IfOk c.numbers_of.result (λ v. v.items ≡ x)) same c.numbers_of.ensures

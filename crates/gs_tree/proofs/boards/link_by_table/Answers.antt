@@ -112,3 +112,6 @@ link-requires-clause-long c = c.loop-signal.invariant.linked.nexts_whole ∙ sym
 
 pub link-requires-clause-signal_in : goal.link-requires-clause-signal_in
 link-requires-clause-signal_in c = omega (arith, c.loop-signal.invariant.linked.firsts_whole, c.loop-signal-test.true)
+
+pub board_code-code-requires-clause-hands : goal.board_code-code-requires-clause-hands
+board_code-code-requires-clause-hands c = grind arith

@@ -36,3 +36,6 @@ next_hands-requires-clause-all c = c.requires.all
 
 pub next_hands-requires-clause-tables : goal.next_hands-requires-clause-tables
 next_hands-requires-clause-tables c = c.requires.tables
+
+pub next_hands-requires-clause-round_in : goal.next_hands-requires-clause-round_in
+next_hands-requires-clause-round_in c = grind arith

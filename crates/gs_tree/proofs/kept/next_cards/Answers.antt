@@ -119,3 +119,9 @@ paired_cards-requires-clause-each c = grind (arith, common_steps)
 
 pub index-now-requires : goal.index-now-requires
 index-now-requires c = omega (arith, c.requires.round_in, c.requires.all, length-map c.args.game.now.rounds.items round_rules, c.args.game.now.rounds.ok.0)
+
+pub bounds-last-items-signal : goal.bounds-last-items-signal
+bounds-last-items-signal c = omega arith
+
+pub offset_bounds-last-items-signal : goal.offset_bounds-last-items-signal
+offset_bounds-last-items-signal c = omega arith

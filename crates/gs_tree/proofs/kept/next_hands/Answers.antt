@@ -53,3 +53,12 @@ next_cards-requires-clause-round_in c = c.requires.round_in
 
 pub next_cards-requires-clause-all : goal.next_cards-requires-clause-all
 next_cards-requires-clause-all c = c.requires.all
+
+pub nonzero_div-own : goal.nonzero_div-own
+nonzero_div-own c = omega arith
+
+pub same-paths : goal.same-paths
+same-paths c = grind arith
+
+pub nonzero_div-public : goal.nonzero_div-public
+nonzero_div-public c = omega arith

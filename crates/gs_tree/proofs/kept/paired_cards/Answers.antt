@@ -87,3 +87,6 @@ returns c =
       ap (λ (x : List Shown). length x) c.deref-last-items.ensures.value,
       c.loop-signal-test.false,
     )))
+
+pub offset_bounds-last-items-signal : goal.offset_bounds-last-items-signal
+offset_bounds-last-items-signal c = omega arith

@@ -1,3 +1,4 @@
+use Rattle.std.proofs.lemmas.Grind.{common_steps}
 use Rattle.std.proofs.Common.{subst, All, sym}
 use Rattle.std.proofs.{Common.{◌≡◌, ◌++◌, ◌∷◌, ◌*◌, ◌<◌, ◌≤◌, ◌∙◌, [], ℕ, List, ap, arith, get_or, length, map, take_all}, lemmas.List.{map-append}}
 use Rattle.std.specs.Prelude.{OnOk}
@@ -92,3 +93,12 @@ returns-then-size-eq1-clause-shown c =
     let P : ℕ → Type 0 = λ n.
     OnOk c.push_cards.result (map seen_of c.push_cards.new.layer.shown.items ≡ shown ++ map (showing (cards_of c.args.own)) (groups c.args.rest.now n)) in
     subst P (sym c.if-size-eq1.true) c.push_cards.ensures.shown
+
+pub bounds-public-items-public-index : goal.bounds-public-items-public-index
+bounds-public-items-public-index c = omega arith
+
+pub offset_bounds-public-items-public-index : goal.offset_bounds-public-items-public-index
+offset_bounds-public-items-public-index c = omega arith
+
+pub loop-public-init : goal.loop-public-init
+loop-public-init c = grind (arith, common_steps)

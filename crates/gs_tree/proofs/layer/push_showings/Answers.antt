@@ -1,3 +1,4 @@
+use Rattle.std.proofs.lemmas.Grind.{common_steps}
 use Rattle.std.proofs.Common.{◌≡◌, ◌++◌, ◌*◌, ℕ, List, map, length, ◌<◌, ◌≤◌, get_or, take_all, ap, subst, sym, ◌∙◌, arith, All}
 use Rattle.std.specs.Prelude.{OnOk, flat_map}
 use Rattle.gs_model.specs.{Cards.{groups, ways, left_after}, Signals.{Seen}}
@@ -105,3 +106,18 @@ few_ways-own_ways-requires-clause-few_cards c =
     let h = item_has (IsGroup c.args.left.now c.args.round.now.private) c.in_ok-groups.field-0.items c.deref-own-items.result.now c.loop-own.own-index
     c.own-item.result c.deref-own-items.ensures.value c.in_ok-groups.ensures.each c.loop-own-test.true c.own-item.is in
     omega (arith, h.sized, c.requires.small_private)
+
+pub push_publics-requires-clause-few_copies : goal.push_publics-requires-clause-few_copies
+push_publics-requires-clause-few_copies c = grind arith
+
+pub returns-clause-firsts : goal.returns-clause-firsts
+returns-clause-firsts c = grind arith
+
+pub loop-own-init : goal.loop-own-init
+loop-own-init c = grind (arith, common_steps)
+
+pub bounds-own-items-own-index : goal.bounds-own-items-own-index
+bounds-own-items-own-index c = omega arith
+
+pub offset_bounds-own-items-own-index : goal.offset_bounds-own-items-own-index
+offset_bounds-own-items-own-index c = omega arith

@@ -1,3 +1,4 @@
+use Rattle.std.proofs.lemmas.Grind.{common_steps}
 use Rattle.std.proofs.Common.{◌≡◌, ◌<◌, ◌≢◌, ◌*◌, ◌%◌, ◌^◌, ℕ, List, ap, arith, eqb, false, get_or, true, ⊎_elim, ◌∙◌}
 use Rattle.std.proofs.{lemmas.Bool.{cases_eq}, lemmas.List.Sums.{count_by_more_no, count_by_more_yes}, lemmas.Nat.Bits.{bit_at_set_other, bit_at_set_same}}
 use Rattle.std.specs.{Int.{bit_at, w64}, Int.RustNames.{bit_or}}
@@ -26,3 +27,6 @@ loop-card-preserved c card =
     let more = count_by_more_no (λ other. eqb other card) cards i read (omega (arith, c.loop-card-test.true)) here in
     omega (arith, bit_at_set_other w64 mask k small card other, more, before))
     (cases_eq card k)
+
+pub returns : goal.returns
+returns c = grind (arith, common_steps)

@@ -66,3 +66,6 @@ returns c = grind (arith, common_steps)
 
 pub overflow_cast-count : goal.overflow_cast-count
 overflow_cast-count c = grind (arith, common_steps)
+
+pub returns-then-hands-le1 : goal.returns-then-hands-le1
+returns-then-hands-le1 c = grind arith

@@ -38,3 +38,15 @@ returns-clause-within c = grind (arith, common_steps)
 
 pub overflow_cast-count : goal.overflow_cast-count
 overflow_cast-count c = grind (arith, common_steps)
+
+pub loop-signal-init : goal.loop-signal-init
+loop-signal-init c = grind arith
+
+pub strength_of-requires-clause-hands : goal.strength_of-requires-clause-hands
+strength_of-requires-clause-hands c = grind arith
+
+pub strength_of-requires-clause-dealable : goal.strength_of-requires-clause-dealable
+strength_of-requires-clause-dealable c = grind arith
+
+pub strength_of-requires-clause-deck : goal.strength_of-requires-clause-deck
+strength_of-requires-clause-deck c = grind arith

@@ -9,3 +9,9 @@ returns-in_ok-rest-in-len1-up t c = grind (arith, common_steps)
 
 pub after_group-requires : goal.after_group-requires
 after_group-requires t c = grind (arith, elements)
+
+pub returns-in_err-rest-in-len1-up : goal.returns-in_err-rest-in-len1-up
+returns-in_err-rest-in-len1-up t c = grind arith
+
+pub after_card-requires : goal.after_card-requires
+after_card-requires t c = grind arith

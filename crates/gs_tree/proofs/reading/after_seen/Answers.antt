@@ -43,3 +43,6 @@ after_group-requires-2 c = grind (arith, common_steps)
 
 pub returns-in_err-rest : goal.returns-in_err-rest
 returns-in_err-rest c = grind (arith, common_steps)
+
+pub after_group-requires : goal.after_group-requires
+after_group-requires c = grind arith

@@ -1,20 +1,10 @@
 use Rattle.std.proofs.Common.{◌∷◌, [], sym, ◌≡◌, ◌+◌, ◌-◌, ◌++◌, ℕ, List, length, map, take, replicate, length-append, ap, ◌∙◌, arith}
 use Rattle.std.proofs.lemmas.List.{length-map}
-use Rattle.std.specs.Prelude.{OnOk, Result, Ok, Err, if◌then◌else◌, is_ok}
 use Rattle.gs_model.specs.Signals.{Seen, showings}
 use Rattle.gs_game.specs.Games.{round_rules}
 use Rattle.gs_tree.specs.Shown.{seen_of}
-use Rattle.gs_tree.proofs.Grown.{filled}
+use Rattle.gs_tree.proofs.{Grown.{filled}, Results.{held, left_where_ok}}
 use Rattle.gs_tree.proofs.tables.push_children.Goals as goal
-
--- what holds anyway holds if the call went well
-held : {A E : Type 0} (r : Result A E) (P : Type 0) → P → OnOk r P
-held (Ok x) P h = h
-held (Err x) P h = tt
-
-resized : {A E X : Type 0} (r : Result A E) (now some none more : X) → now ≡ (if is_ok r then some else none) → some ≡ more → OnOk r (now ≡ more)
-resized (Ok x) now some none more e same = e ∙ same
-resized (Err x) now some none more e same = tt
 
 -- a parent for each signal that was added
 pub returns-clause-parents : goal.returns-clause-parents
@@ -33,7 +23,7 @@ returns-clause-parents c =
       c.requires.long,
     ) in
     let was = c.args.grown.now.parents.ok.0 in
-    resized c.resize.result _ _ _ _ c.resize.ensures.items
+    left_where_ok c.resize.result _ _ _ _ c.resize.ensures.items
     (ap (λ (k : ℕ). take c.len-2.result old ++ replicate (c.len-2.result - k) c.args.parent) was
     ∙ filled old c.len-2.result c.args.parent showing (omega arith) (omega arith))
 
@@ -44,7 +34,7 @@ returns-clause-firsts c =
 
 pub returns-clause-long : goal.returns-clause-long
 returns-clause-long c =
-    resized c.resize.result _ _ _ _ (sym c.resize.new.self.ok.0 ∙ c.resize.ensures.len) (c.len-2.ensures ∙ c.push_showings.new.layer.shown.ok.0)
+    left_where_ok c.resize.result _ _ _ _ (sym c.resize.new.self.ok.0 ∙ c.resize.ensures.len) (c.len-2.ensures ∙ c.push_showings.new.layer.shown.ok.0)
 
 pub returns-clause-edges : goal.returns-clause-edges
 returns-clause-edges c = held c.resize.result _ c.in_ok-push_showings.ensures.edges
@@ -54,3 +44,6 @@ returns-clause-shown c = held c.resize.result _ c.in_ok-push_showings.ensures.sh
 
 pub push_showings-requires-clause-few_copies : goal.push_showings-requires-clause-few_copies
 push_showings-requires-clause-few_copies c = c.requires.few_copies
+
+pub push_showings-requires-clause-counted : goal.push_showings-requires-clause-counted
+push_showings-requires-clause-counted c = grind arith

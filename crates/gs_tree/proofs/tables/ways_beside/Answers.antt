@@ -73,3 +73,9 @@ pub returns-clause-value : goal.returns-clause-value
 returns-clause-value c =
     c.loop-i.invariant.counted ∙ ap (ways (left_after (left_after (left_after c.args.deck.now.counts c.args.held.now) c.args.board.now) c.args.before.now))
     (take_all c.loop-i.i c.args.own.now c.loop-i-test.false)
+
+pub count-requires : goal.count-requires
+count-requires c = grind arith
+
+pub slice_bounds-times-end : goal.slice_bounds-times-end
+slice_bounds-times-end c = grind (arith, common_steps)

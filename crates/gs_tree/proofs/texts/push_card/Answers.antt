@@ -1,7 +1,7 @@
 use Rattle.std.proofs.Common.{slice_index, length, subst, sym, ◌≡◌, ◌<◌, ◌++◌, ◌∷◌, [], ℕ, List, ap, ◌∙◌, append_assoc}
 use Rattle.std.specs.Prelude.{string_bytes}
 use Rattle.gs_model.specs.Outcome.{rank_of, suit_of}
-use Rattle.gs_tree.proofs.Named.{letters_ascii}
+use Rattle.gs_tree.proofs.{Named.{letters_ascii}, Results.{left_where_ok}}
 use Rattle.gs_tree.proofs.texts.push_card.Goals as goal
 
 pub returns : goal.returns
@@ -14,8 +14,8 @@ returns c =
     let suit : c.from-2.result ≡ slice_index d.suits (suit_of (length d.suits) c.args.card) =
     c.from-2.ensures ∙ ap (λ (t : List ℕ). slice_index t 1) c.card_text.ensures in
     let P : ℕ → Type 0 = λ n. n < 128 in
-    c.in_ok-push-2.ensures.bytes ∙ ap (λ x. string_bytes c.push.new.self ++ x) (c.in_ok-push-2.ensures.ascii (subst P (sym suit) small.1))
+    left_where_ok c.push-2.result _ _ _ _ c.push-2.ensures.bytes (ap (λ x. string_bytes c.push.new.self ++ x) (c.push-2.ensures.ascii (subst P (sym suit) small.1))
     ∙ ap (λ x. x ++ c.from-2.result ∷ []) (c.in_ok-push.ensures.bytes ∙ ap (λ x. before ++ x) (c.in_ok-push.ensures.ascii (subst P (sym rank) small.0)))
     ∙ append_assoc before (c.from.result ∷ []) (c.from-2.result ∷ [])
     ∙ ap (λ x. before ++ x ∷ c.from-2.result ∷ []) rank
-    ∙ ap (λ x. before ++ slice_index d.ranks (rank_of (length d.suits) c.args.card) ∷ x ∷ []) suit
+    ∙ ap (λ x. before ++ slice_index d.ranks (rank_of (length d.suits) c.args.card) ∷ x ∷ []) suit)

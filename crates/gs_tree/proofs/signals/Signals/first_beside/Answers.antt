@@ -11,3 +11,6 @@ returns-then-one-len c =
     (omega (arith, s.beside.firsts_long, c.len.ensures, c.if-one-len.true))
     (c.index.ensures ∙ same_read firsts c.args.one c.index.result.now 0
     (omega (arith, s.beside.firsts_long, c.len.ensures, c.if-one-len.true)))
+
+pub returns-else-one-len : goal.returns-else-one-len
+returns-else-one-len c = grind arith

@@ -40,3 +40,12 @@ is_text_of-requires-clause-signal_in c =
     ap (λ (x : Described). length (signals (game_of x) c.from.result)) c.game-game.ensures
     ∙ ap (λ k. length (signals (rules_of c.args.self.now) k)) c.from.ensures in
     omega (arith, same, c.count-signal-end.ensures.value, c.loop-signal-test.true)
+
+pub returns-clause-only : goal.returns-clause-only
+returns-clause-only c = grind arith
+
+pub returns-then-is_text_of-clause-found : goal.returns-then-is_text_of-clause-found
+returns-then-is_text_of-clause-found c = grind arith
+
+pub is_text_of-requires-clause-tables : goal.is_text_of-requires-clause-tables
+is_text_of-requires-clause-tables c = grind arith

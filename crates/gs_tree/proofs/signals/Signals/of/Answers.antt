@@ -1,3 +1,4 @@
+use Rattle.std.proofs.Common.{arith}
 use Rattle.std.proofs.Common.{◌≡◌, All, length, map, subst, ◌∙◌, sym}
 use Rattle.std.specs.Prelude.{IsTrue, MatchOption}
 use Rattle.gs_model.specs.{Game.{round_count}, Signals.{signals}, ViewTree.{signal_strength}}
@@ -76,3 +77,15 @@ pub gather-requires-clause-all : goal.gather-requires-clause-all
 gather-requires-clause-all c =
     subst (λ (x : Described). length c.in_ok-tables.tables.layers.items ≡ round_count (game_of x))
     (c.game.ensures ∙ sym c.game-2.ensures) c.in_ok-tables.ensures.all
+
+pub strengths-requires-clause-dealable : goal.strengths-requires-clause-dealable
+strengths-requires-clause-dealable c = grind arith
+
+pub returns : goal.returns
+returns c = grind arith
+
+pub gather-requires-clause-limits : goal.gather-requires-clause-limits
+gather-requires-clause-limits c = grind arith
+
+pub strengths-requires-clause-hands : goal.strengths-requires-clause-hands
+strengths-requires-clause-hands c = grind arith

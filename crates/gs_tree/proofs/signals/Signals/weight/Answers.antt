@@ -37,3 +37,9 @@ returns-in-Some c =
     c.requires.same
     (λ card. ap (λ n. bit_at n card) one ∙ h.held c.args.one card c.requires.one_in)
     (λ card. ap (λ n. bit_at n card) two ∙ h.held c.args.two card c.requires.two_in)
+
+pub index-requires-in-Some : goal.index-requires-in-Some
+index-requires-in-Some c = grind arith
+
+pub returns : goal.returns
+returns c = grind arith

@@ -79,3 +79,9 @@ returns-clause-all c = grind (arith, common_steps)
 
 pub grow-requires-clause-counted : goal.grow-requires-clause-counted
 grow-requires-clause-counted c = c.loop-next.invariant.counted ∙ ap (λ k. length (signals (game_of c.args.game.now) k)) (sym c.loop-next.invariant.rounds)
+
+pub grow-requires-clause-tables : goal.grow-requires-clause-tables
+grow-requires-clause-tables c = grind arith
+
+pub returns-clause-tables : goal.returns-clause-tables
+returns-clause-tables c = grind arith

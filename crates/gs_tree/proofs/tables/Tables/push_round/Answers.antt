@@ -110,3 +110,9 @@ pub returns-clause-parents : goal.returns-clause-parents
 returns-clause-parents c =
     parents_grown (game_of c.args.game.now) (length c.args.self.now.layers.items) c.loop-parent.parent c.loop-parent.grown.parents.items
     (omega (arith, c.requires.counted, c.loop-parent-test.false)) c.loop-parent.invariant.parents
+
+pub push_children-requires-clause-long : goal.push_children-requires-clause-long
+push_children-requires-clause-long c = grind arith
+
+pub copies_left-requires-clause-signal_in : goal.copies_left-requires-clause-signal_in
+copies_left-requires-clause-signal_in c = grind arith

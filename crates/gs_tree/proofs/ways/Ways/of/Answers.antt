@@ -1,3 +1,4 @@
+use Rattle.std.proofs.lemmas.Grind.{common_steps}
 use Rattle.std.proofs.Common.{◌≡◌, length, ◌∙◌, arith}
 use Rattle.gs_tree.proofs.Ones.{at_rest, at_wide, wide_in}
 use Rattle.gs_tree.proofs.ways.Ways.of.Goals as goal
@@ -20,3 +21,6 @@ returns-else-behind-len c =
     at_wide c.self.inside.ones c.self.inside.rest.items c.self.inside.wide.items c.args.self.now c.args.signal c.len-else-behind-len.result
     c.index-else-behind-len.result.now c.self.view_is c.requires (c.len-else-behind-len.ensures ∙ c.self.inside.rest.ok.0)
     (omega (arith, c.if-behind-len.false, c.len.ensures, c.len-else-behind-len.ensures)) c.if-signal-ones.false c.index-else-behind-len.ensures
+
+pub returns-then-signal-ones : goal.returns-then-signal-ones
+returns-then-signal-ones c = grind (arith, common_steps)

@@ -19,3 +19,9 @@ returns-then-self-lt4294967295 c =
     more_ones c.self.inside.ones c.self.inside.rest.items c.self.inside.wide.items c.args.self.now c.args.ways
     c.self.view_is (grind (arith, c.is_empty-then-ways-eq1.ensures, c.if-is_empty.true, c.self.inside.rest.ok.0))
     (grind (arith, c.self.inside.wide.ok.0)) c.if-ways-eq1.true
+
+pub overflow_cast-ways : goal.overflow_cast-ways
+overflow_cast-ways c = grind arith
+
+pub invariant_of-self-inside-else-ways-eq1 : goal.invariant_of-self-inside-else-ways-eq1
+invariant_of-self-inside-else-ways-eq1 c = grind arith
