@@ -1,7 +1,7 @@
 -- Sums that run along the places of the boards, and what a place is paid by what a walk has passed.
-use Rattle.std.proofs.Common.{◌≡◌, ◌+◌, ◌*◌, ◌≤◌, ◌∙◌, ℕ, Bool, true, false, cond, List, [], ◌∷◌, length, get_or, refl, sym, ap, arith, ⊎_elim, sum_by}
+use Rattle.std.proofs.Common.{◌≡◌, ◌+◌, ◌≤◌, ◌∙◌, ℕ, Bool, true, false, cond, List, [], ◌∷◌, get_or, refl, sym, ap, arith, ⊎_elim, sum_by}
 use Rattle.std.proofs.{lemmas.Bool.{cases_eq}, lemmas.Bool.Decides.{Decides-eqb, nat_tests}, lemmas.List.Elements.{All-head, All-tail}}
-use Rattle.std.proofs.lemmas.List.Sums.{sum_by-cons, sum_by-le}
+use Rattle.std.proofs.lemmas.List.Sums.{sum_by-cons}
 use Rattle.std.specs.Prelude.{◌==◌, All, if◌then◌else◌}
 use Rattle.gs_boards.specs.{Runs.{arrived, passed_by}, declared.place.Place.{Place}, declared.running.Running.{Running}}
 use Rattle.gs_model.proofs.Basics.{not_eq}
@@ -114,15 +114,3 @@ passes worth qs more r p b s one h =
 -- what a walk has passed off its level is part of what it has passed on its board, and that is no more than so many worths
 pub level_within : (worth : Place → ℕ) (qs : List Place) (r : Running) → HasPassed worth qs r → r.off_level ≤ r.on_board
 level_within worth qs r h = omega (arith, h.on_board, h.off_level, others_less worth qs r.board r.strength)
-
-pub board_within : (worth : Place → ℕ) (qs : List Place) (r : Running) (m : ℕ) → ((q : Place) → worth q ≤ m) → HasPassed worth qs r
-    → r.on_board ≤ length qs * m
-board_within worth qs r m few h =
-    omega (arith, h.on_board, sum_by-le (λ q. cond (q.board == r.board) (worth q) 0) m qs (λ i d l. by (get_or qs i d)))
-  where
-    by : (q : Place) → cond {A = ℕ} (q.board == r.board) (worth q) 0 ≤ m
-    by q = go (q.board == r.board)
-      where
-        go : (b : Bool) → cond {A = ℕ} b (worth q) 0 ≤ m
-        go true = few q
-        go false = omega arith

@@ -1,7 +1,7 @@
 -- Walks over places in order, up and down: what a walk has passed when it comes to a place.
 use Rattle.std.proofs.Common.{◌≡◌, ◌≢◌, ◌+◌, ◌-◌, ◌<◌, ◌≤◌, ◌∙◌, ℕ, Bool, true, false, cond, List, length, get_or, refl, sym, ap, subst, arith, ⊎_elim}
 use Rattle.std.proofs.{Common.{sum_by, take, drop, set, get_or-set_other, get_or-set_same}, lemmas.List.Sums.{sum_by-drop_more, sum_by_more}}
-use Rattle.std.proofs.{lemmas.Bool.{cases_eq, cases_lt}, lemmas.List.{drop_all, get_or-drop, get_or-take, get_or_default, length-drop, length-take}}
+use Rattle.std.proofs.{lemmas.Bool.{cases_eq, cases_lt}, lemmas.List.{get_or-drop, get_or-take, get_or_default, length-drop, length-take}}
 use Rattle.std.specs.Prelude.{◌==◌, All}
 use Rattle.gs_boards.specs.{Places.{AreApart, AreInOrder}, Runs.{arrived, passed_by}, declared.place.Place.{Place}}
 use Rattle.gs_boards.specs.declared.running.Running.{Running}
@@ -21,16 +21,6 @@ pub record HasClimbed (worth : Place → ℕ) (places : List Place) (n : ℕ) (r
 pub record HasDescended (worth : Place → ℕ) (places : List Place) (n : ℕ) (r : Running) : Type 0 where
   pub passed : HasPassed worth (drop n places) r
   pub last : (d : Place) → n < length places → IsAt r (get_or places n d)
-
-pub climb_start : (worth : Place → ℕ) (places : List Place) (r : Running) → r.on_board ≡ 0 → r.off_level ≡ 0 → HasClimbed worth places 0 r
-climb_start worth places r b l = record { passed = record { on_board = b; off_level = l }; last = λ d some. absurd (omega arith) }
-
-pub descend_start : (worth : Place → ℕ) (places : List Place) (n : ℕ) (r : Running) → n ≡ length places → r.on_board ≡ 0 → r.off_level ≡ 0
-    → HasDescended worth places n r
-descend_start worth places n r all b l = record {
-  passed = subst (λ qs. HasPassed worth qs r) (sym (drop_all n places (omega arith))) (record { on_board = b; off_level = l });
-  last = λ d in'. absurd (omega arith);
-}
 
 pub one_back : (worth : Place → ℕ) (places : List Place) (n : ℕ) (r : Running) → 0 < n → HasDescended worth places n r
     → HasDescended worth places (n - 1 + 1) r

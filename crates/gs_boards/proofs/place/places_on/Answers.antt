@@ -1,3 +1,4 @@
+use Rattle.std.proofs.lemmas.Result.{IfOk-from_err}
 use Rattle.std.proofs.{Common.{◌-◌, ◌<◌, ◌∙◌, ◌++◌, ◌∷◌, [], ◌≡◌, ℕ, List, length, map, subst, sym, ap, arith, get_or}, lemmas.List.{map-append, map-id}}
 use Rattle.std.proofs.lemmas.List.Elements.{All-nil, All-push}
 use Rattle.std.specs.Prelude.{All}
@@ -56,3 +57,15 @@ returns-clause-all c =
 
 pub overflow_cast-signal-in-loop-signal-2 : goal.overflow_cast-signal-in-loop-signal-2
 overflow_cast-signal-in-loop-signal-2 c = grind arith
+
+pub returns-in_err-places : goal.returns-in_err-places
+returns-in_err-places c = let failed = c.from_residual.ensures.0 in record {
+  each = IfOk-from_err _ _ failed;
+  all = IfOk-from_err _ _ failed;
+}
+
+pub returns-in_err-push : goal.returns-in_err-push
+returns-in_err-push c = let failed = c.from_residual-in_err-push.ensures.0 in record {
+  each = IfOk-from_err _ _ failed;
+  all = IfOk-from_err _ _ failed;
+}

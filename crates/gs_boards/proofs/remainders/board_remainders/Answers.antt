@@ -1,3 +1,4 @@
+use Rattle.std.proofs.lemmas.Result.{IfOk-from_err}
 use Rattle.std.proofs.Common.{◌≡◌, ◌<◌, ◌≤◌, ◌∙◌, ℕ, List, arith, length, subst, sym}
 use Rattle.std.specs.Prelude.{All}
 use Rattle.gs_model.specs.Game.{Game, round_count}
@@ -54,3 +55,9 @@ returns-clause-others c s l other =
     let P : List Place → Type 0 = All (λ (p : Place). p.signal ≡ s → ⊥) in
     let none = no_place (rules_of c.args.signals.now) c.args.first c.sort_places.new.places.items board.on s l other in
     c.descend.ensures.others s (subst P (sym c.deref-2.ensures.value) none) ∙ c.climb.ensures.others s (subst P (sym c.deref.ensures.value) none)
+
+pub returns-in_err-board : goal.returns-in_err-board
+returns-in_err-board c = let failed = c.from_residual.ensures.0 in record {
+  here = IfOk-from_err _ _ failed;
+  others = IfOk-from_err _ _ failed;
+}

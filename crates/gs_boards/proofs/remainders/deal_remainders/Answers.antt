@@ -1,3 +1,4 @@
+use Rattle.std.proofs.lemmas.Result.{IfOk-from_err}
 use Rattle.std.proofs.Common.{◌≡◌, ◌+◌, ◌<◌, ◌∙◌, ℕ, List, Vec, ap, arith, get_or, length, subst, sym}
 use Rattle.std.proofs.lemmas.List.{with_items_is}
 use Rattle.std.specs.declared.alloc.Global.{Global}
@@ -60,3 +61,15 @@ board_remainders-requires-clause-sums c = ap (λ (sums : List ℕ). length sums)
 
 pub returns-clause-long : goal.returns-clause-long
 returns-clause-long c = c.loop-signal.invariant.long
+
+pub returns-in_err-sums : goal.returns-in_err-sums
+returns-in_err-sums c = let failed = c.from_residual.ensures.0 in record {
+  long = IfOk-from_err _ _ failed;
+  each = IfOk-from_err _ _ failed;
+}
+
+pub returns-in_err-board_remainders : goal.returns-in_err-board_remainders
+returns-in_err-board_remainders c = let failed = c.from_residual-in_err-board_remainders.ensures.0 in record {
+  long = IfOk-from_err _ _ failed;
+  each = IfOk-from_err _ _ failed;
+}
