@@ -5,7 +5,7 @@ use Rattle.std.proofs.lemmas.List.FromFn.{length-range_with_len, get_or-range_wi
 use Rattle.std.specs.List.{range_with_len}
 use Rattle.gs_model.specs.{Numbering.{greatest, IsNumbered}, Classes.{list_of, class_of, class_count, first_member, IsClass, IsClasses}}
 use Rattle.gs_model.proofs.{Numbered.{greatest_push, whole}, Push.{le_greatest}}
-use Rattle.gs_filter.specs.Filter.{Filter, IsParentClass, single_classes}
+use Rattle.gs_filter.specs.Filter.{Filter, single_classes}
 use Rattle.gs_filter.proofs.TallyLaws.{first_in, number_in, first_member_of}
 
 module _ (f : Filter) (round : ℕ) (some : 0 < round) (top : round ≤ length f.lists) where
@@ -26,28 +26,6 @@ module _ (f : Filter) (round : ℕ) (some : 0 < round) (top : round ≤ length f
 
   pub first_own : (class : ℕ) → IsClass f.lists round class → class_of f.lists round (first_member f.lists round class) ≡ class
   first_own class is = first_member_of (list_of f.lists round) class numbered_at is.0 is.1
-
-  pub parent_within : 1 < round → (s : ℕ) → s < length (list_of f.lists round) → get_or (list_of f.parents round) s 0 < length (list_of f.lists (round - 1))
-  parent_within more s l =
-      let e = f.classes.rounds in
-      let long = long_at in
-      let before = f.classes.lengths (round - 1) (omega arith) (omega arith) in
-      let r = f.forest.in_range round s more (omega arith) (omega arith) in
-      omega arith
-
-  pub parent_class_is : 1 < round → (class : ℕ) → IsClass f.lists round class
-      → IsParentClass f round class (class_of f.lists (round - 1) (get_or (list_of f.parents round) (first_member f.lists round class) 0))
-  parent_class_is more class is s l same =
-      let e = f.classes.rounds in
-      let long = long_at in
-      let k : round - 1 + 1 ≡ round = omega arith in
-      let within = first_within class is in
-      let both : class_of f.lists round s ≡ class_of f.lists round (first_member f.lists round class) = same ∙ sym (first_own class is) in
-      let P : ℕ → Type 0 = λ r. s < length (list_of f.parents r) → first_member f.lists round class < length (list_of f.parents r)
-      → class_of f.lists r s ≡ class_of f.lists r (first_member f.lists round class)
-      → class_of f.lists (round - 1) (get_or (list_of f.parents r) s 0) ≡ class_of f.lists (round - 1)
-      (get_or (list_of f.parents r) (first_member f.lists round class) 0) in
-      subst P k (f.classes.filter (round - 1) s (first_member f.lists round class) (omega arith) (omega arith)) (omega arith) (omega arith) both
 
 -- ---- each signal a class of its own
 

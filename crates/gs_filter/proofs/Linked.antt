@@ -2,7 +2,7 @@
 use Rattle.std.proofs.Common.{◌≡◌, ◌+◌, ◌-◌, ◌<◌, ◌≤◌, ◌∙◌, ℕ, List, ap, arith, get_or, length, length-set, refl, replicate, set, subst, sym, ⊎_elim}
 use Rattle.std.proofs.{lemmas.Bool.{cases_eq}, lemmas.List.{get_or-replicate, get_or-set_other, get_or-set_same, get_or_read, length-replicate}}
 use Rattle.gs_model.specs.Classes.{ClassLists, class_count, class_of, first_member, list_of}
-use Rattle.gs_filter.specs.Members.{AreNextMembers, IsMemberFrom}
+use Rattle.gs_filter.specs.Members.{IsMemberFrom}
 use Rattle.gs_filter.proofs.TallyLaws.{first_before}
 
 module _ (lists : ClassLists) (round : ℕ) where
@@ -96,6 +96,3 @@ module _ (lists : ClassLists) (round : ℕ) where
             (h.next t (omega (arith, from, ne)) (omega (arith, l, length-set nexts s next))))
             (cases_eq t s);
       }
-
-  pub linked_all : (from : ℕ) (heads nexts : List ℕ) → from ≤ 0 → AreLinked from heads nexts → AreNextMembers lists round nexts
-  linked_all from heads nexts none h = record { long = h.nexts_long; each = λ s l. h.next s (omega (arith, none)) l }

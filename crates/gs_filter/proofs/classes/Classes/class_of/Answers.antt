@@ -1,7 +1,7 @@
-use Rattle.std.proofs.Common.{◌≡◌, ◌<◌, ◌≤◌, ℕ, List, get_or, sym, ◌∙◌, ap, subst, Vec, Global}
+use Rattle.std.proofs.Common.{◌≡◌, ◌<◌, ◌≤◌, ℕ, List, arith, get_or, length, sym, ◌∙◌, ap, subst, Vec, Global}
 use Rattle.gs_model.specs.{Classes.{list_of, class_count}, Rows.{rows}}
 use Rattle.gs_filter.specs.Filter.{Filter}
-use Rattle.gs_filter.proofs.ClassLaws.{class_at}
+use Rattle.gs_filter.proofs.{ClassLaws.{class_at}, RowLaws.{length-rows}}
 use Rattle.gs_filter.proofs.classes.Classes.class_of.Goals as goal
 
 pub returns-clause-class : goal.returns-clause-class
@@ -12,3 +12,9 @@ returns-clause-class c =
     ∙ ap (λ (f : Filter). list_of f.lists c.args.round) c.self.view_is in
     subst (λ (xs : List ℕ). (0 < get_or xs c.args.signal 0) × (get_or xs c.args.signal 0 ≤ class_count c.args.self.now.lists c.args.round)) (sym e)
     (class_at c.args.self.now c.args.round c.requires.some c.requires.top c.args.signal c.requires.within)
+
+pub of_round-requires-clause-top : goal.of_round-requires-clause-top
+of_round-requires-clause-top c =
+    let here = ap (λ (vs : List (Vec ℕ Global)). length vs) c.deref.ensures.value in
+    let all = ap (λ (f : Filter). length f.lists) c.self.view_is in
+    omega (arith, c.from.ensures, here, all, length-rows c.self.inside.lists.items, c.requires.top)

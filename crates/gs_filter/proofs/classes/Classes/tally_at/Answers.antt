@@ -1,4 +1,5 @@
 use Rattle.std.proofs.Common.{◌≡◌, length, map, ◌∙◌, ap, subst, arith}
+use Rattle.std.proofs.lemmas.List.{length-map}
 use Rattle.gs_model.specs.Classes.{list_of}
 use Rattle.gs_filter.specs.{Filter.{Filter}, Tallies.{tallies_of}}
 use Rattle.gs_filter.proofs.{TallyLaws.{round_tallies, length-tallies_of, tally_read}, classes.Classes.tally_at.Goals.{After-index}}
@@ -19,3 +20,8 @@ pub returns : goal.returns
 returns c =
     tally_read (list_of c.args.self.now.lists c.args.round) c.index.result.now c.args.class (tallied (goal.at.returns c).After-index) c.requires.class.0
     c.requires.class.1 c.at.result (c.at.ensures c.at.result)
+
+pub index-requires : goal.index-requires
+index-requires c =
+    let tallied = subst (λ (f : Filter). c.self.inside.tallies.items ≡ map tallies_of f.lists) c.self.view_is c.self.invariant in
+    omega (arith, ap length tallied, length-map c.args.self.now.lists tallies_of, c.self.inside.tallies.ok.0, c.requires.some, c.requires.top)
