@@ -119,11 +119,6 @@ module _ (adjacent : List (List ℕ)) (holders : List (Option ℕ)) (visits : Li
   pub marked_more : is_reached marks right ≡ true
   marked_more = get_or-set_same reached right true false right_in
 
--- no more visits than right nodes and one
-pub visits_few : (adjacent : List (List ℕ)) (holders : List (Option ℕ)) (visits : List Visit) (reached : List Bool) → IsTree adjacent holders visits reached
-    → length visits ≤ length holders + 1
-visits_few adjacent holders visits reached t = let c = t.counted in let w = t.wide in let n = count_by-le-length (λ (x : Bool). x) reached in omega arith
-
 pub extends_refl : (visits : List Visit) (reached : List Bool) → Extends visits reached visits reached
 extends_refl visits reached = record { longer = omega arith; kept = λ k l. refl; marks = λ b h. h }
 

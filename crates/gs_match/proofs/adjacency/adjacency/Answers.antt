@@ -15,20 +15,20 @@ pub index_mut-requires : goal.index_mut-requires
 index_mut-requires c =
     let edges = c.deref-edge-items.ensures.value ∙ ap (λ (g : Edges). g.edges) c.graph.view_is in
     let n = ap length edges in
-    let q = c.requires c.loop-edge.edge-index (0, 0) (omega arith) in
+    let q = c.requires c.loop-edge.edge-index (0, 0) (omega (arith, n, c.loop-edge-test.true)) in
     let e = ap (λ (l : List (ℕ × ℕ)). (get_or l c.loop-edge.edge-index (0, 0)).0) edges in
     let long = c.loop-edge.invariant.long in
     let m = length-map c.loop-edge.lists.items (λ (x : Vec ℕ Global). x.items) in
     let ok = c.loop-edge.lists.ok.0 in
     let low = q.0 in
-    omega arith
+    omega (arith, low, e, long, m, ok)
 
 pub loop-edge-preserved : goal.loop-edge-preserved
 loop-edge-preserved c =
     let k = c.loop-edge.edge-index in
     let edges = c.deref-edge-items.ensures.value ∙ ap (λ (g : Edges). g.edges) c.graph.view_is in
     let n = ap length edges in
-    let within : k < length c.args.graph.now.edges = omega arith in
+    let within : k < length c.args.graph.now.edges = omega (arith, n, c.loop-edge-test.true) in
     let q = c.requires k (0, 0) within in
     let e : get_or c.args.graph.now.edges k (0, 0) ≡ get_or c.deref-edge-items.result.now k (0, 0) = ap (λ (l : List (ℕ × ℕ)). get_or l k (0, 0)) (sym edges) in
     let a = (get_or c.deref-edge-items.result.now k (0, 0)).0 in
@@ -40,7 +40,7 @@ loop-edge-preserved c =
     let more = neighbours_more c.args.graph.now.left c.args.graph.now.right (take k c.args.graph.now.edges) (rows c.loop-edge.lists.items)
     (a, b) c.loop-edge.invariant low high in
     let row : c.index_mut.result.now.items ≡ row_of (rows c.loop-edge.lists.items) a = row_read c.loop-edge.lists.items a c.index_mut.result.now
-    (omega arith) c.index_mut.ensures.value in
+    (omega (arith, low, long, m)) c.index_mut.ensures.value in
     let pushed : c.push.new.self.items ≡ row_of (rows c.loop-edge.lists.items) a ++ b ∷ [] = c.in_ok-push.ensures.items
     ∙ ap (λ (r : List ℕ). r ++ b ∷ []) row in
     let lists : rows (set c.loop-edge.lists.items a c.push.new.self) ≡ set (rows c.loop-edge.lists.items) a
@@ -62,6 +62,6 @@ returns c =
     let edges = c.deref-edge-items.ensures.value ∙ ap (λ (g : Edges). g.edges) c.graph.view_is in
     let n = ap length edges in
     let all : take c.loop-edge.edge-index c.args.graph.now.edges ≡ c.args.graph.now.edges = take_all c.loop-edge.edge-index c.args.graph.now.edges
-    (omega arith) in
+    (omega (arith, n, c.loop-edge-test.false)) in
     subst (λ (es : List (ℕ × ℕ)). AreNeighbours (record { left = c.args.graph.now.left; right = c.args.graph.now.right; edges = es })
     (rows c.loop-edge.lists.items)) all c.loop-edge.invariant

@@ -24,3 +24,7 @@ loop-right-preserved c = elim c.match-left.branch [
 
 pub returns-clause-each : goal.returns-clause-each
 returns-clause-each c = grind (arith, common_steps)
+
+pub index_mut-requires : goal.index_mut-requires
+index_mut-requires c =
+    omega (arith, c.requires.within c.loop-right.right c.in-Some.left c.in-Some.is, c.loop-right.invariant.long, c.loop-right.to.ok.0)

@@ -1,10 +1,30 @@
-use Rattle.std.proofs.Common.{◌≡◌, ◌+◌, ◌<◌, ℕ, List, length, get_or, arith, ap, subst, sym, ◌∙◌, Some, Option, Vec, Global, IsPermutation, MatchOption, rules}
-use Rattle.std.proofs.lemmas.Grind.{common_steps}
+use Rattle.std.proofs.Common.{◌≡◌, ◌+◌, ◌++◌, ◌<◌, ◌≤◌, ℕ, List, drop, length, get_or, arith, ap, replicate, subst, sym, take, ◌∙◌, Some, None, Option, Vec, Global, IsPermutation}
+use Rattle.std.proofs.{Common.{MatchOption, Result, Ok, Err, rules, ⊎_elim}, lemmas.Bool.{cases_lt}, lemmas.Result.{IfOk-from_err}}
+use Rattle.std.proofs.lemmas.List.{get_or-replicate, get_or_past, length-map, length-replicate, take_at}
+use Rattle.std.specs.Result.{IfErr, IsErrAnd}
 use Rattle.gs_model.specs.{Matching.{Edges, IsHall}, Rows.{rows}}
 use Rattle.gs_model.proofs.Graph.{hall_excludes}
+use Rattle.gs_match.specs.{Adjacency.{AreNeighboursBelow}, Refusal.{IsRefusalOf, NoneExists}, declared.graph.NoMatch.{NoMatch}}
+use Rattle.gs_match.specs.declared.graph.NoMatch.TheVariants.{Memory}
 use Rattle.gs_match.specs.{declared.search.Visit.{Visit}, Search.{IsMatching, HasClosed, holder, lefts}}
-use Rattle.gs_match.proofs.{SearchLaws.{held_not_last}, HallLaws.{hall_from}, PerfectLaws.{perfect_from}}
+use Rattle.gs_match.proofs.{SearchLaws.{held_not_last}, HallLaws.{hall_from}, PerfectLaws.{matching_none, perfect_from}}
 use Rattle.gs_match.proofs.matching.perfect.Goals as goal
+
+-- nothing is held at first
+none_held : (n b : ℕ) → holder (replicate n None) b ≡ None
+none_held n b = ⊎_elim
+    (λ (l : b < n). get_or-replicate n b None None l)
+    (λ (l : n ≤ b). get_or_past (replicate n None) b None (omega (arith, l, length-replicate {A = Option ℕ} n None)))
+    (cases_lt b n)
+
+-- out of memory says nothing of the graph
+memory_refuses : {T : Type 0} (g : Edges) (r : Result T NoMatch) → IsErrAnd r (λ e. e ≡ Memory) → IfErr r (IsRefusalOf g)
+memory_refuses g (Ok x) is = tt
+memory_refuses g (Err e) is = subst (IsRefusalOf g) (sym is) tt
+
+memory_ends : {T : Type 0} (g : Edges) (r : Result T NoMatch) → IsErrAnd r (λ e. e ≡ Memory) → IfErr r (NoneExists g)
+memory_ends g (Ok x) is = tt
+memory_ends g (Err e) is = subst (NoneExists g) (sym is) tt
 
 module _ (c : goal.After-drop-adjacent-in-Some) where
   stuck : (c.args.graph.now.left ≡ c.args.graph.now.right) × IsHall c.args.graph.now c.in_ok-visited.field-0.items
@@ -33,14 +53,12 @@ returns-in-Some-clause-none c = λ to p. hall_excludes c.args.graph.now c.in_ok-
 
 pub by_left-requires-clause-within : goal.by_left-requires-clause-within
 by_left-requires-clause-within c =
-    let sides = c.if-graph.false in
-    let left_is : c.graph.inside.left ≡ c.args.graph.now.left = ap (λ (g : Edges). g.left) c.graph.view_is in
     let right_is : c.graph.inside.right ≡ c.args.graph.now.right = ap (λ (g : Edges). g.right) c.graph.view_is in
     let wide = c.loop-root.invariant.wide in
     let m = c.loop-root.invariant.matching in
-    let end = c.loop-root.auto in
     subst (λ (hs : List (Option ℕ)). (b a : ℕ) → holder hs b ≡ Some a → a < length hs) (sym c.deref-2.ensures.value)
-    (λ b a h. let l = m.below b a (held_not_last c.loop-root.holders.items b a h) h in omega arith)
+    (λ b a h. let l = m.below b a (held_not_last c.loop-root.holders.items b a h) h in
+    omega (arith, l, c.loop-root.auto.root-end, c.if-graph.false, right_is, wide))
 
 pub by_left-requires-clause-once : goal.by_left-requires-clause-once
 by_left-requires-clause-once c =
@@ -50,10 +68,9 @@ by_left-requires-clause-once c =
 
 pub returns-clause-matched : goal.returns-clause-matched
 returns-clause-matched c =
-    let sides = c.if-graph.false in
     let left_is : c.graph.inside.left ≡ c.args.graph.now.left = ap (λ (g : Edges). g.left) c.graph.view_is in
     let right_is : c.graph.inside.right ≡ c.args.graph.now.right = ap (λ (g : Edges). g.right) c.graph.view_is in
-    let done : c.loop-root.root ≡ c.args.graph.now.left = omega arith in
+    let done : c.loop-root.root ≡ c.args.graph.now.left = omega (arith, c.loop-root-test.false, c.loop-root.auto.root-end, left_is) in
     let m = subst (λ (k : ℕ). IsMatching (rows c.in_ok-adjacent.adjacent.items) c.loop-root.holders.items k) done c.loop-root.invariant.matching in
     perfect_from c.args.graph.now (rows c.in_ok-adjacent.adjacent.items) c.loop-root.holders.items c.in_ok-by_left.field-0.items c.in_ok-adjacent.ensures
     c.loop-root.invariant.wide (sym left_is ∙ c.if-graph.false ∙ right_is) m
@@ -65,22 +82,116 @@ pub returns-then-graph-clause-refused : goal.returns-then-graph-clause-refused
 returns-then-graph-clause-refused c = search rules
 
 pub augment-requires-clause-root : goal.augment-requires-clause-root
-augment-requires-clause-root c = grind (arith, common_steps)
+augment-requires-clause-root c =
+    let left_is = ap (λ (g : Edges). g.left) c.graph.view_is in
+    let rows_are = length-map c.in_ok-adjacent.adjacent.items (λ (v : Vec ℕ Global). v.items) in
+    let read = ap (λ (vs : List (Vec ℕ Global)). length vs) c.deref.ensures.value in
+    omega (arith, c.loop-root-test.true, left_is, rows_are, read, c.in_ok-adjacent.ensures.long)
 
 pub loop-root-init : goal.loop-root-init
-loop-root-init c = grind (arith, common_steps)
+loop-root-init c =
+    let right_is : c.graph.inside.right ≡ c.args.graph.now.right = ap (λ (g : Edges). g.right) c.graph.view_is in
+    let none = c.in_ok-holders.ensures.items_if_clones_equal (λ y k. search rules) in
+    record {
+      wide = ap (λ (hs : List (Option ℕ)). length hs) none ∙ length-replicate c.graph.inside.right None ∙ right_is;
+      matching = matching_none (rows c.in_ok-adjacent.adjacent.items) c.in_ok-holders.holders.items
+          (λ b. ap (λ (hs : List (Option ℕ)). holder hs b) none ∙ none_held c.graph.inside.right b);
+    }
 
 pub loop-root-preserved : goal.loop-root-preserved
-loop-root-preserved c = grind (arith, common_steps)
+loop-root-preserved c =
+    let now = c.augment.new.holders in
+    let adjacent = c.in_ok-adjacent.adjacent.items in
+    let long : length now ≡ length c.loop-root.holders.items =
+    c.augment.auto.holders ∙ ap (λ (hs : List (Option ℕ)). length hs) c.deref_mut.ensures.value in
+    let read : take c.loop-root.holders.len (now ++ drop (length now) c.loop-root.holders.items) ≡ now =
+    take_at now (drop (length now) c.loop-root.holders.items) c.loop-root.holders.len (omega (arith, long, c.loop-root.holders.ok.0)) in
+    let more : IsMatching (rows c.deref.result.now) now (c.loop-root.root + 1) =
+    subst (λ (o : Option (Vec Visit Global)). MatchOption o (IsMatching (rows c.deref.result.now) now (c.loop-root.root + 1))
+    (λ visits. HasClosed (rows c.deref.result.now) c.deref_mut.result.now c.loop-root.root visits.items)) c.in_default.is c.in_ok-visits.ensures in
+    record {
+      wide = ap (λ (hs : List (Option ℕ)). length hs) read ∙ long ∙ c.loop-root.invariant.wide;
+      matching = subst (λ (hs : List (Option ℕ)). IsMatching (rows adjacent) hs (c.loop-root.root + 1)) (sym read)
+          (subst (λ (vs : List (Vec ℕ Global)). IsMatching (rows vs) now (c.loop-root.root + 1)) c.deref.ensures.value more);
+    }
 
 pub augment-requires-clause-matching : goal.augment-requires-clause-matching
-augment-requires-clause-matching c = grind arith
+augment-requires-clause-matching c =
+    subst (λ (vs : List (Vec ℕ Global)). IsMatching (rows vs) c.deref_mut.result.now c.loop-root.root) (sym c.deref.ensures.value)
+    (subst (λ (hs : List (Option ℕ)). IsMatching (rows c.in_ok-adjacent.adjacent.items) hs c.loop-root.root) (sym c.deref_mut.ensures.value)
+    c.loop-root.invariant.matching)
 
 pub augment-requires-clause-rows : goal.augment-requires-clause-rows
-augment-requires-clause-rows c = grind arith
+augment-requires-clause-rows c =
+    let wide = ap (λ (hs : List (Option ℕ)). length hs) c.deref_mut.ensures.value ∙ c.loop-root.invariant.wide in
+    subst (λ (vs : List (Vec ℕ Global)). AreNeighboursBelow (rows vs) (length c.deref_mut.result.now)) (sym c.deref.ensures.value)
+    (subst (λ (n : ℕ). AreNeighboursBelow (rows c.in_ok-adjacent.adjacent.items) n) (sym wide) c.in_ok-adjacent.ensures.in_range)
 
 pub returns-clause-equal : goal.returns-clause-equal
-returns-clause-equal c = grind arith
+returns-clause-equal c =
+    sym (ap (λ (g : Edges). g.left) c.graph.view_is) ∙ c.if-graph.false ∙ ap (λ (g : Edges). g.right) c.graph.view_is
 
 pub by_left-requires-clause-short : goal.by_left-requires-clause-short
 by_left-requires-clause-short c = grind arith
+
+pub returns-in-Some-clause-equal : goal.returns-in-Some-clause-equal
+returns-in-Some-clause-equal c = tt
+
+pub returns-in-Some-clause-matched : goal.returns-in-Some-clause-matched
+returns-in-Some-clause-matched c = tt
+
+pub returns-clause-refused : goal.returns-clause-refused
+returns-clause-refused c = tt
+
+pub returns-clause-none : goal.returns-clause-none
+returns-clause-none c = tt
+
+pub returns-in_err-visited : goal.returns-in_err-visited
+returns-in_err-visited c =
+    let failed = c.from_residual-in_err-visited.ensures in
+    record {
+      equal = IfOk-from_err _ _ failed.0;
+      matched = IfOk-from_err _ _ failed.0;
+      refused = memory_refuses c.args.graph.now _ failed.1;
+      none = memory_ends c.args.graph.now _ failed.1;
+    }
+
+pub returns-in_err-visits : goal.returns-in_err-visits
+returns-in_err-visits c =
+    let failed = c.from_residual-in_err-visits.ensures in
+    record {
+      equal = IfOk-from_err _ _ failed.0;
+      matched = IfOk-from_err _ _ failed.0;
+      refused = memory_refuses c.args.graph.now _ failed.1;
+      none = memory_ends c.args.graph.now _ failed.1;
+    }
+
+pub returns-in_err-adjacent : goal.returns-in_err-adjacent
+returns-in_err-adjacent c =
+    let failed = c.from_residual.ensures in
+    record {
+      equal = IfOk-from_err _ _ failed.0;
+      matched = IfOk-from_err _ _ failed.0;
+      refused = memory_refuses c.args.graph.now _ failed.1;
+      none = memory_ends c.args.graph.now _ failed.1;
+    }
+
+pub returns-in_err-holders : goal.returns-in_err-holders
+returns-in_err-holders c =
+    let failed = c.from_residual-in_err-holders.ensures in
+    record {
+      equal = IfOk-from_err _ _ failed.0;
+      matched = IfOk-from_err _ _ failed.0;
+      refused = memory_refuses c.args.graph.now _ failed.1;
+      none = memory_ends c.args.graph.now _ failed.1;
+    }
+
+pub returns-in_err-by_left : goal.returns-in_err-by_left
+returns-in_err-by_left c =
+    let failed = c.from_residual-in_err-by_left.ensures in
+    record {
+      equal = IfOk-from_err _ _ failed.0;
+      matched = IfOk-from_err _ _ failed.0;
+      refused = memory_refuses c.args.graph.now _ failed.1;
+      none = memory_ends c.args.graph.now _ failed.1;
+    }

@@ -23,11 +23,11 @@ loop-place-preserved c =
     let explored : AreExplored (rows c.args.adjacent.now) c.visit_row.new.visits.items new (c.loop-place.place + 1) = λ k b lt near. ⊎_elim
     (λ (e : k ≡ c.loop-place.place). row b (subst (λ j. Near (rows c.args.adjacent.now) (visit c.visit_row.new.visits.items j).left b) e near))
     (λ ne. explored_more (rows c.args.adjacent.now) c.loop-place.visits.items old c.visit_row.new.visits.items new c.loop-place.place
-    c.loop-place.invariant.within ext c.loop-place.invariant.explored k b (omega arith) near)
+    c.loop-place.invariant.within ext c.loop-place.invariant.explored k b (omega (arith, lt, ne)) near)
     (cases_eq k c.loop-place.place) in
     record {
-      within = omega arith;
-      root = ap (λ (v : Visit). v.left) (ext.kept 0 (omega arith)) ∙ c.loop-place.invariant.root;
+      within = omega (arith, within, len, ok, longer);
+      root = ap (λ (v : Visit). v.left) (ext.kept 0 c.loop-place.invariant.tree.some) ∙ c.loop-place.invariant.root;
       tree = subst (λ (rs : List Bool). IsTree (rows c.args.adjacent.now) c.args.holders.now c.visit_row.new.visits.items rs)
           (sym same) c.in_ok-right.ensures.tree;
       explored = subst (λ (rs : List Bool). AreExplored (rows c.args.adjacent.now) c.visit_row.new.visits.items rs (c.loop-place.place + 1))
@@ -44,7 +44,7 @@ returns c =
         reached = c.loop-place.reached.items;
         tree = c.loop-place.invariant.tree;
         explored = λ k b lt near. c.loop-place.invariant.explored k b
-            (omega arith) near;
+            (omega (arith, lt, t, n, ok)) near;
       },
     )
 
@@ -68,3 +68,6 @@ visit_row-requires-clause-rows c = grind arith
 
 pub visit_row-requires-clause-left : goal.visit_row-requires-clause-left
 visit_row-requires-clause-left c = grind arith
+
+pub overflow_add-place : goal.overflow_add-place
+overflow_add-place c = omega (arith, c.loop-place-test.true, c.len.type_inv)

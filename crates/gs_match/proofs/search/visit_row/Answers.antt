@@ -74,3 +74,9 @@ bounds-reached-right-in-Some c = grind (arith, common_steps)
 
 pub bounds-holders : goal.bounds-holders
 bounds-holders c = grind (arith, common_steps)
+
+pub returns-in-None-clause-tree : goal.returns-in-None-clause-tree
+returns-in-None-clause-tree c = c.loop-right.invariant.tree
+
+pub returns-in-None-clause-extends : goal.returns-in-None-clause-extends
+returns-in-None-clause-extends c = c.loop-right.invariant.extends
