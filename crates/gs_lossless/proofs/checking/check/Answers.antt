@@ -1,6 +1,7 @@
 use Rattle.std.proofs.Common.{arith}
 use Rattle.gs_model.specs.{Frame.{frame_of}, Lossless.{IsLossless}}
 use Rattle.gs_tree.specs.Trees.{rules_of}
+use Rattle.gs_lossless.proofs.Unlike.{no_pair}
 use Rattle.gs_lossless.proofs.checking.check.Goals.{Joined-not-branch, then-not-branch+in_ok-first_unlike, else-not-branch}
 use Rattle.gs_lossless.proofs.checking.check.Goals as goal
 
@@ -22,3 +23,9 @@ returns-clause-lossless c = passed (goal.at.returns-clause-lossless c).Joined-no
 
 pub returns-in_err-first_unlike-clause-single : goal.returns-in_err-first_unlike-clause-single
 returns-in_err-first_unlike-clause-single c = grind arith
+
+pub returns-in_err-settles-clause-refuted : goal.returns-in_err-settles-clause-refuted
+returns-in_err-settles-clause-refuted c = no_pair _ c.from_residual.result c.from_residual.ensures.1
+
+pub returns-in_err-settles-clause-single : goal.returns-in_err-settles-clause-single
+returns-in_err-settles-clause-single c = no_pair _ c.from_residual.result c.from_residual.ensures.1

@@ -3,7 +3,7 @@ use Rattle.gs_model.specs.{Frame.{frame_of}, Game.{round_count}}
 use Rattle.gs_model.proofs.{Ranges.{signal_count_is}, Walked.{last_round_of}}
 use Rattle.gs_tree.specs.Trees.{rules_of}
 use Rattle.gs_lossless.specs.Stops.{MatchUnlike}
-use Rattle.gs_lossless.proofs.{Descent.{list_long}, Scanned.{alike_more, first_unlike_from, not_single, refuted}, Settled.{lossless_by_firsts, over}}
+use Rattle.gs_lossless.proofs.{Descent.{list_long}, Scanned.{alike_more, first_unlike_from, not_single, refuted}, Settled.{lossless_by_firsts, over}, Unlike.{no_pair}}
 use Rattle.gs_lossless.proofs.checking.first_unlike.Goals as goal
 
 pub unlike_in-requires-clause-top : goal.unlike_in-requires-clause-top
@@ -63,3 +63,9 @@ first-first-requires-clause-top c = grind (arith, common_steps)
 
 pub class_of-class-requires-clause-top : goal.class_of-class-requires-clause-top
 class_of-class-requires-clause-top c = grind (arith, common_steps)
+
+pub returns-in_err-second-clause-refuted : goal.returns-in_err-second-clause-refuted
+returns-in_err-second-clause-refuted c = no_pair _ c.from_residual.result c.from_residual.ensures.1
+
+pub returns-in_err-second-clause-single : goal.returns-in_err-second-clause-single
+returns-in_err-second-clause-single c = no_pair _ c.from_residual.result c.from_residual.ensures.1

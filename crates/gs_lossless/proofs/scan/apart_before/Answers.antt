@@ -133,3 +133,6 @@ classes-requires-clause-top c = (within (goal.at.classes-requires-clause-top c).
 
 pub classes-requires-clause-some : goal.classes-requires-clause-some
 classes-requires-clause-some c = (within (goal.at.classes-requires-clause-some c).Start).0
+
+pub first-requires-clause-class : goal.first-requires-clause-class
+first-requires-clause-class c = c.class_of.ensures.class

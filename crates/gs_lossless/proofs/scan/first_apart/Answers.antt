@@ -1,9 +1,8 @@
-use Rattle.std.proofs.Common.{true, true≢false, ◌≡◌, ◌≤◌, ◌<◌, ◌∙◌, ℕ, Option, None, Some, length, sym, arith}
-use Rattle.std.proofs.lemmas.Grind.{common_steps}
+use Rattle.std.proofs.Common.{true, true≢false, ◌≡◌, ◌≤◌, ◌<◌, ◌∙◌, ℕ, Option, None, Some, length, subst, sym, arith}
 use Rattle.std.specs.Prelude.{IfOk, is_some}
-use Rattle.gs_model.specs.{Classes.{ClassLists, list_of}, Frame.{Frame, frame_of}}
+use Rattle.gs_model.specs.{Classes.{ClassLists, list_of}, Frame.{Frame, frame_of}, Signals.{signals}}
 use Rattle.gs_model.proofs.Walked.{last_round_of}
-use Rattle.gs_tree.specs.Trees.{rules_of}
+use Rattle.gs_tree.specs.{Trees.{rules_of}, declared.signals.Signals.{Signals}}
 use Rattle.gs_lossless.specs.{Scans.{IsFirstApart}, declared.sides.Side.{Side}}
 use Rattle.gs_lossless.proofs.{Descent.{list_long}, SideOf.{as_asked}, Scanned.{side_in}, Settled.{single_agrees}}
 use Rattle.gs_lossless.proofs.scan.first_apart.Goals as goal
@@ -40,11 +39,21 @@ returns c =
     as_asked (λ s k a m. IfOk c.apart_before-2.result (IsFirstApart (frame_of (rules_of s)) k.lists a m c.args.end)) (late.signals ∙ at.signals)
     (late.classes ∙ at.classes) (late.side.0 ∙ at.side.0, late.side.1 ∙ at.side.1) c.apart_before-2.ensures
 
+-- what is known of the round that is asked for holds of the side
+in_round : (s asked : Signals) (k round n : ℕ) → s ≡ asked → k ≡ round → n ≤ length (signals (rules_of asked) round) → n ≤ length (signals (rules_of s) k)
+in_round s asked k round n e is l =
+    subst (λ (t : Signals). n ≤ length (signals (rules_of t) k)) (sym e) (subst (λ (m : ℕ). n ≤ length (signals (rules_of asked) m)) (sym is) l)
+
 pub apart_before-requires-2 : goal.apart_before-requires-2
-apart_before-requires-2 c = grind arith
+apart_before-requires-2 c =
+    let at = c.in_ok-at.ensures in
+    let late = c.in_ok-at-2.ensures in
+    in_round _ _ _ _ c.args.end (late.signals ∙ at.signals) (late.side.1 ∙ at.side.1) c.requires.within
 
 pub apart_before-requires : goal.apart_before-requires
-apart_before-requires c = grind (arith, common_steps)
+apart_before-requires c =
+    let at = c.in_ok-at.ensures in
+    in_round _ _ _ _ 64 at.signals at.side.1 (omega (arith, c.if-end-ge-MANY.true, c.requires.within))
 
 pub are_alone-requires-clause-some : goal.are_alone-requires-clause-some
 are_alone-requires-clause-some c = grind arith

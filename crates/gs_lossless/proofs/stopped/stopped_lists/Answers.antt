@@ -1,5 +1,5 @@
 use Rattle.std.proofs.Common.{◌≡◌, ◌≤◌, ◌<◌, ◌+◌, ◌-◌, ◌∷◌, ◌++◌, ◌∙◌, [], ℕ, List, Vec, Global, ap, arith, get_or, length, sym, take, ⊎_elim}
-use Rattle.std.proofs.{lemmas.Bool.{cases_lt}, lemmas.List.{get_or-append_right, get_or-map, get_or-take, length-map, length_push, length-take-le, map-append, take_more}}
+use Rattle.std.proofs.{lemmas.Bool.{cases_lt}, lemmas.List.{get_or-append_right, get_or-map, get_or-take, length-map, length_push, length-take-le, map-append, take_all, take_more}}
 use Rattle.std.proofs.Math.ListN.{get_or-append}
 use Rattle.std.specs.Prelude.{min}
 use Rattle.gs_model.specs.{Rows.{rows}, Classes.{ClassLists, list_of}}
@@ -26,10 +26,16 @@ module _ (lists : ClassLists) (round place : ℕ) (some : 0 < round) (top : roun
       ∙ ap (λ k. get_or (list_of lists round ∷ []) k []) first ∙ ap (λ k. get_or lists k []) least)
       (cases_lt place round)
 
+  long : length (stopped_lists lists round) ≡ round + 1
+  long = length_push (take round lists) (list_of lists round) ∙ ap (λ k. k + 1) taken
+
+  -- all lists
+  all_taken : round < place → take place (stopped_lists lists round) ≡ stopped_lists lists round
+  all_taken l = take_all place (stopped_lists lists round) (omega (arith, long, l))
+
   one_more : (stopped : List (Vec ℕ Global)) (list : Vec ℕ Global) → place ≤ round → rows stopped ≡ take place (stopped_lists lists round)
       → list.items ≡ get_or lists (min place (round - 1)) [] → rows (stopped ++ list ∷ []) ≡ take (place + 1) (stopped_lists lists round)
   one_more stopped list l h is =
-      let long : length (stopped_lists lists round) ≡ round + 1 = length_push (take round lists) (list_of lists round) ∙ ap (λ k. k + 1) taken in
       map-append (λ (v : Vec ℕ Global). v.items) stopped (list ∷ []) ∙ ap (λ ls. ls ++ list.items ∷ []) h
       ∙ ap (λ x. take place (stopped_lists lists round) ++ x ∷ []) (is ∙ sym (at_place l))
       ∙ sym (take_more (stopped_lists lists round) place [] (omega (arith, l, long)))
@@ -61,3 +67,9 @@ loop-place-preserved c =
     ap (λ (ls : List (Vec ℕ Global)). rows ls) c.in_ok-push.ensures.items
     ∙ one_more lists round place c.requires.some c.requires.top c.loop-place.stopped.items list
     (omega (arith, c.loop-place-test.true, c.from-last.ensures, c.requires.some)) c.loop-place.invariant is
+
+pub returns : goal.returns
+returns c =
+    c.loop-place.invariant
+    ∙ all_taken c.args.classes.now.lists c.args.round c.loop-place.place c.requires.some c.requires.top
+    (omega (arith, c.loop-place-test.false, c.from-last.ensures, c.requires.some))

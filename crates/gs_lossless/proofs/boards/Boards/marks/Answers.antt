@@ -104,3 +104,6 @@ pub mark_board-requires-clause-hands : goal.mark_board-requires-clause-hands
 mark_board-requires-clause-hands c =
     ap (λ (l : List ℕ). length l) c.deref-in-loop-place-2.ensures.value ∙ c.in_ok-list_hands.ensures.long
     ∙ ap (λ (l : List Seat). length l) (sym c.deref-in-loop-place.ensures.value)
+
+pub index-like-requires : goal.index-like-requires
+index-like-requires c = omega (arith, c.in_ok-kind.ensures.kind.within, c.kind_of.new.kinds.list.ok.0)

@@ -1,4 +1,4 @@
-use Rattle.std.proofs.Common.{◌∙◌, ℕ, List, ap, length, subst}
+use Rattle.std.proofs.Common.{◌∙◌, ℕ, List, ap, length, refl, subst}
 use Rattle.std.specs.List.{All}
 use Rattle.gs_tree.specs.Trees.{rules_of}
 use Rattle.gs_lossless.specs.Rivals.{IsRivalTable}
@@ -17,3 +17,12 @@ invariant_of-result c = record {
       c.in_ok-tables.ensures.each;
   parents = c.args.self.parents;
 }
+
+pub returns-clause-side : goal.returns-clause-side
+returns-clause-side c = (refl, refl)
+
+pub returns-clause-classes : goal.returns-clause-classes
+returns-clause-classes c = refl
+
+pub returns-clause-signals : goal.returns-clause-signals
+returns-clause-signals c = refl
