@@ -1,9 +1,9 @@
 -- The two signals of a first unlike pair are signals of the game.
-use Rattle.std.proofs.Common.{ℕ, ◌≡◌, ◌<◌, ◌≤◌, Result, Ok, Err, length, arith, subst}
+use Rattle.std.proofs.Common.{ℕ, ◌≡◌, ◌<◌, ◌≤◌, Result, Ok, Err, length, arith, subst, sym}
 use Rattle.std.specs.Result.{IfErr, IsErrAnd}
-use Rattle.gs_model.specs.{Classes.{ClassLists}, Frame.{frame_of, last_round}, Game.{Game, round_count}, Lossless.{IsFirstUnlike}, Signals.{signals}}
+use Rattle.gs_model.specs.{Classes.{ClassLists}, Frame.{Frame, frame_of, last_round}, Game.{Game, round_count}, Lossless.{IsFirstUnlike}, Signals.{signals}}
 use Rattle.gs_model.proofs.{Ranges.{signal_count_is}, Walked.{last_round_of}}
-use Rattle.gs_lossless.specs.{Stops.{IsUnlike}, declared.stop.CheckStop.{CheckStop}, declared.stop.CheckStop.TheVariants.{Memory}}
+use Rattle.gs_lossless.specs.{Stops.{IsUnlike, IsUnlikeIn}, declared.stop.CheckStop.{CheckStop}, declared.stop.CheckStop.TheVariants.{Memory}}
 use Rattle.gs_lossless.proofs.Settled.{first_le}
 
 -- two signals of one round of a game
@@ -27,3 +27,7 @@ pair_in g lists round first second unlike =
 pub no_pair : {T : Type 0} (X : Type 0) (r : Result T CheckStop) → IsErrAnd r (λ e. e ≡ Memory) → IfErr r (λ e. IsUnlike e → X)
 no_pair X (Ok x) is = tt
 no_pair X (Err e) is = λ u. absurd (subst IsUnlike is u)
+
+pub nothing_said : {T : Type 0} (f : Frame) (lists : ClassLists) (r : Result T CheckStop) → IsErrAnd r (λ e. e ≡ Memory) → IfErr r (IsUnlikeIn f lists)
+nothing_said f lists (Ok x) is = tt
+nothing_said f lists (Err e) is = subst (IsUnlikeIn f lists) (sym is) tt

@@ -1,7 +1,7 @@
-use Rattle.std.proofs.Common.{arith}
+use Rattle.std.proofs.{Common.{arith}, lemmas.Result.{IfOk-from_err}}
 use Rattle.gs_model.specs.{Frame.{frame_of}, Lossless.{IsLossless}}
 use Rattle.gs_tree.specs.Trees.{rules_of}
-use Rattle.gs_lossless.proofs.Unlike.{no_pair}
+use Rattle.gs_lossless.proofs.Unlike.{no_pair, nothing_said}
 use Rattle.gs_lossless.proofs.checking.check.Goals.{Joined-not-branch, then-not-branch+in_ok-first_unlike, else-not-branch}
 use Rattle.gs_lossless.proofs.checking.check.Goals as goal
 
@@ -24,8 +24,14 @@ returns-clause-lossless c = passed (goal.at.returns-clause-lossless c).Joined-no
 pub returns-in_err-first_unlike-clause-single : goal.returns-in_err-first_unlike-clause-single
 returns-in_err-first_unlike-clause-single c = grind arith
 
-pub returns-in_err-settles-clause-refuted : goal.returns-in_err-settles-clause-refuted
-returns-in_err-settles-clause-refuted c = no_pair _ c.from_residual.result c.from_residual.ensures.1
-
-pub returns-in_err-settles-clause-single : goal.returns-in_err-settles-clause-single
-returns-in_err-settles-clause-single c = no_pair _ c.from_residual.result c.from_residual.ensures.1
+pub returns-in_err-settles : goal.returns-in_err-settles
+returns-in_err-settles c =
+    let failed = c.from_residual.ensures in
+    record {
+      held_signals = IfOk-from_err _ _ failed.0;
+      held_classes = IfOk-from_err _ _ failed.0;
+      lossless = IfOk-from_err _ _ failed.0;
+      unlike = nothing_said _ _ _ failed.1;
+      refuted = no_pair _ _ failed.1;
+      single = no_pair _ _ failed.1;
+    }

@@ -1,9 +1,9 @@
-use Rattle.std.proofs.{Common.{◌+◌, ◌≤◌, arith, subst}, lemmas.Grind.{common_steps}}
+use Rattle.std.proofs.{Common.{◌+◌, ◌≤◌, arith, subst}, lemmas.Grind.{common_steps}, lemmas.Result.{IfOk-from_err}}
 use Rattle.gs_model.specs.{Frame.{frame_of}, Game.{round_count}}
 use Rattle.gs_model.proofs.{Ranges.{signal_count_is}, Walked.{last_round_of}}
 use Rattle.gs_tree.specs.Trees.{rules_of}
 use Rattle.gs_lossless.specs.Stops.{MatchUnlike}
-use Rattle.gs_lossless.proofs.{Descent.{list_long}, Scanned.{alike_more, first_unlike_from, not_single, refuted}, Settled.{lossless_by_firsts, over}, Unlike.{no_pair}}
+use Rattle.gs_lossless.proofs.{Descent.{list_long}, Scanned.{alike_more, first_unlike_from, not_single, refuted}, Settled.{lossless_by_firsts, over}, Unlike.{no_pair, nothing_said}}
 use Rattle.gs_lossless.proofs.checking.first_unlike.Goals as goal
 
 pub unlike_in-requires-clause-top : goal.unlike_in-requires-clause-top
@@ -64,8 +64,12 @@ first-first-requires-clause-top c = grind (arith, common_steps)
 pub class_of-class-requires-clause-top : goal.class_of-class-requires-clause-top
 class_of-class-requires-clause-top c = grind (arith, common_steps)
 
-pub returns-in_err-second-clause-refuted : goal.returns-in_err-second-clause-refuted
-returns-in_err-second-clause-refuted c = no_pair _ c.from_residual.result c.from_residual.ensures.1
-
-pub returns-in_err-second-clause-single : goal.returns-in_err-second-clause-single
-returns-in_err-second-clause-single c = no_pair _ c.from_residual.result c.from_residual.ensures.1
+pub returns-in_err-second : goal.returns-in_err-second
+returns-in_err-second c =
+    let failed = c.from_residual.ensures in
+    record {
+      lossless = IfOk-from_err _ _ failed.0;
+      unlike = nothing_said _ _ _ failed.1;
+      refuted = no_pair _ _ failed.1;
+      single = no_pair _ _ failed.1;
+    }

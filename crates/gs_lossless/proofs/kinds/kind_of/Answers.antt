@@ -1,3 +1,4 @@
+use Rattle.std.proofs.lemmas.Result.{IfOk-from_err}
 use Rattle.std.proofs.Common.{◌∙◌, ◌++◌, ℕ, List, inr, refl, ap, subst, sym, arith}
 use Rattle.std.specs.{Global.{Vec}, List.Sorted.{IsPermutation}}
 use Rattle.gs_lossless.specs.{Hands.{IsKindOf, KeepsKinds}, declared.kinds.Kind.{Kind}}
@@ -51,3 +52,38 @@ returns-clause-kind c =
     subst (λ (ks : List Kind). IsKindOf ks c.len-kind.result hands) (sym c.in_ok-push.ensures.items)
     (kind_last kinds last c.len-kind.result hands (c.len-kind.ensures ∙ c.args.kinds.now.list.ok.0)
     (subst (IsPermutation made.items) c.in_ok-hands.ensures.items (IsPermutation-refl made.items)))
+
+pub returns-in_err-extend_from_slice : goal.returns-in_err-extend_from_slice
+returns-in_err-extend_from_slice c = let failed = c.from_residual.ensures.0 in record {
+  kind = IfOk-from_err _ _ failed;
+  kept = IfOk-from_err _ _ failed;
+  list = IfOk-from_err _ _ failed;
+}
+
+pub returns-in_err-hands : goal.returns-in_err-hands
+returns-in_err-hands c = let failed = c.from_residual-in_err-hands.ensures.0 in record {
+  kind = IfOk-from_err _ _ failed;
+  kept = IfOk-from_err _ _ failed;
+  list = IfOk-from_err _ _ failed;
+}
+
+pub returns-in_err-push : goal.returns-in_err-push
+returns-in_err-push c = let failed = c.from_residual-in_err-push.ensures.0 in record {
+  kind = IfOk-from_err _ _ failed;
+  kept = IfOk-from_err _ _ failed;
+  list = IfOk-from_err _ _ failed;
+}
+
+pub returns-in_err-row : goal.returns-in_err-row
+returns-in_err-row c = let failed = c.from_residual-in_err-row.ensures.0 in record {
+  kind = IfOk-from_err _ _ failed;
+  kept = IfOk-from_err _ _ failed;
+  list = IfOk-from_err _ _ failed;
+}
+
+pub returns-in_err-insert : goal.returns-in_err-insert
+returns-in_err-insert c = let failed = c.from_residual-in_err-insert.ensures.0 in record {
+  kind = IfOk-from_err _ _ failed;
+  kept = IfOk-from_err _ _ failed;
+  list = IfOk-from_err _ _ failed;
+}

@@ -1,3 +1,4 @@
+use Rattle.std.proofs.lemmas.Result.{IfOk-from_err}
 use Rattle.std.proofs.{Common.{◌≡◌, [], All, length, ap, ◌∙◌, subst, sym, arith, Vec, Global}, lemmas.List.{length_push}, lemmas.List.Elements.{All-push}}
 use Rattle.gs_lossless.proofs.lists.empty_lists.Goals as goal
 
@@ -13,3 +14,9 @@ loop-n-preserved g c =
 
 pub loop-n-init : goal.loop-n-init
 loop-n-init g c = grind arith
+
+pub returns-in_err-lists : goal.returns-in_err-lists
+returns-in_err-lists g c = let failed = c.from_residual.ensures.0 in record { long = IfOk-from_err _ _ failed; empty = IfOk-from_err _ _ failed }
+
+pub returns-in_err-push : goal.returns-in_err-push
+returns-in_err-push g c = let failed = c.from_residual-in_err-push.ensures.0 in record { long = IfOk-from_err _ _ failed; empty = IfOk-from_err _ _ failed }

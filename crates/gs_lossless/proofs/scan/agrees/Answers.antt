@@ -1,3 +1,4 @@
+use Rattle.std.proofs.lemmas.Result.{IfOk-from_err}
 use Rattle.std.proofs.Common.{◌∙◌, ℕ, Vec, Global, ap, arith, subst, sym}
 use Rattle.gs_model.specs.{Classes.{first_member}, Frame.{frame_of}}
 use Rattle.gs_tree.specs.Trees.{rules_of}
@@ -47,3 +48,17 @@ returns c =
 
 pub class_of-class-requires-clause-some : goal.class_of-class-requires-clause-some
 class_of-class-requires-clause-some c = grind arith
+
+pub returns-in_err-keep_first : goal.returns-in_err-keep_first
+returns-in_err-keep_first c = let failed = c.from_residual.ensures.0 in record {
+  kept = IfOk-from_err _ _ failed;
+  long = IfOk-from_err _ _ failed;
+  agrees = IfOk-from_err _ _ failed;
+}
+
+pub returns-in_err-sums : goal.returns-in_err-sums
+returns-in_err-sums c = let failed = c.from_residual-in_err-sums.ensures.0 in record {
+  kept = IfOk-from_err _ _ failed;
+  long = IfOk-from_err _ _ failed;
+  agrees = IfOk-from_err _ _ failed;
+}

@@ -1,3 +1,4 @@
+use Rattle.std.proofs.lemmas.Result.{IfOk-from_err}
 use Rattle.std.proofs.lemmas.Grind.{common_steps}
 use Rattle.std.proofs.{Common.{◌≡◌, ◌==◌, ◌∙◌, ◌-◌, ℕ, List, Vec, Global, ap, arith, length, refl, sym, subst, true≢false, ⊎_elim}, lemmas.List.{length-set}}
 use Rattle.gs_model.specs.Frame.{frame_of}
@@ -51,3 +52,10 @@ first-requires-clause-top c = grind (arith, common_steps)
 
 pub first-requires-clause-some : goal.first-requires-clause-some
 first-requires-clause-some c = grind (arith, common_steps)
+
+pub returns-in_err-sums : goal.returns-in_err-sums
+returns-in_err-sums c = let failed = c.from_residual.ensures.0 in record {
+  kept = IfOk-from_err _ _ failed;
+  first = IfOk-from_err _ _ failed;
+  long = IfOk-from_err _ _ failed;
+}

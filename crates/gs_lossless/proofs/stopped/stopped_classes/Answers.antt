@@ -1,3 +1,4 @@
+use Rattle.std.proofs.lemmas.Result.{IfOk-from_err}
 use Rattle.std.proofs.{Common.{List, ℕ, sym, subst, arith}, lemmas.Grind.{common_steps}}
 use Rattle.gs_filter.specs.{Faults.{IsFaultOf}, Filter.{AreParents}}
 use Rattle.gs_model.specs.{Rows.{rows}, Classes.{ClassLists}, Frame.{frame_of}}
@@ -20,3 +21,10 @@ returns-in_default-clause-whenever c = λ classes.
 
 pub returns-in-Ok-clause-same : goal.returns-in-Ok-clause-same
 returns-in-Ok-clause-same c = grind (arith, common_steps)
+
+pub returns-in_err-lists : goal.returns-in_err-lists
+returns-in_err-lists c = let failed = c.from_residual.ensures.0 in record {
+  parents = IfOk-from_err _ _ failed;
+  same = IfOk-from_err _ _ failed;
+  whenever = IfOk-from_err _ _ failed;
+}

@@ -1,3 +1,4 @@
+use Rattle.std.proofs.lemmas.Result.{IfOk-from_err}
 use Rattle.std.proofs.Common.{◌≡◌, ℕ, subst}
 use Rattle.std.specs.Prelude.{IfOk}
 use Rattle.gs_filter.specs.Filter.{Filter}
@@ -19,3 +20,10 @@ returns-clause-classes c =
 pub returns-clause-signals : goal.returns-clause-signals
 returns-clause-signals c =
     subst (λ (s : Signals). IfOk c.with_tables.result (λ at. at.signals.now ≡ s)) c.in_ok-at.ensures.signals c.with_tables.ensures.signals
+
+pub returns-in_err-at : goal.returns-in_err-at
+returns-in_err-at c = let failed = c.from_residual.ensures.0 in record {
+  signals = IfOk-from_err _ _ failed;
+  classes = IfOk-from_err _ _ failed;
+  side = IfOk-from_err _ _ failed;
+}

@@ -1,3 +1,4 @@
+use Rattle.std.proofs.lemmas.Result.{IfOk-from_err}
 use Rattle.std.proofs.Common.{◌∙◌, ℕ, List, ap, length, refl, subst}
 use Rattle.std.specs.List.{All}
 use Rattle.gs_tree.specs.Trees.{rules_of}
@@ -26,3 +27,10 @@ returns-clause-classes c = refl
 
 pub returns-clause-signals : goal.returns-clause-signals
 returns-clause-signals c = refl
+
+pub returns-in_err-tables : goal.returns-in_err-tables
+returns-in_err-tables c = let failed = c.from_residual.ensures.0 in record {
+  signals = IfOk-from_err _ _ failed;
+  classes = IfOk-from_err _ _ failed;
+  side = IfOk-from_err _ _ failed;
+}
