@@ -55,13 +55,6 @@ pub record AreHanded (g : Game) (keys firsts : List ℕ) (place : ℕ) : Type 0 
   pub before : (i : ℕ) → i < place → get_or firsts i 0 ≤ i
   pub alike : (i : ℕ) → i < place → AreAlike g keys i (get_or firsts i 0)
 
-pub handed_none : (g : Game) (keys firsts : List ℕ) → firsts ≡ [] → AreHanded g keys firsts 0
-handed_none g keys firsts e = record {
-  long = ap (λ (l : List ℕ). length l) e;
-  before = λ i l. absurd (omega (arith, l));
-  alike = λ i l. absurd (omega (arith, l));
-}
-
 pub handed_more : (g : Game) (keys firsts : List ℕ) (place first : ℕ) → AreHanded g keys firsts place → first ≤ place → AreAlike g keys place first
     → AreHanded g keys (firsts ++ first ∷ []) (place + 1)
 handed_more g keys firsts place first h le like =

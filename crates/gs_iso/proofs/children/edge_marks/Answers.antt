@@ -1,4 +1,4 @@
-use Rattle.std.proofs.Common.{ℕ, ap, arith, get_or, sym}
+use Rattle.std.proofs.Common.{◌<◌, ℕ, ap, arith, get_or, subst, sym}
 use Rattle.gs_tree.specs.Trees.{rules_of}
 use Rattle.gs_iso.specs.Numbers.{child_part}
 use Rattle.gs_iso.proofs.{FirstSeen.{seen_more, seen_none}, Below.{marks_light}, Exact.{child_eq, child_exact}}
@@ -26,3 +26,12 @@ pub loop-signal-init : goal.loop-signal-init
 loop-signal-init c =
     let key = child_part (rules_of c.args.signals.now) c.args.round c.args.numbers.now in
     seen_none child_eq child_exact key _ _ c.new-seen.ensures.empty c.in_ok-marks.ensures.items
+
+pub edge-requires-clause-in_range : goal.edge-requires-clause-in_range
+edge-requires-clause-in_range c = subst (λ (n : ℕ). c.loop-signal.signal < n) c.count-count.ensures.value c.loop-signal-test.true
+
+pub number_of-requires : goal.number_of-requires
+number_of-requires c = omega (arith, c.loop-signal.invariant.few, c.loop-signal-test.true, c.count-count.type_inv)
+
+pub edge-requires-clause-some : goal.edge-requires-clause-some
+edge-requires-clause-some c = c.requires.some

@@ -99,3 +99,16 @@ index-requires c =
 pub signature_number-requires-clause-in_range : goal.signature_number-requires-clause-in_range
 signature_number-requires-clause-in_range c =
     subst (λ n. c.loop-signal.signal < n) (all (goal.at.signature_number-requires-clause-in_range c).After-count-count) c.loop-signal-test.true
+
+pub stand_ins_at-requires : goal.stand_ins_at-requires
+stand_ins_at-requires c =
+    omega (arith, c.deref.ensures.len, c.in_ok-keys.ensures.len, all (goal.at.stand_ins_at-requires c).After-count-count)
+
+pub overflow_cast-signal-in-loop-signal : goal.overflow_cast-signal-in-loop-signal
+overflow_cast-signal-in-loop-signal c = omega (arith, c.loop-signal-test.true, c.count-count.type_inv)
+
+pub signature_number-requires-clause-few : goal.signature_number-requires-clause-few
+signature_number-requires-clause-few c = omega (arith, c.loop-signal.invariant.done.few, c.loop-signal-test.true, c.count-count.type_inv)
+
+pub overflow_cast-signal : goal.overflow_cast-signal
+overflow_cast-signal c = omega (arith, c.loop-signal-test.true, c.count-count.type_inv)

@@ -45,3 +45,6 @@ pub returns-clause-grown : goal.returns-clause-grown
 returns-clause-grown g c = on_ok_weaker c.number_of.result
     (λ grown. parts_insert g.P.PartialEq.eq c.args.lists.now.keys c.number_of.new.keys.keys c.in_ok-key.key c.args.list.now c.in_ok-key.ensures.items grown)
     c.number_of.ensures.grown
+
+pub returns-clause-unique : goal.returns-clause-unique
+returns-clause-unique g c = on_ok_weaker c.number_of.result (λ grown. c.number_of.ensures.unique) c.number_of.ensures.grown

@@ -65,3 +65,9 @@ loop-done-init c =
       long = ap (λ (vs : List (Vec ℕ Global)). length vs) made;
       each = first_row (rules_of c.args.signals.now) c.in_ok-numbers.numbers.items c.in_ok-last.last made c.in_ok-last.ensures;
     }
+
+pub child_numbers-requires-clause-before_last : goal.child_numbers-requires-clause-before_last
+child_numbers-requires-clause-before_last c = omega (arith, c.loop-done-test.true, c.loop-done.auto.done, c.rounds-rounds.ensures.value)
+
+pub child_numbers-requires-clause-some : goal.child_numbers-requires-clause-some
+child_numbers-requires-clause-some c = omega (arith, c.loop-done-test.true)
