@@ -1,3 +1,4 @@
+use Rattle.std.proofs.lemmas.Result.{IfOk-from_err}
 use Rattle.std.proofs.Common.{◌+◌, ◌∷◌, ◌++◌, ◌∙◌, [], ℕ, List, ap, subst, sym}
 use Rattle.gs_iso.specs.{KeyNumbers.{HasClassOf}, Numbers.{class_key}}
 use Rattle.gs_iso.proofs.{FirstSeen.{AreSeen, seen_again, seen_more, seen_none}, Exact.{child_eq, child_exact}}
@@ -25,3 +26,21 @@ loop-at-preserved c =
           (seen_more child_eq child_exact key _ _ _ _ _ _ _ c.loop-at.invariant (sym c.key-key.ensures) n.stored n.grown n.few n.unique n.some
           (c.in_ok-push.ensures.items ∙ ap (λ k. c.loop-at.classes.items ++ k ∷ []) w.class-is))
     ]
+
+pub returns-in_err-classes : goal.returns-in_err-classes
+returns-in_err-classes c = let failed = c.from_residual.ensures.0 in record {
+  long = IfOk-from_err _ _ failed;
+  classes = IfOk-from_err _ _ failed;
+}
+
+pub returns-in_err-class-in-None : goal.returns-in_err-class-in-None
+returns-in_err-class-in-None c = let failed = c.from_residual-in_err-class-in-None.ensures.0 in record {
+  long = IfOk-from_err _ _ failed;
+  classes = IfOk-from_err _ _ failed;
+}
+
+pub returns-in_err-push : goal.returns-in_err-push
+returns-in_err-push c = let failed = c.from_residual-in_err-push.ensures.0 in record {
+  long = IfOk-from_err _ _ failed;
+  classes = IfOk-from_err _ _ failed;
+}

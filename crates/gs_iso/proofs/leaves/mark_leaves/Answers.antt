@@ -1,3 +1,4 @@
+use Rattle.std.proofs.lemmas.Result.{IfOk-from_err}
 use Rattle.std.proofs.Common.{◌≡◌, ◌==◌, ◌++◌, ◌<◌, ◌^◌, ◌∷◌, [], ℕ, ℤ, List, zero, suc, ap, map, refl, sym, ◌∙◌, subst, append_assoc, arith}
 use Rattle.std.proofs.lemmas.{List.{append-nil}, List.Elements.{All-map, All-tail}}
 use Rattle.std.specs.Prelude.{All, filter, unsigned_abs}
@@ -74,3 +75,9 @@ returns-clause-marks c =
     let mark : Deal → ℕ = λ d. leaf_mark (leaf_of c.path_weight-path.result d) in
     let marks : List ℕ = c.loop-deal.marks.items in
     sym (append-nil marks) ∙ ap (λ (ds : List Deal). marks ++ map mark ds) (sym c.in-None.ensures.steps.0) ∙ c.loop-deal.invariant.done
+
+pub returns-in_err-push : goal.returns-in_err-push
+returns-in_err-push c = let failed = c.from_residual.ensures.0 in record {
+  marks = IfOk-from_err _ _ failed;
+  small = IfOk-from_err _ _ failed;
+}

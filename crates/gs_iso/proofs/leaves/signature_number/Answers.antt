@@ -1,4 +1,4 @@
-use Rattle.std.proofs.{Common.{ℕ, List, subst}, lemmas.Result.{on_ok_weaker}}
+use Rattle.std.proofs.{Common.{ℕ, List, subst}, lemmas.Result.{IfOk-from_err, on_ok_weaker}}
 use Rattle.std.specs.Prelude.{IfOk, nat_eq}
 use Rattle.gs_model.specs.Signatures.{IsSignature}
 use Rattle.gs_iso.specs.{KeyNumbers.{IsNumberOf}, Orders.{mark_lt}}
@@ -19,3 +19,12 @@ pub returns-clause-number : goal.returns-clause-number
 returns-clause-number c =
     subst (λ (l : List ℕ). IfOk c.number_of_list.result (IsNumberOf nat_eq c.number_of_list.new.lists.keys l)) c.deref.ensures.value
     c.number_of_list.ensures.number
+
+pub returns-in_err-mark_leaves : goal.returns-in_err-mark_leaves
+returns-in_err-mark_leaves c = let failed = c.from_residual.ensures.0 in record {
+  signs = IfOk-from_err _ _ failed;
+  kept = IfOk-from_err _ _ failed;
+  number = IfOk-from_err _ _ failed;
+  few = IfOk-from_err _ _ failed;
+  unique = IfOk-from_err _ _ failed;
+}

@@ -1,4 +1,4 @@
-use Rattle.std.proofs.{Common.{◌≡◌, ◌+◌, ◌-◌, ◌∙◌, Err, Ok, Result, Some, true, ap, arith, slice_get, subst, sym}, lemmas.Result.{on_ok_weaker}}
+use Rattle.std.proofs.{Common.{◌≡◌, ◌+◌, ◌-◌, ◌∙◌, Err, Ok, Result, Some, true, ap, arith, slice_get, subst, sym}, lemmas.Result.{IfOk-from_err, on_ok_weaker}}
 use Rattle.std.specs.Prelude.{IfOk}
 use lib.Pointwise.{pointwise}
 use Rattle.gs_iso.specs.KeyNumbers.{IsNumberOf, same_parts}
@@ -48,3 +48,12 @@ returns-clause-grown g c = on_ok_weaker c.number_of.result
 
 pub returns-clause-unique : goal.returns-clause-unique
 returns-clause-unique g c = on_ok_weaker c.number_of.result (λ grown. c.number_of.ensures.unique) c.number_of.ensures.grown
+
+pub returns-in_err-key : goal.returns-in_err-key
+returns-in_err-key g c = let failed = c.from_residual.ensures.0 in record {
+  grown = IfOk-from_err _ _ failed;
+  kept = IfOk-from_err _ _ failed;
+  number = IfOk-from_err _ _ failed;
+  few = IfOk-from_err _ _ failed;
+  unique = IfOk-from_err _ _ failed;
+}

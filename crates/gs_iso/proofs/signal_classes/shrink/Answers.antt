@@ -1,5 +1,5 @@
 use Rattle.std.proofs.Common.{◌≡◌, List, ℕ, subst, sym, arith}
-use Rattle.std.proofs.lemmas.Result.{IfOk-weaker}
+use Rattle.std.proofs.lemmas.Result.{IfOk-from_err, IfOk-weaker}
 use Rattle.std.specs.Prelude.{IfOk}
 use Rattle.gs_model.specs.{Classes.{IsClasses}, Rows.{rows}, SignalClasses.{IsSignalClasses}}
 use Rattle.gs_filter.specs.Filter.{AreParents, Filter}
@@ -28,3 +28,15 @@ returns-clause-classes c =
 pub returns-clause-parents : goal.returns-clause-parents
 returns-clause-parents c =
     subst (λ (ps : List (List ℕ)). IfOk c.of_filter.result (λ (v : Filter). v.parents ≡ ps)) c.parents.ensures c.of_filter.ensures.parents
+
+pub returns-in_err-numbers : goal.returns-in_err-numbers
+returns-in_err-numbers c = let failed = c.from_residual.ensures.0 in record {
+  classes = IfOk-from_err _ _ failed;
+  parents = IfOk-from_err _ _ failed;
+}
+
+pub returns-in_err-lists : goal.returns-in_err-lists
+returns-in_err-lists c = let failed = c.from_residual-in_err-lists.ensures.0 in record {
+  classes = IfOk-from_err _ _ failed;
+  parents = IfOk-from_err _ _ failed;
+}
