@@ -1,8 +1,9 @@
+use Rattle.std.proofs.lemmas.Result.{IfOk-from_err}
 use Rattle.std.proofs.Common.{◌≡◌, ◌<◌, ℕ, List, Vec, Global, ap, arith, get_or, length, refl, set, subst, sym}
 use Rattle.gs_lossless.specs.{declared.parts.Part.{Part}, Amounts.{AreAmounts}, declared.side_keys.SideKeys.{SideKeys}}
 use Rattle.gs_model.specs.{Classes.{list_of}, Frame.{frame_of, signal_count}, Signals.{signals}}
 use Rattle.gs_tree.specs.Trees.{rules_of}
-use Rattle.gs_lossless.proofs.{Merge.{part_decides}, Scanned.{side_classes, side_signals}}
+use Rattle.gs_lossless.proofs.{Merge.{part_decides}, Scanned.{side_classes, side_in, side_signals}}
 use Rattle.gs_filter.proofs.Linked.{member_first}
 use Rattle.gs_iso.proofs.Numbered.{number_leads}
 use Rattle.gs_split.proofs.{Agreed.{part_eq}, MemberNumbers.{AreNumbering, number_stood, numbered_all, numbered_first, numbering_more}}
@@ -82,3 +83,32 @@ returns-clause-others c = grind arith
 
 pub bounds-firsts-signal : goal.bounds-firsts-signal
 bounds-firsts-signal c = grind arith
+
+pub returns-clause-long : goal.returns-clause-long
+returns-clause-long c = c.loop-next.invariant.long
+
+pub first-next-requires-clause-top : goal.first-next-requires-clause-top
+first-next-requires-clause-top c =
+    let at = c.args.at.now in
+    let h = side_in (frame_of (rules_of at.signals.now)) at.side at.round at.has in
+    omega (arith, h.1, ap (λ (ps : List (List ℕ)). length ps) at.parents, at.classes.now.classes.rounds)
+
+pub first-next-requires-clause-some : goal.first-next-requires-clause-some
+first-next-requires-clause-some c = (side_in (frame_of (rules_of c.args.at.now.signals.now)) c.args.at.now.side c.args.at.now.round c.args.at.now.has).0
+
+pub number_of_list-requires-clause-unique : goal.number_of_list-requires-clause-unique
+number_of_list-requires-clause-unique c = c.loop-next.invariant.numbered.distinct
+
+pub returns-in_err-number : goal.returns-in_err-number
+returns-in_err-number c = let failed = c.from_residual-in_err-number.ensures.0 in record {
+  long = IfOk-from_err _ _ failed;
+  others = IfOk-from_err _ _ failed;
+  members = IfOk-from_err _ _ failed;
+}
+
+pub returns-in_err-sums : goal.returns-in_err-sums
+returns-in_err-sums c = let failed = c.from_residual.ensures.0 in record {
+  long = IfOk-from_err _ _ failed;
+  others = IfOk-from_err _ _ failed;
+  members = IfOk-from_err _ _ failed;
+}

@@ -79,3 +79,6 @@ returns c =
     all_turned (frame_of g) c.args.grouped.now.classes.now.lists (rows c.args.numbers.now) (rows c.loop-done.lists.items)
     (omega (arith, c.loop-done.invariant.long, c.loop-done-test.false, c.loop-done.auto.done-end, c.rounds-done-end.ensures.value, last_round_of g))
     c.loop-done.invariant.each
+
+pub overflow_add-done : goal.overflow_add-done
+overflow_add-done c = omega (arith, c.loop-done-test.true, c.rounds-done-end.type_inv)

@@ -65,3 +65,6 @@ returns c =
     let first : c.loop-round.round ≡ 1 = omega (arith, i.some, c.loop-round-test.false) in
     subst (λ r. AreFairFrom (frame_of (rules_of c.args.grouped.now.signals.now)) c.args.grouped.now.classes.now.lists r (rows c.loop-round.numbers.items)) first
     i.fair
+
+pub fair_numbers-requires-clause-some : goal.fair_numbers-requires-clause-some
+fair_numbers-requires-clause-some c = omega (arith, c.loop-round-test.true)

@@ -28,3 +28,6 @@ returns-clause-proposal c =
     let g = rules_of c.args.from.now.signals.now in
     parted_proposal (frame_of g) c.args.from.now.classes.now.lists (rows c.deref.result.now) (fair (goal.at.returns-clause-proposal c).After-deref)
     (in_range g (playable c.args.from.now.signals.now)) c.in_ok-classes.classes.lists c.in_ok-classes.ensures.parted
+
+pub returns-clause-parents : goal.returns-clause-parents
+returns-clause-parents c = c.in_ok-classes.ensures.parents

@@ -1,4 +1,5 @@
-use Rattle.std.proofs.Common.{◌+◌, ◌∷◌, ◌++◌, ◌∙◌, [], ℕ, List, ap, arith, subst, sym}
+use Rattle.std.proofs.lemmas.Result.{IfOk-from_err}
+use Rattle.std.proofs.Common.{◌+◌, ◌∷◌, ◌++◌, ◌∙◌, [], ℕ, List, ap, arith, length, subst, sym}
 use Rattle.gs_iso.specs.KeyNumbers.{HasClassOf}
 use Rattle.gs_iso.proofs.FirstSeen.{AreSeen, seen_again, seen_more, seen_none}
 use Rattle.gs_split.specs.Turns.{turn_key}
@@ -32,3 +33,31 @@ returns-clause-long c =
 
 pub returns-clause-classes : goal.returns-clause-classes
 returns-clause-classes c = c.loop-at.invariant.seen.grouped
+
+pub class_again-requires : goal.class_again-requires
+class_again-requires c =
+    omega (arith, ap (λ (l : List ℕ). length l) c.deref.ensures.value, c.loop-at.invariant.long, c.loop-at-test.true)
+
+pub returns-in_err-last : goal.returns-in_err-last
+returns-in_err-last c = let failed = c.from_residual.ensures.0 in record {
+  long = IfOk-from_err _ _ failed;
+  classes = IfOk-from_err _ _ failed;
+}
+
+pub returns-in_err-classes : goal.returns-in_err-classes
+returns-in_err-classes c = let failed = c.from_residual-in_err-classes.ensures.0 in record {
+  long = IfOk-from_err _ _ failed;
+  classes = IfOk-from_err _ _ failed;
+}
+
+pub returns-in_err-class-in-None : goal.returns-in_err-class-in-None
+returns-in_err-class-in-None c = let failed = c.from_residual-in_err-class-in-None.ensures.0 in record {
+  long = IfOk-from_err _ _ failed;
+  classes = IfOk-from_err _ _ failed;
+}
+
+pub returns-in_err-push : goal.returns-in_err-push
+returns-in_err-push c = let failed = c.from_residual-in_err-push.ensures.0 in record {
+  long = IfOk-from_err _ _ failed;
+  classes = IfOk-from_err _ _ failed;
+}

@@ -1,4 +1,5 @@
-use Rattle.std.proofs.Common.{◌-◌, ◌<◌, ◌^◌, ◌∙◌, ℕ, Bool, List, arith, rules, subst, sym}
+use Rattle.std.proofs.lemmas.Result.{IfOk-from_err}
+use Rattle.std.proofs.Common.{◌-◌, ◌<◌, ◌^◌, ◌∙◌, ℕ, Bool, List, arith, refl, rules, subst, sym}
 use Rattle.gs_model.specs.{Classes.{IsClasses}, Frame.{frame_of}}
 use Rattle.gs_model.proofs.{Ranges.{in_range}, Walked.{last_round_of}}
 use Rattle.gs_tree.specs.Trees.{rules_of}
@@ -84,3 +85,24 @@ turn-requires-in-loop-total-clause-parents c = c.loop-total.invariant.parents
 
 pub returns-clause-parents : goal.returns-clause-parents
 returns-clause-parents c = c.loop-total.invariant.parents
+
+pub same-finer : goal.same-finer
+same-finer c = refl
+
+pub returns-in_err-classes : goal.returns-in_err-classes
+returns-in_err-classes c = let failed = c.from_residual-in_err-classes.ensures.0 in record {
+  coarsest = IfOk-from_err _ _ failed;
+  parents = IfOk-from_err _ _ failed;
+}
+
+pub returns-in_err-finer : goal.returns-in_err-finer
+returns-in_err-finer c = let failed = c.from_residual-in_err-finer.ensures.0 in record {
+  coarsest = IfOk-from_err _ _ failed;
+  parents = IfOk-from_err _ _ failed;
+}
+
+pub returns-in_err-known-2 : goal.returns-in_err-known-2
+returns-in_err-known-2 c = let failed = c.from_residual-in_err-known-2.ensures.0 in record {
+  coarsest = IfOk-from_err _ _ failed;
+  parents = IfOk-from_err _ _ failed;
+}
