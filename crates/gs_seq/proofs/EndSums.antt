@@ -156,10 +156,6 @@ pays_size player most z p few moderate = by z.kind refl
 abbrev pub pair_term : Frame → ClassLists → ℕ → Plan → ℕ → Pair → ℤ
 pair_term f lists player y z p = pos (class_number f lists (other_player player) y z p.two) *ℤ pair_pays player (end_at f z) p
 
--- the same with the numbers in a list
-abbrev pub number_term : Frame → ℕ → List ℕ → ℕ → Pair → ℤ
-number_term f player numbers z p = pos (get_or numbers (p.two - 1) 0) *ℤ pair_pays player (end_at f z) p
-
 -- ---- partial sums are small
 
 pub scaled_few : (n t p w : ℕ) → n ≤ t → p ≤ 36864 * w → n * p ≤ (36864 * t) * w

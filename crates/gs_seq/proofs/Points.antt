@@ -40,6 +40,11 @@ walked g player some few = ⊎_elim
 pub length-points : (g : ValidGame) (ps : List StoredPoint) → map point_of ps ≡ map own_point (frame_in g).points → length ps ≡ point_count (frame_in g)
 length-points g ps e = sym (length-map ps point_of) ∙ ap (λ (l : List OwnPoint). length l) e ∙ length-map (frame_in g).points own_point
 
+-- a point of the game has its place in the list
+pub place_in : (g : ValidGame) (ps : List StoredPoint) (q : ℕ) → map point_of ps ≡ map own_point (frame_in g).points → q < point_count (frame_in g)
+    → q < length ps
+place_in g ps q e l = subst (λ n. q < n) (sym (length-points g ps e)) l
+
 pub point_reads : (g : ValidGame) (ps : List StoredPoint) (q : ℕ) (p : StoredPoint) → map point_of ps ≡ map own_point (frame_in g).points
     → q < point_count (frame_in g) → p ≡ get_or ps q p → Reads (frame_in g) q p
 point_reads g ps q p e l is =

@@ -90,3 +90,9 @@ first-first-requires-clause-top c =
       last_round_of (rules_of c.args.at.now.signals.now),
       (over (frame_in c.args.at.now.signals.now.game.now) c.args.at.now.classes.now c.args.at.now.parents).rounds,
     )
+
+pub size-requires-clause-some : goal.size-requires-clause-some
+size-requires-clause-some c = grind arith
+
+pub size-requires-clause-class : goal.size-requires-clause-class
+size-requires-clause-class c = grind arith

@@ -8,3 +8,6 @@ rows_in-requires-clause-top c = omega (arith, c.requires.before_last, last_round
 
 pub rows_in-requires-clause-lossless : goal.rows_in-requires-clause-lossless
 rows_in-requires-clause-lossless c = grind arith
+
+pub rows_from-requires-clause-lossless : goal.rows_from-requires-clause-lossless
+rows_from-requires-clause-lossless c = grind arith

@@ -33,3 +33,15 @@ returns-clause-long c =
 pub rows_at-requires-clause-parents : goal.rows_at-requires-clause-parents
 rows_at-requires-clause-parents c = ap (λ (k : Filter). k.parents) c.classes.ensures.held ∙ c.args.lossless.now.parents
     ∙ ap (λ (x : Signals). (frame_in x.game.now).parents) (sym c.signals-signals.ensures.held)
+
+pub returns-clause-rows : goal.returns-clause-rows
+returns-clause-rows c = omega arith
+
+pub rows_at-requires-clause-before_last : goal.rows_at-requires-clause-before_last
+rows_at-requires-clause-before_last c = omega arith
+
+pub loop-before-init : goal.loop-before-init
+loop-before-init c = grind arith
+
+pub overflow_add-before : goal.overflow_add-before
+overflow_add-before c = grind arith

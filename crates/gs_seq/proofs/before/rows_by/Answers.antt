@@ -8,3 +8,12 @@ of-requires-clause-side c = in_stopped c.args.at.now.signals.now.game.now c.args
 
 pub stopped_rows-requires-clause-signals : goal.stopped_rows-requires-clause-signals
 stopped_rows-requires-clause-signals c = c.in_ok-deals.ensures.signals
+
+pub stopped_rows-requires-clause-side : goal.stopped_rows-requires-clause-side
+stopped_rows-requires-clause-side c = grind arith
+
+pub stopped_rows-requires-clause-classes : goal.stopped_rows-requires-clause-classes
+stopped_rows-requires-clause-classes c = grind arith
+
+pub returns : goal.returns
+returns c = grind arith

@@ -1,4 +1,4 @@
-use Rattle.std.proofs.Common.{Option, sym, subst}
+use Rattle.std.proofs.Common.{Option, sym, subst, arith}
 use Rattle.std.specs.Prelude.{IfSome}
 use Rattle.gs_game.specs.{Games.{game_of}, GoingOn.{StopsAfter}, declared.valid.ValidGame.{ValidGame}}
 use Rattle.gs_tree.specs.Trees.{rules_of}
@@ -31,3 +31,15 @@ rows_over-requires-clause-lossless c = c.requires.lossless
 
 pub returns : goal.returns
 returns c = c.rows_over.ensures
+
+pub rows_over-requires-clause-before_last : goal.rows_over-requires-clause-before_last
+rows_over-requires-clause-before_last c = omega arith
+
+pub rows_over-requires-clause-parents : goal.rows_over-requires-clause-parents
+rows_over-requires-clause-parents c = grind arith
+
+pub rows_over-requires-clause-some : goal.rows_over-requires-clause-some
+rows_over-requires-clause-some c = omega arith
+
+pub stopped-requires : goal.stopped-requires
+stopped-requires c = grind arith

@@ -35,3 +35,21 @@ returns c =
     (sym rows.ok.0 ∙ c.loop-before.invariant.long)
     (omega (arith, c.loop-before-test.false, c.loop-before.auto, c.classes-count.ensures))
     c.loop-before.invariant.row
+
+pub row_by-requires-clause-ways : goal.row_by-requires-clause-ways
+row_by-requires-clause-ways c = grind arith
+
+pub loop-before-init : goal.loop-before-init
+loop-before-init c = grind arith
+
+pub row_by-requires-clause-classes : goal.row_by-requires-clause-classes
+row_by-requires-clause-classes c = grind arith
+
+pub row_by-requires-clause-class : goal.row_by-requires-clause-class
+row_by-requires-clause-class c = grind arith
+
+pub overflow_add-before : goal.overflow_add-before
+overflow_add-before c = grind arith
+
+pub row_by-requires-clause-side : goal.row_by-requires-clause-side
+row_by-requires-clause-side c = grind arith

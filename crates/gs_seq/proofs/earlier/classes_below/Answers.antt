@@ -18,3 +18,12 @@ loop-before-preserved c =
 
 pub index_mut-requires : goal.index_mut-requires
 index_mut-requires c = grind arith
+
+pub returns : goal.returns
+returns c = grind arith
+
+pub overflow_add-before-in-loop-before : goal.overflow_add-before-in-loop-before
+overflow_add-before-in-loop-before c = grind arith
+
+pub parent_class-above-requires-clause-some : goal.parent_class-above-requires-clause-some
+parent_class-above-requires-clause-some c = omega arith

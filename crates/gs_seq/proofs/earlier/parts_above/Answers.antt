@@ -27,3 +27,9 @@ push_above-requires-clause-classes c =
     get_or-map (λ (v : Vec Pair Global). v.items) c.args.rows.now (k - 1) c.index-rows-class.result [] (omega (arith, pairs.some, pairs.top))
     ∙ ap (λ (v : Vec Pair Global). v.items) (sym c.index-rows-class.is) ∙ sym c.deref.ensures.value in
     subst (All (λ (p : Pair). IsClass c.args.classes.now.lists (c.args.round + 1) p.two)) here pairs.classes
+
+pub push_above-requires-clause-before_last : goal.push_above-requires-clause-before_last
+push_above-requires-clause-before_last c = grind arith
+
+pub push_above-requires-clause-some : goal.push_above-requires-clause-some
+push_above-requires-clause-some c = grind arith

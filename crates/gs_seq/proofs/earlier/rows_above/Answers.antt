@@ -49,3 +49,21 @@ returns c =
     (sym rows.ok.0 ∙ c.loop-before.invariant.long)
     (omega (arith, c.loop-before-test.false, c.loop-before.auto, c.classes-count.ensures, ap (λ (x : Filter). class_count x.lists c.args.round) c.classes-classes.ensures.held))
     c.loop-before.invariant.row
+
+pub row_above-requires-clause-before_last : goal.row_above-requires-clause-before_last
+row_above-requires-clause-before_last c = omega arith
+
+pub index-requires : goal.index-requires
+index-requires c = grind arith
+
+pub loop-before-init : goal.loop-before-init
+loop-before-init c = grind arith
+
+pub overflow_cast-before : goal.overflow_cast-before
+overflow_cast-before c = grind arith
+
+pub overflow_add-before : goal.overflow_add-before
+overflow_add-before c = grind arith
+
+pub classes-count-requires-clause-some : goal.classes-count-requires-clause-some
+classes-count-requires-clause-some c = omega arith

@@ -5,7 +5,7 @@ use Rattle.gs_game.specs.Games.{game_of}
 use Rattle.gs_model.specs.Frame.{player_at, point_count}
 use Rattle.gs_model.proofs.Ranges.{in_range}
 use Rattle.gs_seq.specs.{Firsts.{AgreeBefore, AreFirstBefore, IsClear}, Games.{frame_in}, Slots.{slots_before}}
-use Rattle.gs_seq.proofs.{Firsts.{firsts_more, firsts_same}, Leaks.{slots_none}, Choices.{some_move}, Points.{chooser, playable, walked_at}, SlotLaws.{over}}
+use Rattle.gs_seq.proofs.{Firsts.{firsts_more, firsts_same}, Leaks.{slots_none}, Choices.{some_move}, Points.{chooser, place_in, playable, walked_at}, SlotLaws.{over}}
 use Rattle.gs_seq.proofs.first.first_weights.Goals.{After-index-points-point, then-points-point, else-points-point}
 use Rattle.gs_seq.proofs.first.first_weights.Goals as goal
 
@@ -74,10 +74,14 @@ pub loop-point-init : goal.loop-point-init
 loop-point-init c = grind (arith, common_steps)
 
 pub bounds-points-point-in-loop-point : goal.bounds-points-point-in-loop-point
-bounds-points-point-in-loop-point c = grind (arith, common_steps)
+bounds-points-point-in-loop-point c =
+    let within = subst (λ n. c.loop-point.point < n) c.point_total-point-end.ensures c.loop-point-test.true in
+    place_in c.args.game.now c.points.result.now c.loop-point.point c.points.ensures within
 
 pub bounds-points-point : goal.bounds-points-point
-bounds-points-point c = grind (arith, common_steps)
+bounds-points-point c =
+    let within = subst (λ n. c.loop-point.point < n) c.point_total-point-end.ensures c.loop-point-test.true in
+    place_in c.args.game.now c.points.result.now c.loop-point.point c.points.ensures within
 
 pub put_first-requires-clause-clear : goal.put_first-requires-clause-clear
 put_first-requires-clause-clear c =
@@ -90,3 +94,12 @@ put_first-requires-clause-offsets c = c.requires.offsets
 pub put_first-requires-clause-in_range : goal.put_first-requires-clause-in_range
 put_first-requires-clause-in_range c =
     subst (λ n. c.loop-point.point < n) c.point_total-point-end.ensures c.loop-point-test.true
+
+pub put_first-requires-clause-long : goal.put_first-requires-clause-long
+put_first-requires-clause-long c = omega arith
+
+pub returns-clause-long : goal.returns-clause-long
+returns-clause-long c = omega arith
+
+pub put_first-requires-clause-parents : goal.put_first-requires-clause-parents
+put_first-requires-clause-parents c = grind arith

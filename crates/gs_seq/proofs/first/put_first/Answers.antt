@@ -1,4 +1,4 @@
-use Rattle.gs_seq.proofs.{Points.{length-points}, Choices.{some_move}, Firsts.{first_came, first_kept, first_put, first_room, slots_own}, Leaks.{RowAt, row_at}}
+use Rattle.gs_seq.proofs.{Points.{place_in}, Choices.{some_move}, Firsts.{first_came, first_kept, first_put, first_room, slots_own}, Leaks.{RowAt, row_at}}
 use Rattle.std.proofs.Common.{◌≡◌, ◌+◌, ◌-◌, ◌*◌, ◌<◌, ◌≤◌, ◌^◌, ℕ, length, get_or, set, ap, sym, ◌∙◌, subst, arith, ⊎_elim, get_or-set_other}
 use Rattle.std.proofs.{Math.Nat.{mul-le-mul_right}, lemmas.Bool.{cases_eq}}
 use Rattle.gs_game.specs.Games.{game_of}
@@ -169,7 +169,7 @@ returns-clause-clear c =
     λ k l. c.loop-before.invariant.clear k (omega (arith, l, slots_own f lists c.args.player q c.requires.own, ap (λ n. n * move_count f q) all))
 
 pub bounds-points-point : goal.bounds-points-point
-bounds-points-point c = omega (arith, c.requires.in_range, length-points c.args.game.now c.points.result.now c.points.ensures)
+bounds-points-point c = place_in c.args.game.now c.points.result.now c.args.point c.points.ensures c.requires.in_range
 
 pub loop-before-init : goal.loop-before-init
 loop-before-init c = grind arith

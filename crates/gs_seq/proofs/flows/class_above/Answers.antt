@@ -21,3 +21,6 @@ loop-at-preserved c =
           c.parent_class-above.result
           (omega arith) i.until i.above_is c.parent_class-above.ensures.value;
     }
+
+pub returns-clause-above : goal.returns-clause-above
+returns-clause-above c = grind arith

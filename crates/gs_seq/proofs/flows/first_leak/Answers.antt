@@ -65,3 +65,12 @@ bounds-points-point c = grind (arith, common_steps)
 
 pub returns : goal.returns
 returns c = grind arith
+
+pub slots_at-first-requires-clause-in_range : goal.slots_at-first-requires-clause-in_range
+slots_at-first-requires-clause-in_range c = omega arith
+
+pub first_leak_at-requires-clause-long : goal.first_leak_at-requires-clause-long
+first_leak_at-requires-clause-long c = omega arith
+
+pub first_leak_at-requires-clause-in_range : goal.first_leak_at-requires-clause-in_range
+first_leak_at-requires-clause-in_range c = omega arith

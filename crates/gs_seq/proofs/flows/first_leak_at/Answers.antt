@@ -124,3 +124,9 @@ bounds-points-point c = grind (arith, common_steps)
 
 pub overflow_add-result : goal.overflow_add-result
 overflow_add-result c = grind arith
+
+pub coming-came-requires-clause-in_range : goal.coming-came-requires-clause-in_range
+coming-came-requires-clause-in_range c = omega arith
+
+pub coming-came-requires-clause-parents : goal.coming-came-requires-clause-parents
+coming-came-requires-clause-parents c = grind arith

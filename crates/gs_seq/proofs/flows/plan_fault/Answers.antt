@@ -6,3 +6,9 @@ returns-in_err-point c = grind arith
 
 pub returns-then-total-eq0 : goal.returns-then-total-eq0
 returns-then-total-eq0 c = grind arith
+
+pub returns : goal.returns
+returns c = grind arith
+
+pub first_leak-requires-clause-long : goal.first_leak-requires-clause-long
+first_leak-requires-clause-long c = omega arith

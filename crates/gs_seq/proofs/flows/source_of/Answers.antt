@@ -1,8 +1,8 @@
-use Rattle.std.proofs.{Common.{◌<◌, length, ap, sym, refl, ◌∙◌, subst, arith}, lemmas.Grind.{common_steps}}
+use Rattle.std.proofs.Common.{◌<◌, length, ap, sym, refl, ◌∙◌, subst, arith}
 use Rattle.gs_game.specs.{Seen.{step_of}, declared.positions.Point.{Point}}
 use Rattle.gs_model.specs.Positions.{at_point}
 use Rattle.gs_seq.specs.{Games.{frame_in}, Sources.{MatchSource}}
-use Rattle.gs_seq.proofs.{Coming.{made, none_made}, Points.{length-points, point_reads, walked_at}}
+use Rattle.gs_seq.proofs.{Coming.{made, none_made}, Points.{length-points, place_in, point_reads, walked_at}}
 use Rattle.gs_seq.proofs.flows.source_of.Goals as goal
 
 pub returns-in_err-step : goal.returns-in_err-step
@@ -65,7 +65,13 @@ returns c =
     )
 
 pub bounds-points-point-2 : goal.bounds-points-point-2
-bounds-points-point-2 c = grind (arith, common_steps)
+bounds-points-point-2 c = place_in c.args.game.now c.points.result.now c.args.point c.points.ensures c.requires.in_range
 
 pub bounds-points-point : goal.bounds-points-point
-bounds-points-point c = grind (arith, common_steps)
+bounds-points-point c = place_in c.args.game.now c.points.result.now c.args.point c.points.ensures c.requires.in_range
+
+pub slots_between-requires-clause-in_range : goal.slots_between-requires-clause-in_range
+slots_between-requires-clause-in_range c = omega arith
+
+pub slots_between-requires-clause-parents : goal.slots_between-requires-clause-parents
+slots_between-requires-clause-parents c = grind arith

@@ -41,3 +41,6 @@ are_made-requires c =
 
 pub returns-else-are_made-clause-single : goal.returns-else-are_made-clause-single
 returns-else-are_made-clause-single c = grind arith
+
+pub returns-else-are_made-clause-sums : goal.returns-else-are_made-clause-sums
+returns-else-are_made-clause-sums c = grind arith

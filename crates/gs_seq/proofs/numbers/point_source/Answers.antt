@@ -58,3 +58,6 @@ bounds-points-point c = omega (arith, c.requires.point, length-points c.args.gam
 
 pub bounds-points-point-2 : goal.bounds-points-point-2
 bounds-points-point-2 c = omega (arith, c.requires.point, length-points c.args.game.now c.points.result.now c.points.ensures)
+
+pub source_from-requires-clause-long : goal.source_from-requires-clause-long
+source_from-requires-clause-long c = grind arith

@@ -40,3 +40,6 @@ returns c =
         choice = refl;
       },
     )
+
+pub slots_between-requires-clause-parents : goal.slots_between-requires-clause-parents
+slots_between-requires-clause-parents c = grind arith

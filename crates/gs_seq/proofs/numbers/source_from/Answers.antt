@@ -14,3 +14,6 @@ returns-clause-moves c =
     let r = point_reads c.args.game.now c.points.result.now c.args.step.point c.index-points-step.result c.points.ensures c.requires.point
     c.index-points-step.is in
     omega (arith, c.len.ensures, r.moves)
+
+pub returns-clause-first : goal.returns-clause-first
+returns-clause-first c = grind arith

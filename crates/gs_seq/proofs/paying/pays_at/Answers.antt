@@ -1,4 +1,4 @@
-use Rattle.std.proofs.Common.{◌≡◌, ◌∙◌, pos, ℕ, ℤ, sym, ap, arith}
+use Rattle.std.proofs.Common.{◌≡◌, ◌∙◌, pos, ℕ, ℤ, sym, ap, arith, rules}
 use Rattle.std.specs.Prelude.{◌*ℤ◌}
 use Rattle.gs_model.specs.Deals.{Deal}
 use Rattle.gs_model.proofs.Best.{nat_scale}
@@ -15,3 +15,6 @@ overflow_sub-result c = grind arith
 
 pub returns-else-player-folder : goal.returns-else-player-folder
 returns-else-player-folder c = grind arith
+
+pub returns-then-player-folder : goal.returns-then-player-folder
+returns-then-player-folder c = search rules

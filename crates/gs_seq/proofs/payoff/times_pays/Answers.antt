@@ -1,4 +1,4 @@
-use Rattle.std.proofs.{Common.{rules, ◌≡◌, ◌*◌, ◌≤◌, ap, ◌∙◌, arith, of_z, to_z}, Math.Nat.{mul-le-mul_right}}
+use Rattle.std.proofs.{Common.{◌≡◌, ◌*◌, ◌≤◌, ap, ◌∙◌, arith, of_z, to_z}, Math.Nat.{mul-le-mul_right}}
 use Rattle.std.specs.{Int.{w128}, Prelude.{◌*ℤ◌, pos, unsigned_abs}}
 use Rattle.gs_game.specs.Seen.{end_of}
 use Rattle.gs_seq.specs.Payoffs.{pair_pays}
@@ -7,7 +7,7 @@ use Rattle.gs_seq.proofs.payoff.times_pays.Goals as goal
 
 -- what the end pays, as it was computed
 pays_is : (c : After-pays) → to_z w128 (of_z w128 c.pays.result) ≡ pair_pays c.args.player (end_of c.args.end) c.args.pair
-pays_is c = read_back c.pays.result _ (search rules) c.pays.ensures
+pays_is c = read_back c.pays.result _ (record { sfits = c.pays.type_inv }) c.pays.ensures
 
 pub scaled-requires : goal.scaled-requires
 scaled-requires c =
@@ -17,5 +17,5 @@ scaled-requires c =
     omega (arith, size, product, c.requires.few, ap (λ w. c.args.number * unsigned_abs w) (pays_is (goal.at.scaled-requires c).After-pays))
 
 pub returns : goal.returns
-returns c = read_back c.scaled.result _ (search rules)
+returns c = read_back c.scaled.result _ (record { sfits = c.scaled.type_inv })
     (c.scaled.ensures ∙ ap (λ w. pos c.args.number *ℤ w) (pays_is (goal.at.returns c).After-pays))

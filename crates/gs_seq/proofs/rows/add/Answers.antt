@@ -38,3 +38,6 @@ returns-clause-moderate c = grind arith
 
 pub joined-requires-clause-pair : goal.joined-requires-clause-pair
 joined-requires-clause-pair c = grind arith
+
+pub joined-requires-clause-few : goal.joined-requires-clause-few
+joined-requires-clause-few c = grind (arith, common_steps)

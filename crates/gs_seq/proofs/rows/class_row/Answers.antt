@@ -48,3 +48,12 @@ size-members-requires-clause-some c = grind arith
 
 pub size-members-requires-clause-top : goal.size-members-requires-clause-top
 size-members-requires-clause-top c = grind arith
+
+pub first-first-requires-clause-some : goal.first-first-requires-clause-some
+first-first-requires-clause-some c = grind arith
+
+pub first-first-requires-clause-top : goal.first-first-requires-clause-top
+first-first-requires-clause-top c = grind arith
+
+pub size-members-requires-clause-class : goal.size-members-requires-clause-class
+size-members-requires-clause-class c = grind arith

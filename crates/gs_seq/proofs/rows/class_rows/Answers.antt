@@ -28,3 +28,9 @@ returns c =
     (sym rows.ok.0 ∙ c.loop-before.invariant.long)
     (omega (arith, c.loop-before-test.false, c.loop-before.auto, c.classes-count.ensures))
     c.loop-before.invariant.row
+
+pub classes-count-requires-clause-some : goal.classes-count-requires-clause-some
+classes-count-requires-clause-some c = grind arith
+
+pub classes-count-requires-clause-top : goal.classes-count-requires-clause-top
+classes-count-requires-clause-top c = grind arith

@@ -9,3 +9,6 @@ returns c = grind (arith, common_steps)
 
 pub pairs_in-requires : goal.pairs_in-requires
 pairs_in-requires c = grind arith
+
+pub offset_bounds-rows-in_round-index : goal.offset_bounds-rows-in_round-index
+offset_bounds-rows-in_round-index c = grind arith

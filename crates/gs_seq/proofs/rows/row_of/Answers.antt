@@ -34,3 +34,6 @@ returns c = grind (arith, common_steps)
 
 pub add-requires-clause-moderate : goal.add-requires-clause-moderate
 add-requires-clause-moderate c = grind arith
+
+pub offset_bounds-sums-part-index : goal.offset_bounds-sums-part-index
+offset_bounds-sums-part-index c = omega arith

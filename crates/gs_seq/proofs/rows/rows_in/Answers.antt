@@ -1,4 +1,4 @@
-use Rattle.std.proofs.Common.{sym}
+use Rattle.std.proofs.Common.{sym, arith}
 use Rattle.std.specs.Prelude.{IfOk}
 use Rattle.gs_model.specs.Lossless.{IsLossless}
 use Rattle.gs_lossless.proofs.SideOf.{as_asked}
@@ -14,3 +14,6 @@ pub returns : goal.returns
 returns c =
     let at = c.in_ok-deals.ensures in
     as_asked (λ s k a m. IfOk c.class_rows.result (λ v. AreRowsIn (frame_in s.game.now) k.lists m v.items)) at.signals at.classes at.side c.class_rows.ensures
+
+pub class_rows-requires-clause-side : goal.class_rows-requires-clause-side
+class_rows-requires-clause-side c = grind arith

@@ -95,3 +95,12 @@ rows_above-requires-clause-some c = grind arith
 
 pub overflow_step-round : goal.overflow_step-round
 overflow_step-round c = grind arith
+
+pub loop-round-smaller : goal.loop-round-smaller
+loop-round-smaller c = grind arith
+
+pub returns-in_err-insert-clause-rows : goal.returns-in_err-insert-clause-rows
+returns-in_err-insert-clause-rows c = grind arith
+
+pub returns-in_err-insert-clause-all : goal.returns-in_err-insert-clause-all
+returns-in_err-insert-clause-all c = grind arith

@@ -13,3 +13,6 @@ returns c =
 
 pub whole_of-requires : goal.whole_of-requires
 whole_of-requires c = grind arith
+
+pub offset_bounds-rows-row-index : goal.offset_bounds-rows-row-index
+offset_bounds-rows-row-index c = omega arith

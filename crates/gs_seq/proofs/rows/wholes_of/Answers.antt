@@ -9,3 +9,9 @@ returns c = grind (arith, common_steps)
 
 pub wholes_in-requires : goal.wholes_in-requires
 wholes_in-requires c = grind arith
+
+pub offset_bounds-rows-in_round-index : goal.offset_bounds-rows-in_round-index
+offset_bounds-rows-in_round-index c = grind arith
+
+pub bounds-rows-in_round-index : goal.bounds-rows-in_round-index
+bounds-rows-in_round-index c = grind arith

@@ -19,3 +19,6 @@ returns-then-is_large c =
 
 pub returns-else-is_large : goal.returns-else-is_large
 returns-else-is_large c = grind arith
+
+pub is_single-requires-clause-some : goal.is_single-requires-clause-some
+is_single-requires-clause-some c = grind arith

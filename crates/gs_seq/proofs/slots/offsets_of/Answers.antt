@@ -1,9 +1,9 @@
 use Rattle.std.proofs.Common.{◌≡◌, ◌⊎◌, ◌+◌, ◌<◌, ◌++◌, ◌∷◌, [], ℕ, List, ap, get_or, length, subst, sym, ◌∙◌, ⊎_elim, arith, below_more}
-use Rattle.std.proofs.lemmas.{Grind.{common_steps}, List.{get_or_append_left, get_or_push}}
+use Rattle.std.proofs.lemmas.List.{get_or_append_left, get_or_push}
 use Rattle.gs_game.specs.declared.positions.Point.{Point}
 use Rattle.gs_model.specs.{Classes.{ClassLists}, Frame.{Frame, player_at, point_count}}
 use Rattle.gs_seq.specs.{Games.{frame_in}, Slots.{slots_before}}
-use Rattle.gs_seq.proofs.{Points.{players, point_reads}, SlotLaws.{slots_le, slots_more}, slots.offsets_of.Goals.{then-player-eq1, else-player-eq1}}
+use Rattle.gs_seq.proofs.{Points.{place_in, players, point_reads}, SlotLaws.{slots_le, slots_more}, slots.offsets_of.Goals.{then-player-eq1, else-player-eq1}}
 use Rattle.gs_seq.proofs.slots.offsets_of.Goals as goal
 
 pub overflow_cast-one : goal.overflow_cast-one
@@ -109,10 +109,14 @@ loop-point-preserved c =
     }
 
 pub bounds-points-point-in-loop-point : goal.bounds-points-point-in-loop-point
-bounds-points-point-in-loop-point c = grind (arith, common_steps)
+bounds-points-point-in-loop-point c =
+    let within = subst (λ n. c.loop-point.point < n) c.point_total-count.ensures c.loop-point-test.true in
+    place_in c.args.game.now c.points.result.now c.loop-point.point c.points.ensures within
 
 pub bounds-points-point : goal.bounds-points-point
-bounds-points-point c = grind (arith, common_steps)
+bounds-points-point c =
+    let within = subst (λ n. c.loop-point.point < n) c.point_total-count.ensures c.loop-point-test.true in
+    place_in c.args.game.now c.points.result.now c.loop-point.point c.points.ensures within
 
 pub slots_at-requires-clause-in_range : goal.slots_at-requires-clause-in_range
 slots_at-requires-clause-in_range c = subst (λ n. c.loop-point.point < n) c.point_total-count.ensures c.loop-point-test.true
@@ -128,3 +132,9 @@ slots_at-requires-clause-parents c = c.requires.parents
 
 pub slots_at-requires-in-loop-point-clause-parents : goal.slots_at-requires-in-loop-point-clause-parents
 slots_at-requires-in-loop-point-clause-parents c = c.requires.parents
+
+pub offset_bounds-points-point : goal.offset_bounds-points-point
+offset_bounds-points-point c = omega arith
+
+pub overflow_cast-player : goal.overflow_cast-player
+overflow_cast-player c = omega arith

@@ -1,4 +1,4 @@
-use Rattle.std.proofs.Common.{rules, ◌≡◌, ◌∙◌, ap, of_z, pos, sym, to_z, arith}
+use Rattle.std.proofs.Common.{◌≡◌, ◌∙◌, ap, of_z, pos, sym, to_z, arith}
 use Rattle.std.specs.{Int.{w128}, Prelude.{◌*ℤ◌}}
 use Rattle.gs_game.specs.Seen.{end_of}
 use Rattle.gs_model.specs.Sums.{sum_z}
@@ -12,9 +12,9 @@ returns-in-Folded1 c =
     let all : row_pays c.args.player (end_of c.args.end) c.args.numbers.now c.args.row.now
     ≡ stake c.args.player 1 c.args.end.put *ℤ sum_z (λ (p : Pair). pos (number_to c.args.numbers.now p) *ℤ pos p.weight) c.args.row.now =
     rw is (pays_folded (stake c.args.player 1 c.args.end.put) c.args.numbers.now c.args.row.now) in
-    read_back c.chips_times.result _ (search rules) (c.chips_times.ensures
-    ∙ ap (λ z. z *ℤ to_z w128 (of_z w128 c.weights_along.result)) (read_back c.stake_of.result _ (search rules) c.stake_of.ensures.value)
-    ∙ ap (λ z. stake c.args.player 1 c.args.end.put *ℤ z) (read_back c.weights_along.result _ (search rules) c.weights_along.ensures.value) ∙ sym all)
+    read_back c.chips_times.result _ (record { sfits = c.chips_times.type_inv }) (c.chips_times.ensures
+    ∙ ap (λ z. z *ℤ to_z w128 (of_z w128 c.weights_along.result)) (read_back c.stake_of.result _ (record { sfits = c.stake_of.type_inv }) c.stake_of.ensures.value)
+    ∙ ap (λ z. stake c.args.player 1 c.args.end.put *ℤ z) (read_back c.weights_along.result _ (record { sfits = c.weights_along.type_inv }) c.weights_along.ensures.value) ∙ sym all)
 
 pub returns-in-Folded2 : goal.returns-in-Folded2
 returns-in-Folded2 c =
@@ -22,11 +22,11 @@ returns-in-Folded2 c =
     let all : row_pays c.args.player (end_of c.args.end) c.args.numbers.now c.args.row.now
     ≡ stake c.args.player 2 c.args.end.put *ℤ sum_z (λ (p : Pair). pos (number_to c.args.numbers.now p) *ℤ pos p.weight) c.args.row.now =
     rw is (pays_folded (stake c.args.player 2 c.args.end.put) c.args.numbers.now c.args.row.now) in
-    read_back c.chips_times-in-Folded2.result _ (search rules) (c.chips_times-in-Folded2.ensures
+    read_back c.chips_times-in-Folded2.result _ (record { sfits = c.chips_times-in-Folded2.type_inv }) (c.chips_times-in-Folded2.ensures
     ∙ ap (λ z. z *ℤ to_z w128 (of_z w128 c.weights_along-in-Folded2.result))
-    (read_back c.stake_of-in-Folded2.result _ (search rules) c.stake_of-in-Folded2.ensures.value)
+    (read_back c.stake_of-in-Folded2.result _ (record { sfits = c.stake_of-in-Folded2.type_inv }) c.stake_of-in-Folded2.ensures.value)
     ∙ ap (λ z. stake c.args.player 2 c.args.end.put *ℤ z)
-    (read_back c.weights_along-in-Folded2.result _ (search rules) c.weights_along-in-Folded2.ensures.value) ∙ sym all)
+    (read_back c.weights_along-in-Folded2.result _ (record { sfits = c.weights_along-in-Folded2.type_inv }) c.weights_along-in-Folded2.ensures.value) ∙ sym all)
 
 pub returns-in-Show : goal.returns-in-Show
 returns-in-Show c =
@@ -34,9 +34,9 @@ returns-in-Show c =
     let all : row_pays c.args.player (end_of c.args.end) c.args.numbers.now c.args.row.now
     ≡ pos c.args.end.put *ℤ sum_z (λ (p : Pair). pos (number_to c.args.numbers.now p) *ℤ p.signed) c.args.row.now =
     rw is (pays_shown c.args.end.put c.args.numbers.now c.args.row.now) in
-    read_back c.chips_times-in-Show.result _ (search rules) (c.chips_times-in-Show.ensures
-    ∙ ap (λ z. z *ℤ to_z w128 (of_z w128 c.signed_along.result)) (read_back c.from.result _ (search rules) c.from.ensures)
-    ∙ ap (λ z. pos c.args.end.put *ℤ z) (read_back c.signed_along.result _ (search rules) c.signed_along.ensures.value) ∙ sym all)
+    read_back c.chips_times-in-Show.result _ (record { sfits = c.chips_times-in-Show.type_inv }) (c.chips_times-in-Show.ensures
+    ∙ ap (λ z. z *ℤ to_z w128 (of_z w128 c.signed_along.result)) (read_back c.from.result _ (record { sfits = c.from.type_inv }) c.from.ensures)
+    ∙ ap (λ z. pos c.args.end.put *ℤ z) (read_back c.signed_along.result _ (record { sfits = c.signed_along.type_inv }) c.signed_along.ensures.value) ∙ sym all)
 
 pub weights_along-requires-clause-slim : goal.weights_along-requires-clause-slim
 weights_along-requires-clause-slim c = grind arith

@@ -1,4 +1,4 @@
-use Rattle.std.proofs.{Common.{rules, ◌≡◌, ◌*◌, ◌<◌, ◌^◌, ◌∙◌, ap, arith, get_or, of_z, pos, subst, sym, to_z}, lemmas.List.{take_all}}
+use Rattle.std.proofs.{Common.{◌≡◌, ◌*◌, ◌<◌, ◌^◌, ◌∙◌, ap, arith, get_or, of_z, pos, subst, sym, to_z}, lemmas.List.{take_all}}
 use Rattle.std.specs.{Int.{w128}, Prelude.{◌*ℤ◌, unsigned_abs}}
 use Rattle.gs_model.specs.Sums.{sum_z}
 use Rattle.gs_seq.specs.declared.pair.Pair.{Pair}
@@ -14,7 +14,7 @@ part : (c : After-times) → to_z w128 (of_z w128 c.times.result) ≡ (let p = g
     pos (number_to c.args.numbers.now p) *ℤ pos p.weight)
 part c =
     let p = get_or c.args.row.now c.loop-pair.pair-index no_pair in
-    read_back c.times.result _ (search rules) (c.times.ensures ∙ ap (λ z. pos c.number_of-number.result *ℤ z)
+    read_back c.times.result _ (record { sfits = c.times.type_inv }) (c.times.ensures ∙ ap (λ z. pos c.number_of-number.result *ℤ z)
     (weight_kept c.args.row.now c.requires.slim c.loop-pair.pair-index no_pair c.loop-pair-test.true _ c.from.ensures)
     ∙ ap (λ n. pos n *ℤ pos p.weight) c.number_of-number.ensures)
 
@@ -42,7 +42,7 @@ plus-sum-requires c =
     c.loop-pair.pair-index no_pair c.loop-pair-test.true _ _ c.loop-pair.invariant (part (goal.at.plus-sum-requires c).After-times)
 
 pub loop-pair-preserved : goal.loop-pair-preserved
-loop-pair-preserved c = read_back c.plus-sum.result _ (search rules) (c.plus-sum.ensures
+loop-pair-preserved c = read_back c.plus-sum.result _ (record { sfits = c.plus-sum.type_inv }) (c.plus-sum.ensures
     ∙ along_more c.args.row.now c.args.numbers.now (λ p. pos p.weight) c.requires.slim c.requires.numbers (weights_moderate c.args.row.now)
     c.loop-pair.pair-index no_pair c.loop-pair-test.true _ _ c.loop-pair.invariant (part (goal.at.loop-pair-preserved c).After-times))
 

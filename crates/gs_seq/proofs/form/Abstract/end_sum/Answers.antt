@@ -25,3 +25,12 @@ returns c =
     ∙ c.row_worth.ensures
     ∙ ap (λ (p : Plan). end_sum f lists c.args.player (class_plan f lists p) c.plan_at-at.result.end c.args.class) at.plan
     ∙ ap (λ z. end_sum f lists c.args.player (class_plan f lists c.args.other.now) z c.args.class) at.end
+
+pub row_worth-requires-clause-end : goal.row_worth-requires-clause-end
+row_worth-requires-clause-end c = omega arith
+
+pub pairs-row-requires-clause-top : goal.pairs-row-requires-clause-top
+pairs-row-requires-clause-top c = omega arith
+
+pub row_worth-requires-clause-some : goal.row_worth-requires-clause-some
+row_worth-requires-clause-some c = omega arith

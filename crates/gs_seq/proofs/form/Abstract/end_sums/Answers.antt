@@ -44,3 +44,36 @@ returns-in-Some-clause-behind c = grind arith
 
 pub pay_all-requires-clause-listed : goal.pay_all-requires-clause-listed
 pay_all-requires-clause-listed c = grind arith
+
+pub pay_along-requires-clause-room : goal.pay_along-requires-clause-room
+pay_along-requires-clause-room c = omega arith
+
+pub pay_along-requires-clause-wide : goal.pay_along-requires-clause-wide
+pay_along-requires-clause-wide c = omega arith
+
+pub pay_along-requires-clause-end : goal.pay_along-requires-clause-end
+pay_along-requires-clause-end c = omega arith
+
+pub pay_along-requires-clause-order : goal.pay_along-requires-clause-order
+pay_along-requires-clause-order c = grind arith
+
+pub pay_along-requires-clause-some : goal.pay_along-requires-clause-some
+pay_along-requires-clause-some c = omega arith
+
+pub pay_all-requires-clause-wide : goal.pay_all-requires-clause-wide
+pay_all-requires-clause-wide c = omega arith
+
+pub pay_all-requires-clause-room : goal.pay_all-requires-clause-room
+pay_all-requires-clause-room c = omega arith
+
+pub pay_along-requires-clause-two : goal.pay_along-requires-clause-two
+pay_along-requires-clause-two c = omega arith
+
+pub pay_all-requires-clause-end : goal.pay_all-requires-clause-end
+pay_all-requires-clause-end c = omega arith
+
+pub pay_all-requires-clause-some : goal.pay_all-requires-clause-some
+pay_all-requires-clause-some c = omega arith
+
+pub pay_all-requires-clause-two : goal.pay_all-requires-clause-two
+pay_all-requires-clause-two c = omega arith

@@ -1,4 +1,4 @@
-use Rattle.std.proofs.Common.{rules, ◌-◌, ◌∙◌, ap, sym, subst, arith, get_or}
+use Rattle.std.proofs.Common.{◌-◌, ◌∙◌, ap, sym, subst, arith, get_or}
 use Rattle.std.specs.Prelude.{IfSome, pos, ◌*ℤ◌, unsigned_abs}
 use Rattle.gs_model.specs.{Classes.{IsClass}, Frame.{end_at}}
 use Rattle.gs_seq.specs.{Abstracts.{abstract_frame, lists_of}, Payoffs.{AreWholesFor, pair_pays, row_pays}, Rows.{IsRow}, declared.pair.Pair.{Pair}}
@@ -31,7 +31,7 @@ row_paid-requires-clause-numbers c = row_numbers c.args.self.now c.args.player c
     (along (goal.at.row_paid-requires-clause-numbers c).After-row) c.args.numbers.now c.requires.wide c.requires.few
 
 pub returns-in-None : goal.returns-in-None
-returns-in-None c = read_back c.row_paid.result _ (search rules) (c.row_paid.ensures
+returns-in-None c = read_back c.row_paid.result _ (record { sfits = c.row_paid.type_inv }) (c.row_paid.ensures
     ∙ ap (λ e. row_pays c.args.player e c.args.numbers.now c.row.result.now) c.end_in-at.ensures.value
     ∙ row_total c.args.self.now c.args.player c.args.end c.args.class _ (along (goal.at.returns-in-None c).After-row) c.args.numbers.now c.requires.wide
     c.requires.few)
@@ -89,7 +89,7 @@ returns-in-Some c =
     (λ i l. (given_wholes (goal.at.returns-in-Some c).In-Some).same i l
     ∙ sym ((given_wholes (goal.at.returns-in-Some c).In-Some).same (c.args.class - 1) (omega (arith, c.requires.class.0, c.requires.class.1)))
     ∙ sym c.number_of-number.ensures) in
-    read_back c.times_pays.result _ (search rules) (c.times_pays.ensures
+    read_back c.times_pays.result _ (record { sfits = c.times_pays.type_inv }) (c.times_pays.ensures
     ∙ ap (λ e. pos number *ℤ pair_pays player e (get_or c.in-Some.wholes.now (c.args.class - 1) no_pair)) c.end_in-at.ensures.value
     ∙ ap (λ p. pos number *ℤ pair_pays player (end_at (abstract_frame a) c.args.end) p) row.2
     ∙ all)

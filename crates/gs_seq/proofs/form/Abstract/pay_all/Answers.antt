@@ -1,4 +1,4 @@
-use Rattle.std.proofs.Common.{rules, ◌≡◌, ◌<◌, ◌+◌, ◌∙◌, arith, below_more, length, of_z, pos, to_z}
+use Rattle.std.proofs.Common.{◌≡◌, ◌<◌, ◌+◌, ◌∙◌, arith, below_more, length, of_z, pos, to_z}
 use Rattle.std.proofs.lemmas.List.{get_or-set_other, get_or-set_same}
 use Rattle.std.specs.Int.{w128}
 use Rattle.gs_seq.specs.{Abstracts.{abstract_frame, lists_of}, Payoffs.{number_sum}}
@@ -12,7 +12,7 @@ loop-before-preserved c =
     let sums = c.loop-before.sums in
     let n = c.loop-before.before in
     let put = to_z w128 (of_z w128 c.paid.result) in
-    let paid : put ≡ number_sum f lists c.args.player c.args.numbers.now c.args.end (n + 1) = read_back c.paid.result _ (search rules) c.paid.ensures in
+    let paid : put ≡ number_sum f lists c.args.player c.args.numbers.now c.args.end (n + 1) = read_back c.paid.result _ (record { sfits = c.paid.type_inv }) c.paid.ensures in
     let within : n < length sums = omega (
       arith,
       c.loop-before-test.true,
@@ -35,3 +35,9 @@ returns-clause-here c = grind arith
 
 pub paid-requires-clause-few : goal.paid-requires-clause-few
 paid-requires-clause-few c = grind arith
+
+pub paid-requires-clause-wholes : goal.paid-requires-clause-wholes
+paid-requires-clause-wholes c = grind arith
+
+pub paid-requires-clause-end : goal.paid-requires-clause-end
+paid-requires-clause-end c = grind arith

@@ -1,4 +1,4 @@
-use Rattle.std.proofs.Common.{rules, ◌∙◌, arith}
+use Rattle.std.proofs.Common.{◌∙◌, arith}
 use Rattle.gs_seq.proofs.{EndTotals.{end_within, ends_are_all, range_begun}, Forms.{given_in}, Signed.{read_back}}
 use Rattle.gs_seq.proofs.form.Abstract.payoff.Goals as goal
 
@@ -6,11 +6,11 @@ pub plus-sum-requires : goal.plus-sum-requires
 plus-sum-requires c =
     end_within _ _ (given_in c.args.self.now) _ _ c.requires.x.plan.plan c.requires.y.plan.plan c.loop-end.end
     (omega (arith, c.end_total-end-end.ensures, c.loop-end-test.true)) _ _ c.loop-end.invariant
-    (read_back c.payoff_at.result _ (search rules) c.payoff_at.ensures)
+    (read_back c.payoff_at.result _ (record { sfits = c.payoff_at.type_inv }) c.payoff_at.ensures)
 
 pub loop-end-preserved : goal.loop-end-preserved
-loop-end-preserved c = read_back c.plus-sum.result _ (search rules)
-    (c.plus-sum.ensures ∙ range_begun _ c.loop-end.end _ _ c.loop-end.invariant (read_back c.payoff_at.result _ (search rules) c.payoff_at.ensures))
+loop-end-preserved c = read_back c.plus-sum.result _ (record { sfits = c.plus-sum.type_inv })
+    (c.plus-sum.ensures ∙ range_begun _ c.loop-end.end _ _ c.loop-end.invariant (read_back c.payoff_at.result _ (record { sfits = c.payoff_at.type_inv }) c.payoff_at.ensures))
 
 pub returns : goal.returns
 returns c =
@@ -23,3 +23,6 @@ payoff_at-requires-clause-y c = grind arith
 
 pub payoff_at-requires-clause-x : goal.payoff_at-requires-clause-x
 payoff_at-requires-clause-x c = grind arith
+
+pub payoff_at-requires-clause-end : goal.payoff_at-requires-clause-end
+payoff_at-requires-clause-end c = grind arith

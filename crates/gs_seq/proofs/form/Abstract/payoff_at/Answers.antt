@@ -1,4 +1,4 @@
-use Rattle.std.proofs.Common.{rules, ◌≡◌, ◌+◌, ◌∙◌, ap, arith, of_z, subst, to_z}
+use Rattle.std.proofs.Common.{◌≡◌, ◌+◌, ◌∙◌, ap, arith, of_z, subst, to_z}
 use Rattle.std.specs.{Int.{w128}, List.{range_with_len}}
 use Rattle.gs_model.specs.{Pairs.{class_number}, Sums.{sum_z}}
 use Rattle.gs_seq.specs.{Abstracts.{abstract_frame, lists_of}, Payoffs.{end_classes}, Plans.{class_plan}}
@@ -19,7 +19,7 @@ next c =
       class = (omega arith, omega (arith, c.end_class_total-before-end.ensures, c.loop-before-test.true));
       number = subst (λ p. c.number_at_end-number.result ≡ class_number f ls p x c.args.end (n + 1)) c.requires.x.player_is
           c.number_at_end-number.ensures.value;
-      worth = read_back c.end_sum-worth.result _ (search rules) c.end_sum-worth.ensures;
+      worth = read_back c.end_sum-worth.result _ (record { sfits = c.end_sum-worth.type_inv }) c.end_sum-worth.ensures;
     }
 
 pub scaled-requires : goal.scaled-requires
@@ -31,14 +31,14 @@ pub plus-sum-requires : goal.plus-sum-requires
 plus-sum-requires c =
     next_within _ _ (given_in c.args.self.now) _ _ c.requires.x.plan.plan c.requires.y.plan.plan c.args.end _ _ _ c.requires.end
     (next (goal.at.plus-sum-requires c).After-end_sum-worth) _ _ c.loop-before.invariant
-    (read_back c.scaled.result _ (search rules) c.scaled.ensures)
+    (read_back c.scaled.result _ (record { sfits = c.scaled.type_inv }) c.scaled.ensures)
 
 pub loop-before-preserved : goal.loop-before-preserved
 loop-before-preserved c =
-    read_back c.plus-sum.result _ (search rules) (c.plus-sum.ensures
+    read_back c.plus-sum.result _ (record { sfits = c.plus-sum.type_inv }) (c.plus-sum.ensures
     ∙ next_put _ _ (given_in c.args.self.now) _ _ c.requires.x.plan.plan c.requires.y.plan.plan c.args.end _ _ _ c.requires.end
     (next (goal.at.loop-before-preserved c).After-end_sum-worth) _ _ c.loop-before.invariant
-    (read_back c.scaled.result _ (search rules) c.scaled.ensures))
+    (read_back c.scaled.result _ (record { sfits = c.scaled.type_inv }) c.scaled.ensures))
 
 pub end_sum-worth-requires-clause-other : goal.end_sum-worth-requires-clause-other
 end_sum-worth-requires-clause-other c = grind arith
@@ -58,3 +58,6 @@ returns c =
 
 pub number_at_end-number-requires-clause-plan : goal.number_at_end-number-requires-clause-plan
 number_at_end-number-requires-clause-plan c = grind arith
+
+pub end_sum-worth-requires-clause-end : goal.end_sum-worth-requires-clause-end
+end_sum-worth-requires-clause-end c = omega arith

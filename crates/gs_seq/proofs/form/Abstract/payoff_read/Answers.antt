@@ -47,14 +47,14 @@ pub plus-sum-requires : goal.plus-sum-requires
 plus-sum-requires c =
     next_within _ _ (given_in c.args.self.now) _ _ c.requires.x.plan.plan c.requires.y.plan.plan c.args.end _ _ _ c.requires.end
     (next (goal.at.plus-sum-requires c).After-number_at-number (search rules)) _ _ c.loop-before.invariant
-    (read_back c.scaled.result _ (search rules) c.scaled.ensures)
+    (read_back c.scaled.result _ (record { sfits = c.scaled.type_inv }) c.scaled.ensures)
 
 pub loop-before-preserved : goal.loop-before-preserved
 loop-before-preserved c =
-    read_back c.plus-sum.result _ (search rules) (c.plus-sum.ensures
+    read_back c.plus-sum.result _ (record { sfits = c.plus-sum.type_inv }) (c.plus-sum.ensures
     ∙ next_put _ _ (given_in c.args.self.now) _ _ c.requires.x.plan.plan c.requires.y.plan.plan c.args.end _ _ _ c.requires.end
     (next (goal.at.loop-before-preserved c).After-number_at-number (search rules)) _ _ c.loop-before.invariant
-    (read_back c.scaled.result _ (search rules) c.scaled.ensures))
+    (read_back c.scaled.result _ (record { sfits = c.scaled.type_inv }) c.scaled.ensures))
 
 pub returns : goal.returns
 returns c =
@@ -74,3 +74,27 @@ plan_at-own-requires-clause-plan c = grind arith
 
 pub end_sums-requires-clause-other : goal.end_sums-requires-clause-other
 end_sums-requires-clause-other c = grind arith
+
+pub end_class_total-before-end-requires : goal.end_class_total-before-end-requires
+end_class_total-before-end-requires c = omega arith
+
+pub plan_at-own-requires-clause-end : goal.plan_at-own-requires-clause-end
+plan_at-own-requires-clause-end c = grind arith
+
+pub overflow_cast-before : goal.overflow_cast-before
+overflow_cast-before c = omega arith
+
+pub offset_bounds-sums-before : goal.offset_bounds-sums-before
+offset_bounds-sums-before c = omega arith
+
+pub plan_at-own-requires-clause-some : goal.plan_at-own-requires-clause-some
+plan_at-own-requires-clause-some c = grind arith
+
+pub overflow_add-before : goal.overflow_add-before
+overflow_add-before c = grind arith
+
+pub end_sums-requires-clause-wide : goal.end_sums-requires-clause-wide
+end_sums-requires-clause-wide c = omega arith
+
+pub end_sums-requires-clause-end : goal.end_sums-requires-clause-end
+end_sums-requires-clause-end c = grind arith

@@ -55,3 +55,6 @@ returns-clause-numbers c = grind arith
 
 pub returns-clause-few : goal.returns-clause-few
 returns-clause-few c = grind arith
+
+pub bounds-numbers-before : goal.bounds-numbers-before
+bounds-numbers-before c = omega arith

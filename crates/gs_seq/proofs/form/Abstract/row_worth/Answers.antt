@@ -1,4 +1,4 @@
-use Rattle.std.proofs.Common.{rules, ◌≡◌, ◌≤◌, ◌^◌, ap, ◌∙◌, arith, ℕ, List, pos, to_z}
+use Rattle.std.proofs.Common.{◌≡◌, ◌≤◌, ◌^◌, ap, ◌∙◌, arith, ℕ, List, pos, to_z}
 use Rattle.std.specs.{Int.{w128}, Prelude.{◌*ℤ◌}}
 use Rattle.gs_game.specs.Seen.{end_of}
 use Rattle.gs_model.specs.{Classes.{IsClass}, Frame.{other_player, round_of}, Pairs.{class_number}, Positions.{at_end}}
@@ -77,10 +77,13 @@ add_pays-sum-requires c =
 pub loop-pair-preserved : goal.loop-pair-preserved
 loop-pair-preserved c =
     let at = goal.at.loop-pair-preserved c in
-    (here at.In-Some).further _ _ (part_is at.After-number_at-number) (read_back c.add_pays-sum.result _ (search rules) c.add_pays-sum.ensures)
+    (here at.In-Some).further _ _ (part_is at.After-number_at-number) (read_back c.add_pays-sum.result _ (record { sfits = c.add_pays-sum.type_inv }) c.add_pays-sum.ensures)
 
 pub returns : goal.returns
 returns c =
     sum_is_all c.args.self.now c.args.player c.args.other.now.end c.args.class c.args.row (along (goal.at.returns c).After-end_in-at)
     (number_at c.args.self.now c.args.player c.args.other.now.plan.now c.args.other.now.end) c.loop-pair.pair-iterator _
     c.loop-pair.invariant c.in-None.ensures.steps.0
+
+pub number_at-number-requires-clause-form : goal.number_at-number-requires-clause-form
+number_at-number-requires-clause-form c = grind arith

@@ -24,3 +24,6 @@ pub index-requires : goal.index-requires
 index-requires c =
     let a = c.args.self.now in
     omega (arith, wholes_long a.rows.items a.wholes.items a.wholed, c.from-round.ensures, c.end_in.ensures.round, c.requires.listed)
+
+pub overflow_sub-round : goal.overflow_sub-round
+overflow_sub-round c = omega arith

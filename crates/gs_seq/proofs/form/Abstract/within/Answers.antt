@@ -102,3 +102,15 @@ few_slots-requires c = over (goal.at.few_slots-requires c).After-game-game
 
 pub cells-requires-clause-parents : goal.cells-requires-clause-parents
 cells-requires-clause-parents c = over (goal.at.cells-requires-clause-parents c).After-game-game
+
+pub returns-clause-held : goal.returns-clause-held
+returns-clause-held c = grind arith
+
+pub returns-then-count-most-clause-small : goal.returns-then-count-most-clause-small
+returns-then-count-most-clause-small c = omega arith
+
+pub returns-then-count-most-clause-held : goal.returns-then-count-most-clause-held
+returns-then-count-most-clause-held c = omega arith
+
+pub returns-clause-refused : goal.returns-clause-refused
+returns-clause-refused c = omega arith

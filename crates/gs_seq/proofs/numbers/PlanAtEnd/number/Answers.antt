@@ -86,3 +86,6 @@ returns-in-Some-clause-within c =
 
 pub bounds-ends-self : goal.bounds-ends-self
 bounds-ends-self c = grind (arith, common_steps)
+
+pub returns-in-None-clause-value : goal.returns-in-None-clause-value
+returns-in-None-clause-value c = grind arith

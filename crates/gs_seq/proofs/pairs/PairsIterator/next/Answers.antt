@@ -30,3 +30,24 @@ invariant_of-self c = grind arith
 
 pub invariant_of-self-in_err-deal : goal.invariant_of-self-in_err-deal
 invariant_of-self-in_err-deal c = grind arith
+
+pub returns-in_default-clause-steps : goal.returns-in_default-clause-steps
+returns-in_default-clause-steps c = grind (arith, common_steps)
+
+pub returns-clause-goes : goal.returns-clause-goes
+returns-clause-goes c = grind (arith, common_steps)
+
+pub returns-then-not-is_empty-clause-goes : goal.returns-then-not-is_empty-clause-goes
+returns-then-not-is_empty-clause-goes c = grind (arith, common_steps)
+
+pub bounds-self-inside-0 : goal.bounds-self-inside-0
+bounds-self-inside-0 c = grind arith
+
+pub slice_bounds-self-count : goal.slice_bounds-self-count
+slice_bounds-self-count c = grind arith
+
+pub slice_bounds-self-start : goal.slice_bounds-self-start
+slice_bounds-self-start c = grind arith
+
+pub invariant_of-self-in_default : goal.invariant_of-self-in_default
+invariant_of-self-in_default c = grind arith
