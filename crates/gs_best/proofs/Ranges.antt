@@ -1,10 +1,9 @@
 -- Sums over ranges and over runs of descendants.
-use Rattle.std.proofs.{Common.{◌≡◌, ℕ, zero, suc, ◌+◌, ◌-◌, ◌*◌, ◌<◌, ◌≤◌, cond, refl, sym, ap, ◌∙◌, arith, sum_by}, lemmas.Bool.Decides.{Decides-eqb}}
+use Rattle.std.proofs.{Common.{◌≡◌, ℕ, zero, suc, ◌+◌, ◌-◌, ◌*◌, ◌<◌, ◌≤◌, refl, sym, ap, ◌∙◌, arith, sum_by}}
 use Rattle.std.proofs.lemmas.Int.{ints}
-use Rattle.std.specs.{Prelude.{◌==◌, ℤ, pos, ◌+ℤ◌, unsigned_abs}, List.{range_with_len}}
-use Rattle.gs_model.specs.{Frame.{Frame, ancestor, signal_count, signals_in}, Sums.{sum_z}}
-use Rattle.gs_model.proofs.{Sparse.{abs_sum, range_append, sum_none}, Total.{sum_z-append}, Basics.{not_eq}}
-use Rattle.gs_lossless.specs.Amounts.{IsRunIn}
+use Rattle.std.specs.{Prelude.{ℤ, ◌+ℤ◌, unsigned_abs}, List.{range_with_len}}
+use Rattle.gs_model.specs.{Sums.{sum_z}}
+use Rattle.gs_model.proofs.{Sparse.{abs_sum}}
 use Rattle.gs_seq.proofs.{EndTotals.{range_more}, SlotLaws.{sum_range_more}}
 
 pub sum_same : (u v : ℕ → ℤ) (a n : ℕ) → ((m : ℕ) → a ≤ m → m < a + n → u m ≡ v m) → sum_z u (range_with_len a n) ≡ sum_z v (range_with_len a n)
@@ -13,29 +12,6 @@ sum_same u v a (suc n) h =
     let here = h a (omega arith) (omega arith) in
     let rest = sum_same u v (a + 1) n (λ m lo hi. h m (omega arith) (omega arith)) in
     omega (arith, ints, here, rest)
-
--- a sum over the descendants of a signal is the sum over their run
-pub run_is : (f : Frame) (to from s first end : ℕ) (u : ℕ → ℤ) → IsRunIn f to from s first end
-    → sum_z (λ r. cond (ancestor f to from r == s) (u r) (pos 0)) (signals_in f to) ≡ sum_z u (range_with_len first (end - first))
-run_is f to from s first end u run =
-    let n = signal_count f to in
-    let v : ℕ → ℤ = λ r. cond (ancestor f to from r == s) (u r) (pos 0) in
-    let mid = end - first in
-    let rest = n - end in
-    let e : n ≡ first + (mid + rest) = omega (arith, run.ordered, run.within) in
-    let past : (first + mid) ≡ end = omega (arith, run.ordered) in
-    let zero_on : 0 + first ≡ first = omega arith in
-    let out : (r : ℕ) → r < n → ((first ≤ r) × (r < end) → ⊥) → v r ≡ pos 0 =
-    λ r l no. ap (λ b. cond b (u r) (pos 0)) (not_eq (ancestor f to from r) s (λ is. no (run.inside r l is))) in
-    let before = sum_none v 0 first (λ m lo hi. out m (omega (arith, run.ordered, run.within)) (λ w. omega (arith, w.0))) in
-    let inner = sum_same v u first mid (λ m lo hi. ap (λ b. cond b (u m) (pos 0))
-    ((Decides-eqb (ancestor f to from m) s).1 (run.back m lo (omega (arith, run.ordered))))) in
-    let behind = sum_none v (first + mid) rest (λ m lo hi. out m (omega (arith, run.ordered, run.within)) (λ w. omega (arith, w.1, run.ordered))) in
-    let split = ap (λ k. sum_z v (range_with_len 0 k)) e ∙ ap (sum_z v) (range_append 0 first (mid + rest))
-    ∙ sum_z-append v (range_with_len 0 first) (range_with_len (0 + first) (mid + rest)) in
-    let split2 = ap (λ k. sum_z v (range_with_len k (mid + rest))) zero_on ∙ ap (sum_z v) (range_append first mid rest)
-    ∙ sum_z-append v (range_with_len first mid) (range_with_len (first + mid) rest) in
-    omega (arith, ints, split, split2, before, inner, behind)
 
 -- the size of a sum over a range
 pub range_abs : (u : ℕ → ℤ) (a n most : ℕ) → ((m : ℕ) → a ≤ m → m < a + n → unsigned_abs (u m) ≤ most)

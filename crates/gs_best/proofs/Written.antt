@@ -2,7 +2,7 @@
 use Rattle.std.proofs.Common.{◌≡◌, ℕ, ◌+◌, ◌-◌, ◌<◌, ◌≤◌, List, [], ◌∷◌, ◌++◌, length, get_or, replicate, take, zero, suc, refl, sym, ap, ◌∙◌}
 use Rattle.std.proofs.{Common.{arith, ⊎_elim}, Math.ListN.{set}, lemmas.Bool.{cases_eq}, lemmas.Grind.{get_or-set_at}}
 use Rattle.std.proofs.lemmas.List.{get_or-append_right, get_or-set_other, length-replicate}
-use Rattle.std.specs.Prelude.{ℤ, pos, ◌*ℤ◌}
+use Rattle.std.specs.Prelude.{ℤ, pos}
 
 -- one more number
 pub row_more : {A : Type 0} (F : ℕ → A) (row : List A) (i : ℕ) (v d : A) → i < length row → v ≡ F i → ((k : ℕ) → k < i → get_or row k d ≡ F k) → (k : ℕ)
@@ -42,17 +42,3 @@ pub behind_all : (n : ℕ) (xs : List ℤ) (i k : ℕ) → i ≡ k + n → get_o
 behind_all n xs i k e =
     let rest : i - n ≡ k = omega arith in
     get_or-append_right (replicate n (pos 0)) xs n i (pos 0) (length-replicate n (pos 0)) (omega arith) ∙ ap (λ j. get_or xs j (pos 0)) rest
-
--- sums become shares, one after another
-pub shares_more : (size : ℕ → ℕ) (xs first : List ℤ) (i : ℕ) (v : ℤ) → i < length xs
-    → ((k : ℕ) (share : ℤ) → k < i → get_or first k (pos 0) ≡ share *ℤ pos (size (k + 1)) → get_or xs k (pos 0) ≡ share)
-    → get_or xs i (pos 0) ≡ get_or first i (pos 0) → ((share : ℤ) → get_or xs i (pos 0) ≡ share *ℤ pos (size (i + 1)) → v ≡ share)
-    → (k : ℕ) (share : ℤ) → k < i + 1 → get_or first k (pos 0) ≡ share *ℤ pos (size (k + 1)) → get_or (set xs i v) k (pos 0) ≡ share
-shares_more size xs first i v l before same here k share lk e = ⊎_elim
-    (λ (is : k ≡ i).
-    let at : get_or (set xs i v) k (pos 0) ≡ v = ap (λ n. get_or (set xs i v) n (pos 0)) is ∙ get_or-set_at xs i i v (pos 0) refl l in
-    let sum : get_or xs i (pos 0) ≡ share *ℤ pos (size (i + 1)) = same ∙ ap (λ n. get_or first n (pos 0)) (sym is) ∙ e
-    ∙ ap (λ n. share *ℤ pos (size (n + 1))) is in
-    at ∙ here share sum)
-    (λ other. get_or-set_other xs i k v (pos 0) other ∙ before k share (omega arith) e)
-    (cases_eq k i)

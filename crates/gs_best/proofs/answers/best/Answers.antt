@@ -1,3 +1,4 @@
+use Rattle.std.proofs.Common.{arith}
 use Rattle.std.proofs.lemmas.Result.{IfOk-weaker}
 use Rattle.gs_game.specs.Games.{game_of}
 use Rattle.gs_model.proofs.Exchanged.{exchanged_one}
@@ -24,3 +25,12 @@ returns-clause-paid c =
     (form_walked a c.args.player c.requires.some c.requires.two) (class_plan (abstract_frame a) (lists_of a) x)
     (class_plan (abstract_frame a) (lists_of a) c.args.other.now) h)
     c.put_all.ensures.best
+
+pub invariant_of-side : goal.invariant_of-side
+invariant_of-side c = grind arith
+
+pub returns-clause-best : goal.returns-clause-best
+returns-clause-best c = grind arith
+
+pub returns-clause-plan : goal.returns-clause-plan
+returns-clause-plan c = grind arith

@@ -63,3 +63,6 @@ returns c =
     (omega (arith, c.class_at-first.ensures.class, c.class_total-past.ensures.value)) (omega (arith, c.class_total-past.ensures.value))
     (λ k lo hi. c.loop-next.invariant k lo (omega (arith, hi, c.loop-next-test.false, c.class_at-first.ensures.class, c.class_total-past.ensures.value)))
     (λ k le lo. absurd (omega (arith, lo, le.1, c.class_total-past.ensures.value)))
+
+pub class_at-first-requires-clause-within : goal.class_at-first-requires-clause-within
+class_at-first-requires-clause-within c = grind arith

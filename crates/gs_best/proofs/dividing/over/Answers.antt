@@ -12,3 +12,6 @@ returns c =
     let is = quot_is w128 c.args.together d c.ranges.together fits (quot_fits w128 c.args.together d c.ranges.together some)
     ∙ ap (int_div c.args.together) c.from.ensures in
     record { quotient = is; share = λ share sum. is ∙ exact c.args.together share c.args.members c.requires sum }
+
+pub nonzero_div-result : goal.nonzero_div-result
+nonzero_div-result c = grind arith

@@ -25,3 +25,9 @@ returns-clause-members c =
       some_member (abstract_frame a) (lists_of a) (form_classes a) c.args.round c.args.class
           c.requires.some c.requires.top c.requires.class,
     )
+
+pub size-requires-clause-top : goal.size-requires-clause-top
+size-requires-clause-top c = grind arith
+
+pub size-requires-clause-class : goal.size-requires-clause-class
+size-requires-clause-class c = grind arith

@@ -37,3 +37,6 @@ returns c =
     to_z-of_z w128 c.sum_between.result (record { sfits = c.sum_between.type_inv }) ∙ c.sum_between.ensures ∙ same
     ∙ ap (λ n. sum_z v (range_with_len first n)) long
     ∙ sym (gathered_run (abstract_frame a) (lists_of a) c.args.row.round c.args.from c.args.class first end v run)
+
+pub sum_between-requires-clause-ordered : goal.sum_between-requires-clause-ordered
+sum_between-requires-clause-ordered c = grind arith

@@ -33,3 +33,6 @@ loop-place-preserved c =
       sum_is = value ∙ run_step (λ k. get_or values k (pos 0)) c.args.first place S from c.loop-place.invariant.sum_is;
       within = omega (arith, ap unsigned_abs value, s, small, c.loop-place.invariant.within, more);
     }
+
+pub returns : goal.returns
+returns c = grind arith

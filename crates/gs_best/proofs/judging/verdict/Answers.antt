@@ -117,3 +117,6 @@ invariant_of-first c = record { some = omega arith; two = omega arith; plan = c.
 
 pub returns-clause-room : goal.returns-clause-room
 returns-clause-room c = c.work.view_is
+
+pub judged-requires-clause-weight : goal.judged-requires-clause-weight
+judged-requires-clause-weight c = grind arith

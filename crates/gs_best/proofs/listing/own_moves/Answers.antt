@@ -85,3 +85,15 @@ returns c =
       long = c.loop-point.invariant.long ∙ ap (choices_before f (lists_at d) d.player) whole;
       at = λ q e l own h. c.loop-point.invariant.listed q e (omega (arith, l, whole)) own h;
     }
+
+pub class_total-count-requires-clause-top : goal.class_total-count-requires-clause-top
+class_total-count-requires-clause-top c = omega arith
+
+pub round_at-requires : goal.round_at-requires
+round_at-requires c = grind arith
+
+pub overflow_cast-count : goal.overflow_cast-count
+overflow_cast-count c = grind arith
+
+pub chooser-requires : goal.chooser-requires
+chooser-requires c = grind arith

@@ -31,3 +31,15 @@ read_worths-read-requires-clause-numbers c = grind arith
 
 pub read_worths-read-requires-clause-row : goal.read_worths-read-requires-clause-row
 read_worths-read-requires-clause-row c = grind arith
+
+pub raise-requires-clause-worths : goal.raise-requires-clause-worths
+raise-requires-clause-worths c = grind arith
+
+pub raise-requires-clause-best : goal.raise-requires-clause-best
+raise-requires-clause-best c = grind arith
+
+pub raise-requires-clause-moves : goal.raise-requires-clause-moves
+raise-requires-clause-moves c = grind arith
+
+pub read_worths-read-requires-clause-choice : goal.read_worths-read-requires-clause-choice
+read_worths-read-requires-clause-choice c = grind arith

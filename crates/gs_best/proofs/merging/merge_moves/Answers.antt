@@ -24,3 +24,12 @@ sum_moves-requires-clause-numbers c = grind arith
 
 pub sum_moves-requires-clause-row : goal.sum_moves-requires-clause-row
 sum_moves-requires-clause-row c = grind arith
+
+pub best_moves-requires-clause-best : goal.best_moves-requires-clause-best
+best_moves-requires-clause-best c = grind arith
+
+pub best_moves-requires-clause-moves : goal.best_moves-requires-clause-moves
+best_moves-requires-clause-moves c = grind arith
+
+pub sum_moves-requires-clause-sums : goal.sum_moves-requires-clause-sums
+sum_moves-requires-clause-sums c = grind arith

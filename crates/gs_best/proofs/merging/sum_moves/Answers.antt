@@ -39,3 +39,12 @@ returns c = λ e le.
     omega (arith, c.loop-choice-test.false, c.loop-choice.auto.choice-end, c.move_total-choice-end.ensures.value) in
     let some : 0 < c.loop-choice.choice = omega (arith, c.loop-choice-test.false, c.move_total-choice-end.ensures.some) in
     subst (λ n. AreSums (frame_on at) (lists_on at) worth at.point n c.loop-choice.sums) all (c.loop-choice.invariant some) e le
+
+pub add-requires-clause-worths : goal.add-requires-clause-worths
+add-requires-clause-worths c = grind arith
+
+pub add-requires-clause-sums : goal.add-requires-clause-sums
+add-requires-clause-sums c = grind arith
+
+pub read_worths-read-requires-clause-choice : goal.read_worths-read-requires-clause-choice
+read_worths-read-requires-clause-choice c = grind arith

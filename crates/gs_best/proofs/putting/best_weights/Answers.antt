@@ -29,3 +29,15 @@ put_moves-requires-clause-places c = grind arith
 
 pub put_moves-requires-clause-long : goal.put_moves-requires-clause-long
 put_moves-requires-clause-long c = omega (arith, c.deref_mut.ensures.len, c.in_ok-weights.ensures.len, c.sequences-count.ensures)
+
+pub put_moves-requires-clause-picks : goal.put_moves-requires-clause-picks
+put_moves-requires-clause-picks c = omega arith
+
+pub put_moves-requires-clause-starts : goal.put_moves-requires-clause-starts
+put_moves-requires-clause-starts c = omega arith
+
+pub put_moves-requires-clause-some : goal.put_moves-requires-clause-some
+put_moves-requires-clause-some c = grind arith
+
+pub put_moves-requires-clause-two : goal.put_moves-requires-clause-two
+put_moves-requires-clause-two c = grind arith

@@ -50,3 +50,18 @@ put_point-requires-clause-moves c = grind arith
 
 pub put_point-requires-clause-places : goal.put_point-requires-clause-places
 put_point-requires-clause-places c = c.requires.places
+
+pub put_point-requires-clause-clear : goal.put_point-requires-clause-clear
+put_point-requires-clause-clear c = grind arith
+
+pub put_point-requires-clause-long : goal.put_point-requires-clause-long
+put_point-requires-clause-long c = omega arith
+
+pub put_point-requires-clause-own : goal.put_point-requires-clause-own
+put_point-requires-clause-own c = grind arith
+
+pub put_point-requires-clause-point : goal.put_point-requires-clause-point
+put_point-requires-clause-point c = grind arith
+
+pub loop-point-init : goal.loop-point-init
+loop-point-init c = grind arith

@@ -124,3 +124,21 @@ loop-before-init c = record {
   here = λ e lo hi. absurd (omega (arith, lo, hi));
   clear = λ i li. c.requires.clear i (omega (arith, li));
 }
+
+pub slot-slot-requires-clause-point : goal.slot-slot-requires-clause-point
+slot-slot-requires-clause-point c = omega arith
+
+pub coming-came-requires-clause-point : goal.coming-came-requires-clause-point
+coming-came-requires-clause-point c = grind arith
+
+pub offset_bounds-weights-slot : goal.offset_bounds-weights-slot
+offset_bounds-weights-slot c = grind arith
+
+pub overflow_cast-slot : goal.overflow_cast-slot
+overflow_cast-slot c = grind arith
+
+pub class_total-before-end-requires-clause-top : goal.class_total-before-end-requires-clause-top
+class_total-before-end-requires-clause-top c = grind arith
+
+pub overflow_add-before-in-loop-before : goal.overflow_add-before-in-loop-before
+overflow_add-before-in-loop-before c = grind arith

@@ -27,3 +27,9 @@ loop-class-preserved c =
       sums = row_more all sums i _ (pos 0) inside read c.loop-class.invariant.sums;
       rest = rest_more sums old i _ (pos 0) c.loop-class.invariant.rest;
     }
+
+pub returns-clause-behind : goal.returns-clause-behind
+returns-clause-behind c = omega arith
+
+pub returns-clause-added : goal.returns-clause-added
+returns-clause-added c = omega arith

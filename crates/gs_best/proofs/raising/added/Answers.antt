@@ -1,3 +1,4 @@
+use Rattle.std.proofs.Common.{rules, arith}
 use Rattle.std.proofs.{Common.{cond, sym, ap, ◌∙◌, to_z, of_z}, lemmas.Int.{to_z-of_z}}
 use Rattle.std.specs.Prelude.{◌+ℤ◌}
 use mir.Syntax.{w128}
@@ -11,3 +12,9 @@ returns-else-choice-eq0 c =
     ∙ ap (λ z. z +ℤ to_z w128 (of_z w128 a.worth)) (to_z-of_z w128 a.sum c.ranges.sum)
     ∙ ap (λ z. a.sum +ℤ z) (to_z-of_z w128 a.worth c.ranges.worth)
     ∙ sym (ap (λ b. cond b a.worth (a.sum +ℤ a.worth)) (not_eq a.choice 0 c.if-choice-eq0.false))
+
+pub plus-requires : goal.plus-requires
+plus-requires c = search rules
+
+pub returns-then-choice-eq0 : goal.returns-then-choice-eq0
+returns-then-choice-eq0 c = grind arith

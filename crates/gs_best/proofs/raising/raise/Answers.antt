@@ -48,3 +48,21 @@ bounds-moves-class c = omega (arith, c.loop-class-test.true, c.requires.moves, c
 
 pub bounds-best-class : goal.bounds-best-class
 bounds-best-class c = omega (arith, c.loop-class-test.true, c.requires.best, c.loop-class.auto.best)
+
+pub returns-clause-best_behind : goal.returns-clause-best_behind
+returns-clause-best_behind c = grind arith
+
+pub returns-clause-raised : goal.returns-clause-raised
+returns-clause-raised c = grind arith
+
+pub offset_bounds-best-class-then-is_raised : goal.offset_bounds-best-class-then-is_raised
+offset_bounds-best-class-then-is_raised c = omega arith
+
+pub bounds-worths-class-then-is_raised : goal.bounds-worths-class-then-is_raised
+bounds-worths-class-then-is_raised c = omega arith
+
+pub offset_bounds-worths-class-then-is_raised : goal.offset_bounds-worths-class-then-is_raised
+offset_bounds-worths-class-then-is_raised c = grind arith
+
+pub returns-clause-moves_behind : goal.returns-clause-moves_behind
+returns-clause-moves_behind c = grind arith

@@ -1,3 +1,4 @@
+use Rattle.std.proofs.Common.{arith}
 use Rattle.std.proofs.{Common.{ap, sym, ◌∙◌, subst}, lemmas.Int.{to_z-of_z}}
 use Rattle.std.specs.Prelude.{pos, ◌*ℤ◌}
 use mir.Syntax.{w128}
@@ -23,3 +24,9 @@ returns c =
     to_z-of_z w128 c.over.result (record { sfits = c.over.type_inv })
     ∙ c.over.ensures.share worth (to_z-of_z w128 c.end_sum-together.result (record { sfits = c.end_sum-together.type_inv }) ∙ c.end_sum-together.ensures ∙ share
     ∙ ap (λ n. worth *ℤ pos n) (sym size))
+
+pub end_sum-together-requires-clause-other : goal.end_sum-together-requires-clause-other
+end_sum-together-requires-clause-other c = grind arith
+
+pub size_of-members-requires-clause-top : goal.size_of-members-requires-clause-top
+size_of-members-requires-clause-top c = omega arith

@@ -35,3 +35,6 @@ returns-clause-best c =
     let t = c.args.table.now in
     shared_best s t.totals.items c.loop-point.values (picks_at s t.picks.items) c.requires.best
     (λ q k share lq. c.loop-point.invariant q k share (omega (arith, lq, c.loop-point-test.false, c.point_total-point-end.ensures)))
+
+pub share_point-requires-clause-laid : goal.share_point-requires-clause-laid
+share_point-requires-clause-laid c = grind arith

@@ -101,3 +101,18 @@ returns-clause-here c =
 
 pub returns-clause-before : goal.returns-clause-before
 returns-clause-before c = grind (arith, common_steps)
+
+pub size_of-requires-clause-top : goal.size_of-requires-clause-top
+size_of-requires-clause-top c = omega arith
+
+pub offset_bounds-values-place : goal.offset_bounds-values-place
+offset_bounds-values-place c = grind arith
+
+pub size_of-requires-clause-some : goal.size_of-requires-clause-some
+size_of-requires-clause-some c = grind arith
+
+pub class_total-class-end-requires-clause-top : goal.class_total-class-end-requires-clause-top
+class_total-class-end-requires-clause-top c = omega arith
+
+pub over-requires : goal.over-requires
+over-requires c = grind arith

@@ -1,4 +1,4 @@
-use Rattle.std.proofs.Common.{arith}
+use Rattle.std.proofs.Common.{arith, rules}
 use Rattle.gs_best.specs.Sides.{frame_at, lists_at}
 use Rattle.gs_best.proofs.Rooms.{rows_written}
 use Rattle.gs_best.proofs.start.best_total.Goals as goal
@@ -29,3 +29,9 @@ returns-clause-rows c =
     let b = c.backward in
     let s = c.start_total.new in
     rows_written (frame_at c.args.side.now) (lists_at c.args.side.now) b.new.scratch s.numbers s.row b.ensures.rows
+
+pub backward-requires-clause-laid : goal.backward-requires-clause-laid
+backward-requires-clause-laid c = grind arith
+
+pub returns-clause-total : goal.returns-clause-total
+returns-clause-total c = search rules

@@ -81,3 +81,15 @@ row_to-totals-requires-clause-numbers c = grind arith
 
 pub row_to-totals-requires-clause-row : goal.row_to-totals-requires-clause-row
 row_to-totals-requires-clause-row c = grind arith
+
+pub sum_between-requires-clause-within : goal.sum_between-requires-clause-within
+sum_between-requires-clause-within c = grind arith
+
+pub overflow_add-totals : goal.overflow_add-totals
+overflow_add-totals c = grind arith
+
+pub sum_between-requires-clause-few : goal.sum_between-requires-clause-few
+sum_between-requires-clause-few c = grind arith
+
+pub overflow_cast-count : goal.overflow_cast-count
+overflow_cast-count c = grind arith

@@ -26,3 +26,9 @@ loop-point-preserved c =
           c.loop-point.invariant.starts;
       behind = rest_more c.loop-point.starts c.args.starts.now q c.loop-point.start 0 c.loop-point.invariant.behind;
     }
+
+pub returns-clause-starts : goal.returns-clause-starts
+returns-clause-starts c = grind arith
+
+pub returns-clause-behind : goal.returns-clause-behind
+returns-clause-behind c = grind arith

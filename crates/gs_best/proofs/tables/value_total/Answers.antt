@@ -17,3 +17,6 @@ overflow_add-total c =
 
 pub loop-point-preserved : goal.loop-point-preserved
 loop-point-preserved c = next (goal.at.loop-point-preserved c).After-class_total-total
+
+pub returns : goal.returns
+returns c = grind arith

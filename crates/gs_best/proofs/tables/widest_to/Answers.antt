@@ -19,3 +19,9 @@ loop-before-preserved c =
         h (i + 1) (omega arith) (omega (arith, c.loop-before-test.true)),
       );
     }
+
+pub returns-clause-wide : goal.returns-clause-wide
+returns-clause-wide c = grind arith
+
+pub returns-clause-least : goal.returns-clause-least
+returns-clause-least c = grind arith

@@ -46,3 +46,6 @@ row_to-below-requires-clause-numbers c = grind arith
 
 pub row_to-below-requires-clause-row : goal.row_to-below-requires-clause-row
 row_to-below-requires-clause-row c = grind arith
+
+pub row_to-below-requires-clause-laid : goal.row_to-below-requires-clause-laid
+row_to-below-requires-clause-laid c = grind arith

@@ -1,4 +1,4 @@
-use Rattle.std.proofs.Common.{◌≡◌, ◌+◌, ◌-◌, ◌<◌, ◌≤◌, get_or, ap, refl, subst, arith}
+use Rattle.std.proofs.Common.{◌≡◌, ◌+◌, ◌<◌, ◌≤◌, get_or, ap, refl, subst, arith}
 use Rattle.gs_model.specs.{Classes.{class_count}, Frame.{end_count, point_count, round_of}, FrameFacts.{IsInside}, Positions.{at_end}}
 use Rattle.gs_game.specs.Seen.{target_of}
 use Rattle.gs_seq.proofs.SlotLaws.{sum_range_le, sum_range_more}
@@ -75,3 +75,6 @@ end_sums-requires-clause-room c = grind arith
 
 pub end_sums-requires-clause-other : goal.end_sums-requires-clause-other
 end_sums-requires-clause-other c = c.args.side.now.plan
+
+pub end_sums-requires-clause-some : goal.end_sums-requires-clause-some
+end_sums-requires-clause-some c = grind arith

@@ -68,3 +68,9 @@ fill_point-requires-clause-rows c = grind arith
 
 pub returns-clause-rows : goal.returns-clause-rows
 returns-clause-rows c = grind arith
+
+pub returns-clause-laid : goal.returns-clause-laid
+returns-clause-laid c = grind arith
+
+pub fill_point-requires-clause-point : goal.fill_point-requires-clause-point
+fill_point-requires-clause-point c = grind arith

@@ -99,3 +99,6 @@ returns-clause-rows c = grind arith
 
 pub fill_row-requires-clause-rows : goal.fill_row-requires-clause-rows
 fill_row-requires-clause-rows c = grind arith
+
+pub class_total-count-requires-clause-top : goal.class_total-count-requires-clause-top
+class_total-count-requires-clause-top c = omega arith

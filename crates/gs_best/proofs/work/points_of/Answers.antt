@@ -27,3 +27,6 @@ loop-point-preserved c =
             within = omega (arith, i.within, w.count-is);
           }
     ]
+
+pub returns : goal.returns
+returns c = grind arith

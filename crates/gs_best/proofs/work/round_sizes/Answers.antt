@@ -32,3 +32,6 @@ returns c =
     let all : c.loop-before.before ≡ last_round f =
     omega (arith, c.loop-before-test.false, c.loop-before.auto.before-end, c.round_total-rounds.ensures.value) in
     c.loop-before.invariant ∙ ap (λ n. map size (range_with_len 1 n)) all
+
+pub class_total-requires-clause-top : goal.class_total-requires-clause-top
+class_total-requires-clause-top c = omega arith
