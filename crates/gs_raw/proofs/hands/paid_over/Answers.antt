@@ -36,3 +36,6 @@ returns c =
 
 pub new-requires-2-clause-positive : goal.new-requires-2-clause-positive
 new-requires-2-clause-positive c = grind arith
+
+pub new-requires-2-clause-fits : goal.new-requires-2-clause-fits
+new-requires-2-clause-fits c = grind arith

@@ -77,3 +77,6 @@ class_of-class-requires-clause-top c = grind (arith, common_steps)
 
 pub bounds-points-point : goal.bounds-points-point
 bounds-points-point c = grind (arith, common_steps)
+
+pub class_of-class-requires-clause-within : goal.class_of-class-requires-clause-within
+class_of-class-requires-clause-within c = grind arith

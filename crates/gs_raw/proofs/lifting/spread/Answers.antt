@@ -136,3 +136,9 @@ bounds-points-point c = omega (
 
 pub push_point-requires-clause-plan : goal.push_point-requires-clause-plan
 push_point-requires-clause-plan c = c.requires.plan
+
+pub push_point-requires-clause-first : goal.push_point-requires-clause-first
+push_point-requires-clause-first c = omega arith
+
+pub overflow_cast-first : goal.overflow_cast-first
+overflow_cast-first c = grind arith

@@ -1,4 +1,4 @@
-use Rattle.std.proofs.{Common.{◌+◌, ap, ◌∙◌, subst, arith}, lemmas.Int.{to_z-of_z}}
+use Rattle.std.proofs.{Common.{◌+◌, ap, ◌∙◌, subst, arith, rules}, lemmas.Int.{to_z-of_z}}
 use mir.Syntax.{w128}
 use Rattle.gs_lossless.specs.Amounts.{IsRunIn}
 use Rattle.gs_model.specs.{Classes.{first_member}, Frame.{round_of, signal_count}, Positions.{at_end}}
@@ -40,3 +40,6 @@ returns-clause-value c =
     to_z-of_z w128 c.signals_gain.result (record { sfits = c.signals_gain.type_inv }) ∙ c.signals_gain.ensures.value
     ∙ run_pays_hand f (form_in_range a) (form_walked a 1 (omega arith) (omega arith)) z c.args.signal c.run_below-run.result.first c.run_below-run.result.end
     c.requires.end run (lifted f lists side.one.now) (lifted f lists side.two.now)
+
+pub returns-clause-few : goal.returns-clause-few
+returns-clause-few c = search rules

@@ -32,3 +32,6 @@ returns c =
     let h = c.loop-signal.invariant in
     let all = c.signal_total-count.ensures in
     record { long = omega (arith, h.long, all); each = λ s d l. h.each s d (omega (arith, l, all)) }
+
+pub worth-requires : goal.worth-requires
+worth-requires c = omega arith
