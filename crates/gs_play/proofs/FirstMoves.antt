@@ -15,13 +15,6 @@ pub record AreFirstTo (f : Frame) (lists : ClassLists) (q n : ℕ) (start now : 
   pub elsewhere : AreKeptBut f lists q start now
 
 module _ (f : Frame) (lists : ClassLists) (q : ℕ) (start : List ℕ) where
-  pub firsts_none : ((c : ℕ) → IsClass lists (round_of f (at_point q)) c → moves_of f lists start q c ≡ 255) → AreFirstTo f lists q 1 start start
-  firsts_none none = record {
-    first = λ e le less. absurd (omega (arith, le.0, less));
-    ahead = λ c lc l. none c lc;
-    elsewhere = λ p e lp le other. refl;
-  }
-
   -- one more class
   module _ (r : InRange f) (k : IsClasses f.parents lists) (player : ℕ) (w : IsWalked f player) (lq : q < point_count f) (own : player_at f q ≡ player) (n : ℕ)
       (ln : IsClass lists (round_of f (at_point q)) n) (now : List ℕ) (done : AreFirstTo f lists q n start now) where

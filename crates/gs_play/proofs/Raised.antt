@@ -11,7 +11,7 @@ use Rattle.gs_best.proofs.Ranges.{sum_same}
 use Rattle.gs_seq.specs.Payoffs.{end_sum}
 use Rattle.gs_best.specs.ClassTotals.{earlier_class, gathered_below}
 use Rattle.gs_play.specs.{Jumps.{line}, Tables.{raise_sum}}
-use Rattle.gs_play.proofs.{SumLaws.{ArePaid, end_plus, plus_times}, Turning.{line_on, turned_now}}
+use Rattle.gs_play.proofs.{SumLaws.{ArePaid}, Turning.{turned_now}}
 
 -- a plan of a player has one more at a step and a class, and is elsewhere as it was
 pub record IsRaised (f : Frame) (lists : ClassLists) (u : Step) (e : ℕ) (old new : Plan) : Type 0 where
@@ -90,17 +90,6 @@ module _ (f : Frame) (lists : ClassLists) (player : ℕ) (y b : Plan) (at slope 
         ∙ turned_now (at (at_end z) c) (slope (at_end z) c) (more z c) now
         ∙ paid.so_far z c lz lc;
     each = λ z c lz lc. s z c lz lc ∙ ap (λ x. x +ℤ more z c) (paid.each z c lz lc) ∙ sym (pays z c lz lc);
-  }
-
-  -- and so many turns later
-  pub paid_later : (k : ℕ) → ArePaid f lists player (plus_times y k b) b at slope (now + k)
-  paid_later k = record {
-    so_far = λ z c lz lc.
-        sym (line_on (at (at_end z) c) (slope (at_end z) c) now k)
-        ∙ ap (λ x. line x (slope (at_end z) c) k) (paid.so_far z c lz lc)
-        ∙ ap (λ x. line (end_sum f lists player y z c) x k) (paid.each z c lz lc)
-        ∙ sym (end_plus f lists player y b k z c);
-    each = paid.each;
   }
 
 -- ---- one class of a later round

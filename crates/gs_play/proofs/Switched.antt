@@ -56,9 +56,6 @@ module _ (f : Frame) (lists : ClassLists) (player q c new now : ℕ) (lq : q < p
       let none = counted_other q c (taken a q c) (now - since a q c) p e m apart in
       omega (arith, h, none)
 
-  pub switched_turned : get_or b.turned.items q false ≡ true
-  switched_turned = ap (λ xs. get_or xs q false) s.turned ∙ get_or-set_same a.turned.items q true false (omega (arith, has.turned, lq))
-
   pub switched_elsewhere : IsElsewhere f lists q c a b
   switched_elsewhere = record {
     taken = λ p e lp le apart. taken_other p e le apart;

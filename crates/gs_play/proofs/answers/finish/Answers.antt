@@ -59,3 +59,6 @@ stop_at-requires-clause-answer c = grind arith
 
 pub loop-point-init : goal.loop-point-init
 loop-point-init c = grind arith
+
+pub stop_at-requires-clause-point : goal.stop_at-requires-clause-point
+stop_at-requires-clause-point c = grind arith

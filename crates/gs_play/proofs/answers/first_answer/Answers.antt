@@ -96,3 +96,21 @@ take_first-requires-clause-long c = ap (λ (l : List ℕ). length l) c.deref_mut
 
 pub take_first-requires-clause-point : goal.take_first-requires-clause-point
 take_first-requires-clause-point c = omega (arith, c.loop-point-test.true, c.point_total-point-end.ensures)
+
+pub overflow_sub-slots : goal.overflow_sub-slots
+overflow_sub-slots c = grind arith
+
+pub overflow_cast-slots : goal.overflow_cast-slots
+overflow_cast-slots c = grind arith
+
+pub sequences-requires-clause-some : goal.sequences-requires-clause-some
+sequences-requires-clause-some c = grind arith
+
+pub sequences-requires-clause-two : goal.sequences-requires-clause-two
+sequences-requires-clause-two c = grind arith
+
+pub index-requires : goal.index-requires
+index-requires c = omega arith
+
+pub overflow_cast-point : goal.overflow_cast-point
+overflow_cast-point c = grind arith

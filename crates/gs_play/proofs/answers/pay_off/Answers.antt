@@ -93,3 +93,15 @@ returns-else-old-clause-weights c = λ p e m lp his le lm.
 
 pub index_mut-requires : goal.index_mut-requires
 index_mut-requires c = grind arith
+
+pub returns-then-old-clause-since : goal.returns-then-old-clause-since
+returns-then-old-clause-since c = grind arith
+
+pub returns-then-old-clause-taken : goal.returns-then-old-clause-taken
+returns-then-old-clause-taken c = grind arith
+
+pub returns-then-old-clause-turned : goal.returns-then-old-clause-turned
+returns-then-old-clause-turned c = grind arith
+
+pub slot-slot-requires-clause-point : goal.slot-slot-requires-clause-point
+slot-slot-requires-clause-point c = grind arith

@@ -113,3 +113,30 @@ returns-clause-plan c = c.loop-point.invariant.plan
 
 pub returns-clause-still : goal.returns-clause-still
 returns-clause-still c = λ q lq moved. true≢false (sym moved ∙ c.loop-point.invariant.cleared q (omega (arith, lq, c.loop-point-test.false, c.point_total-point-end.ensures)))
+
+pub overflow_cast-point : goal.overflow_cast-point
+overflow_cast-point c = omega arith
+
+pub renew_at-requires-clause-point : goal.renew_at-requires-clause-point
+renew_at-requires-clause-point c = grind arith
+
+pub returns-clause-told : goal.returns-clause-told
+returns-clause-told c = grind arith
+
+pub returns-clause-own_dues : goal.returns-clause-own_dues
+returns-clause-own_dues c = grind arith
+
+pub returns-clause-picks : goal.returns-clause-picks
+returns-clause-picks c = grind arith
+
+pub returns-clause-moved : goal.returns-clause-moved
+returns-clause-moved c = grind arith
+
+pub returns-clause-own_picks : goal.returns-clause-own_picks
+returns-clause-own_picks c = grind arith
+
+pub returns-clause-own_totals : goal.returns-clause-own_totals
+returns-clause-own_totals c = grind arith
+
+pub returns-clause-own_worths : goal.returns-clause-own_worths
+returns-clause-own_worths c = grind arith

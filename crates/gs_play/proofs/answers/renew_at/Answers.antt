@@ -1,4 +1,4 @@
-use Rattle.std.proofs.{Common.{ℕ, ◌<◌, Bool, List, false, set, refl, sym, ◌∙◌, subst, arith, get_or-set_other}, lemmas.Grind.{common_steps}}
+use Rattle.std.proofs.{Common.{ℕ, ◌<◌, Bool, List, false, set, refl, sym, ◌∙◌, subst, arith, rules, get_or-set_other}, lemmas.Grind.{common_steps}}
 use Rattle.gs_model.specs.{Frame.{Frame, player_at, point_count}, FrameFacts.{IsWalked}}
 use Rattle.gs_seq.specs.Abstracts.{game_in}
 use Rattle.gs_seq.proofs.Points.{walked_at}
@@ -84,3 +84,24 @@ renew_point-requires-clause-point c = c.requires.point
 
 pub index-requires : goal.index-requires
 index-requires c = omega (arith, c.requires.point, c.args.side.now.plotted.many, c.args.side.now.plot.now.rows.ok.0)
+
+pub returns-then-is_loose-clause-turned : goal.returns-then-is_loose-clause-turned
+returns-then-is_loose-clause-turned c = search rules
+
+pub returns-then-is_loose-clause-told : goal.returns-then-is_loose-clause-told
+returns-then-is_loose-clause-told c = grind arith
+
+pub returns-then-is_loose-clause-picks : goal.returns-then-is_loose-clause-picks
+returns-then-is_loose-clause-picks c = grind arith
+
+pub returns-then-is_loose-clause-moved : goal.returns-then-is_loose-clause-moved
+returns-then-is_loose-clause-moved c = grind arith
+
+pub is_loose-requires-clause-moved : goal.is_loose-requires-clause-moved
+is_loose-requires-clause-moved c = omega arith
+
+pub is_loose-requires-clause-point : goal.is_loose-requires-clause-point
+is_loose-requires-clause-point c = grind arith
+
+pub returns-else-index-side-clause-turned : goal.returns-else-index-side-clause-turned
+returns-else-index-side-clause-turned c = grind (arith, common_steps)

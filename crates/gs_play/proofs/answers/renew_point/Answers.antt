@@ -202,3 +202,30 @@ tell-requires-clause-point c = c.requires.point
 
 pub turn-requires-clause-point : goal.turn-requires-clause-point
 turn-requires-clause-point c = c.requires.point
+
+pub right_move-new-requires-clause-taken : goal.right_move-new-requires-clause-taken
+right_move-new-requires-clause-taken c = omega arith
+
+pub index-row-requires : goal.index-row-requires
+index-row-requires c = omega arith
+
+pub tell-requires-clause-own : goal.tell-requires-clause-own
+tell-requires-clause-own c = omega arith
+
+pub returns-clause-told : goal.returns-clause-told
+returns-clause-told c = grind arith
+
+pub tell-requires-clause-apart : goal.tell-requires-clause-apart
+tell-requires-clause-apart c = grind arith
+
+pub returns-clause-picks : goal.returns-clause-picks
+returns-clause-picks c = grind arith
+
+pub returns-clause-moved : goal.returns-clause-moved
+returns-clause-moved c = grind arith
+
+pub turn-requires-clause-own : goal.turn-requires-clause-own
+turn-requires-clause-own c = omega arith
+
+pub overflow_sub-cell : goal.overflow_sub-cell
+overflow_sub-cell c = grind arith

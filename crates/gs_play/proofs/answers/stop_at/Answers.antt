@@ -63,3 +63,9 @@ returns-clause-elsewhere c = c.loop-class.invariant.elsewhere
 
 pub returns-clause-plan : goal.returns-clause-plan
 returns-clause-plan c = c.loop-class.invariant.plan
+
+pub turn-requires-clause-point : goal.turn-requires-clause-point
+turn-requires-clause-point c = grind arith
+
+pub class_total-class-end-requires-clause-top : goal.class_total-class-end-requires-clause-top
+class_total-class-end-requires-clause-top c = grind arith

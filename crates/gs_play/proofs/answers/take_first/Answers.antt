@@ -112,3 +112,15 @@ returns-clause-first c = λ e le. c.loop-class.invariant.first e le
 
 pub returns-clause-elsewhere : goal.returns-clause-elsewhere
 returns-clause-elsewhere c = c.loop-class.invariant.elsewhere
+
+pub loop-class-init : goal.loop-class-init
+loop-class-init c = grind arith
+
+pub is_reached-requires-clause-long : goal.is_reached-requires-clause-long
+is_reached-requires-clause-long c = omega arith
+
+pub overflow_sub-taken : goal.overflow_sub-taken
+overflow_sub-taken c = grind arith
+
+pub overflow_cast-taken : goal.overflow_cast-taken
+overflow_cast-taken c = grind arith

@@ -80,3 +80,36 @@ push-requires-2-clause-choice c = c.requires.old (omega (arith, c.if-old-eq-NONE
 
 pub push-requires-then-new-ne-NONE-clause-point : goal.push-requires-then-new-ne-NONE-clause-point
 push-requires-then-new-ne-NONE-clause-point c = c.requires.point
+
+pub returns-then-new-ne-NONE-clause-picks : goal.returns-then-new-ne-NONE-clause-picks
+returns-then-new-ne-NONE-clause-picks c = grind arith
+
+pub returns-then-new-ne-NONE-clause-moved : goal.returns-then-new-ne-NONE-clause-moved
+returns-then-new-ne-NONE-clause-moved c = grind arith
+
+pub push-requires-clause-point : goal.push-requires-clause-point
+push-requires-clause-point c = grind arith
+
+pub push-requires-2-clause-point : goal.push-requires-2-clause-point
+push-requires-2-clause-point c = grind arith
+
+pub push-requires-then-new-ne-NONE-clause-others : goal.push-requires-then-new-ne-NONE-clause-others
+push-requires-then-new-ne-NONE-clause-others c = omega arith
+
+pub returns-else-new-ne-NONE-clause-picks : goal.returns-else-new-ne-NONE-clause-picks
+returns-else-new-ne-NONE-clause-picks c = grind arith
+
+pub returns-else-new-ne-NONE-clause-moved : goal.returns-else-new-ne-NONE-clause-moved
+returns-else-new-ne-NONE-clause-moved c = grind arith
+
+pub returns-then-old-eq-NONE-clause-picks : goal.returns-then-old-eq-NONE-clause-picks
+returns-then-old-eq-NONE-clause-picks c = grind arith
+
+pub returns-then-old-eq-NONE-clause-moved : goal.returns-then-old-eq-NONE-clause-moved
+returns-then-old-eq-NONE-clause-moved c = grind arith
+
+pub push-requires-clause-others : goal.push-requires-clause-others
+push-requires-clause-others c = grind arith
+
+pub push-requires-2-clause-others : goal.push-requires-2-clause-others
+push-requires-2-clause-others c = grind arith

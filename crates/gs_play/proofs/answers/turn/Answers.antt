@@ -118,3 +118,6 @@ returns-clause-turned c =
     let turned = c.pay_off.new.answer.turned.items in
     let long = ap (λ (v : Vec Bool Global). length v.items) c.pay_off.ensures.turned ∙ c.requires.answer.turned in
     get_or-set_same turned c.args.point true false (omega (arith, long, c.requires.point))
+
+pub pay_off-requires-clause-point : goal.pay_off-requires-clause-point
+pay_off-requires-clause-point c = grind arith

@@ -1,4 +1,4 @@
-use Rattle.std.proofs.{lemmas.Grind.{common_steps}, Common.{◌≡◌, ℕ, ◌+◌, false, true, sym, ◌∙◌, subst, arith, rules, ℤ}, lemmas.Int.{ints, to_z-of_z}}
+use Rattle.std.proofs.{lemmas.Grind.{common_steps}, Common.{◌≡◌, ℕ, ◌+◌, false, true, sym, ◌∙◌, subst, arith, ℤ}, lemmas.Int.{ints, to_z-of_z}}
 use Rattle.std.specs.{Prelude.{◌<ℤ◌, ◌≤ℤ◌}, Int.RustNames.{FitsSigned}, Int.Signed.{lt_z}}
 use mir.Syntax.{w128}
 use Rattle.gs_best.specs.Rows.{IsFirstGreatest}
@@ -20,7 +20,7 @@ kept u n best best' most value told new h e g l b v =
 
 pub loop-place-preserved : goal.loop-place-preserved
 loop-place-preserved c =
-    let fits : FitsSigned w128 c.value-worth.result = search rules in
+    let fits : FitsSigned w128 c.value-worth.result = record { sfits = c.value-worth.type_inv } in
     let told = to_z-of_z w128 c.value-worth.result fits in
     elim c.if-most-worth.branch [
       | then-most-worth w ↦ raised (λ m. value_in (line_at c.args.lines.now m) c.args.now) c.loop-place.place c.loop-place.best _ _ c.value-worth.result _ _

@@ -54,3 +54,6 @@ returns-clause-greatest c = λ l h. c.loop-place.invariant.greatest l
 
 pub until-left-requires-clause-behind : goal.until-left-requires-clause-behind
 until-left-requires-clause-behind c = grind arith
+
+pub loop-place-init : goal.loop-place-init
+loop-place-init c = grind arith

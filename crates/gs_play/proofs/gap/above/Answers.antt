@@ -1,3 +1,4 @@
+use Rattle.std.proofs.Common.{rules}
 use Rattle.std.proofs.{Common.{◌≡◌, ◌^◌, ◌<◌, ap, ◌∙◌, of_z, to_z, to_z-of_z, arith}, lemmas.Int.{fits_signed_from_abs}}
 use Rattle.std.specs.{Prelude.{ℤ, ◌-ℤ◌, unsigned_abs}, Int.RustNames.{FitsSigned}}
 use mir.Syntax.{w128}
@@ -18,3 +19,6 @@ returns-clause-value c = c.unsigned_abs.ensures.value ∙ read c.args.greater c.
 pub returns-clause-small : goal.returns-clause-small
 returns-clause-small c =
     omega (arith, c.unsigned_abs.ensures.value, read c.args.greater c.args.less c.ranges.greater c.ranges.less c.requires, c.requires)
+
+pub overflow_sub-greater : goal.overflow_sub-greater
+overflow_sub-greater c = search rules

@@ -59,3 +59,6 @@ pub above-gap-requires : goal.above-gap-requires
 above-gap-requires c =
     subst (λ x. unsigned_abs (x -ℤ to_z w128 (of_z w128 c.args.worth)) < 2 ^ 120) (sym (to_z-of_z w128 c.args.value c.ranges.value))
     (subst (λ x. unsigned_abs (c.args.value -ℤ x) < 2 ^ 120) (sym (to_z-of_z w128 c.args.worth c.ranges.worth)) c.requires.gap)
+
+pub within_gap-requires-clause-gain : goal.within_gap-requires-clause-gain
+within_gap-requires-clause-gain c = grind (arith, common_steps)

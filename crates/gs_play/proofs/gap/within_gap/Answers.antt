@@ -22,3 +22,6 @@ pub returns-else-most-from-clause-within : goal.returns-else-most-from-clause-wi
 returns-else-most-from-clause-within c =
     within_quotient c.args.before c.args.gap c.args.gain c.if-before.most c.args.times c.requires.gain
     (most_is (goal.at.returns-else-most-from-clause-within c).After-from) (omega (arith, c.if-most-from.false, c.from.ensures))
+
+pub returns-then-most-from-clause-some : goal.returns-then-most-from-clause-some
+returns-then-most-from-clause-some c = grind arith

@@ -12,9 +12,12 @@ neg_wrapped z =
 pub returns-clause-at : goal.returns-clause-at
 returns-clause-at c =
     let more : FitsSigned w64 c.args.more = search rules in
-    let times : FitsSigned w64 c.times.result = search rules in
-    let out : FitsSigned w64 c.negated.result = search rules in
+    let times : FitsSigned w64 c.times.result = record { sfits = c.times.type_inv } in
+    let out : FitsSigned w64 c.negated.result = record { sfits = c.negated.type_inv } in
     to_z-of_z w64 c.negated.result out ∙ c.negated.ensures
     ∙ ap (λ z. wrapped (neg_ℤ z)) (to_z-of_z w64 c.times.result times ∙ c.times.ensures
     ∙ ap (λ z. wrapped (z *ℤ pos c.args.turn)) (to_z-of_z w64 c.args.more more))
     ∙ neg_wrapped (c.args.more *ℤ pos c.args.turn)
+
+pub returns-clause-slope : goal.returns-clause-slope
+returns-clause-slope c = search rules

@@ -7,23 +7,23 @@ use Rattle.gs_play.proofs.line.until.Goals as goal
 
 value_is : (c : After-value-2) → to_z w128 (of_z w128 c.value.result) ≡ value_in c.args.ahead c.args.now
 value_is c =
-    let fits : FitsSigned w128 c.value.result = search rules in
+    let fits : FitsSigned w128 c.value.result = record { sfits = c.value.type_inv } in
     to_z-of_z w128 c.value.result fits ∙ c.value.ensures
 
 worth_is : (c : After-value-2) → to_z w128 (of_z w128 c.value-2.result) ≡ value_in c.args.other c.args.now
 worth_is c =
-    let fits : FitsSigned w128 c.value-2.result = search rules in
+    let fits : FitsSigned w128 c.value-2.result = record { sfits = c.value-2.type_inv } in
     to_z-of_z w128 c.value-2.result fits ∙ c.value-2.ensures
 
 slope_is : (c : After-value-2) → to_z w128 (of_z w128 c.from-slope.result) ≡ c.args.ahead.slope
 slope_is c =
-    let fits : FitsSigned w128 c.from-slope.result = search rules in
+    let fits : FitsSigned w128 c.from-slope.result = record { sfits = c.from-slope.type_inv } in
     let e : c.from-slope.result ≡ c.args.ahead.slope = omega (arith, ints, c.from-slope.ensures) in
     to_z-of_z w128 c.from-slope.result fits ∙ e
 
 rise_is : (c : After-value-2) → to_z w128 (of_z w128 c.from-rise.result) ≡ c.args.other.slope
 rise_is c =
-    let fits : FitsSigned w128 c.from-rise.result = search rules in
+    let fits : FitsSigned w128 c.from-rise.result = record { sfits = c.from-rise.type_inv } in
     let e : c.from-rise.result ≡ c.args.other.slope = omega (arith, ints, c.from-rise.ensures) in
     to_z-of_z w128 c.from-rise.result fits ∙ e
 

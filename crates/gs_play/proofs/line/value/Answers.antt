@@ -7,13 +7,13 @@ use Rattle.gs_play.proofs.line.value.Goals as goal
 
 slope_is : (c : After-from) → to_z w128 (of_z w128 c.from-slope.result) ≡ c.args.line.slope
 slope_is c =
-    let fits : FitsSigned w128 c.from-slope.result = search rules in
+    let fits : FitsSigned w128 c.from-slope.result = record { sfits = c.from-slope.type_inv } in
     let e : c.from-slope.result ≡ c.args.line.slope = omega (arith, ints, c.from-slope.ensures) in
     to_z-of_z w128 c.from-slope.result fits ∙ e
 
 at_is : (c : After-from) → to_z w128 (of_z w128 c.from-at.result) ≡ c.args.line.at
 at_is c =
-    let fits : FitsSigned w128 c.from-at.result = search rules in
+    let fits : FitsSigned w128 c.from-at.result = record { sfits = c.from-at.type_inv } in
     let e : c.from-at.result ≡ c.args.line.at = omega (arith, ints, c.from-at.ensures) in
     to_z-of_z w128 c.from-at.result fits ∙ e
 
@@ -30,7 +30,7 @@ scaled-requires c =
 
 risen_is : (c : After-scaled) → to_z w128 (of_z w128 c.scaled.result) ≡ pos c.args.turn *ℤ c.args.line.slope
 risen_is c =
-    let fits : FitsSigned w128 c.scaled.result = search rules in
+    let fits : FitsSigned w128 c.scaled.result = record { sfits = c.scaled.type_inv } in
     to_z-of_z w128 c.scaled.result fits ∙ c.scaled.ensures ∙ ap (λ (k : ℕ). pos k *ℤ to_z w128 (of_z w128 c.from-slope.result)) c.from.ensures
     ∙ ap (λ z. pos c.args.turn *ℤ z) (slope_is (goal.at.After-scaled c).After-from)
 
@@ -46,6 +46,6 @@ pub returns : goal.returns
 returns c =
     let done = (goal.at.returns c).After-scaled in
     let at = (goal.at.returns c).After-from in
-    let fits : FitsSigned w128 c.plus.result = search rules in
+    let fits : FitsSigned w128 c.plus.result = record { sfits = c.plus.type_inv } in
     to_z-of_z w128 c.plus.result fits ∙ c.plus.ensures ∙ ap (λ z. z +ℤ to_z w128 (of_z w128 c.scaled.result)) (at_is at)
     ∙ ap (λ z. c.args.line.at +ℤ z) (risen_is done)

@@ -52,3 +52,9 @@ cell_above-requires-clause-step c = c.requires.step
 
 pub cell_above-requires-clause-rows : goal.cell_above-requires-clause-rows
 cell_above-requires-clause-rows c = c.requires.rows
+
+pub loop-class-init : goal.loop-class-init
+loop-class-init c = grind arith
+
+pub cell_above-requires-clause-long_rows : goal.cell_above-requires-clause-long_rows
+cell_above-requires-clause-long_rows c = omega arith

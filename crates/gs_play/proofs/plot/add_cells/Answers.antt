@@ -3,3 +3,6 @@ use Rattle.gs_play.proofs.plot.add_cells.Goals as goal
 
 pub loop-n-preserved : goal.loop-n-preserved
 loop-n-preserved c = grind (arith, common_steps)
+
+pub returns : goal.returns
+returns c = grind arith

@@ -27,3 +27,15 @@ returns c =
     let f = abstract_frame c.args.form.now in
     let all : c.loop-point.point ≡ point_count f = omega (arith, c.loop-point-test.false, c.loop-point.auto.point-end, c.point_total-point-end.ensures) in
     record { long = c.loop-point.invariant.long ∙ ap (start_of f (lists_of c.args.form.now)) all; above = c.loop-point.invariant.above }
+
+pub add_above-requires-clause-rows : goal.add_above-requires-clause-rows
+add_above-requires-clause-rows c = grind arith
+
+pub add_above-requires-clause-long : goal.add_above-requires-clause-long
+add_above-requires-clause-long c = omega arith
+
+pub add_above-requires-clause-point : goal.add_above-requires-clause-point
+add_above-requires-clause-point c = grind arith
+
+pub add_above-requires-clause-long_rows : goal.add_above-requires-clause-long_rows
+add_above-requires-clause-long_rows c = omega arith

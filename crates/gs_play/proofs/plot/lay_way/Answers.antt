@@ -19,3 +19,9 @@ bounds-to_points-next c = omega (arith, next (goal.at.bounds-to_points-next c).I
 
 pub bounds-to_ends-end : goal.bounds-to_ends-end
 bounds-to_ends-end c = omega (arith, end (goal.at.bounds-to_ends-end c).In-End)
+
+pub returns-in-End : goal.returns-in-End
+returns-in-End c = grind arith
+
+pub returns-in-Point : goal.returns-in-Point
+returns-in-Point c = grind arith

@@ -95,3 +95,9 @@ returns-clause-rows c =
     let f = abstract_frame c.args.form.now in
     let all : c.loop-point.point ≡ point_count f = omega (arith, c.loop-point-test.false, c.loop-point.auto.point-end, c.point_total-point-end.ensures) in
     subst (λ n. AreRowsBefore f (lists_of c.args.form.now) n c.loop-point.rows.items) all c.loop-point.invariant.rows
+
+pub returns-clause-many : goal.returns-clause-many
+returns-clause-many c = omega arith
+
+pub row_of-row-requires-clause-point : goal.row_of-row-requires-clause-point
+row_of-row-requires-clause-point c = grind arith

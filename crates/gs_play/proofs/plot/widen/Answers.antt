@@ -47,3 +47,6 @@ returns-in-Some-clause-here c =
 pub returns-in-Some-clause-wider : goal.returns-in-Some-clause-wider
 returns-in-Some-clause-wider c = widened_wider c.args.spans.now c.in-Some.step.point _ c.min-span.result c.max-span.result c.args.end
     (inside (goal.at.returns-in-Some-clause-wider c).In-Some) c.min-span.ensures c.max-span.ensures
+
+pub returns-in_default-clause-spans : goal.returns-in_default-clause-spans
+returns-in_default-clause-spans c = grind arith

@@ -12,3 +12,9 @@ widen-requires-in-loop-end-clause-spans c = grind arith
 
 pub widen-requires-clause-spans : goal.widen-requires-clause-spans
 widen-requires-clause-spans c = c.loop-end.invariant
+
+pub returns : goal.returns
+returns c = grind arith
+
+pub loop-end-init : goal.loop-end-init
+loop-end-init c = grind arith

@@ -24,3 +24,6 @@ returns-clause-picks c = c.begin_ends.ensures.picks
 
 pub returns-clause-moved : goal.returns-clause-moved
 returns-clause-moved c = c.begin_ends.ensures.moved
+
+pub begin_ends-requires-clause-one : goal.begin_ends-requires-clause-one
+begin_ends-requires-clause-one c = grind arith

@@ -115,3 +115,21 @@ returns-in_default-clause-room c = c.requires.room
 
 pub turn_end-requires-clause-way : goal.turn_end-requires-clause-way
 turn_end-requires-clause-way c = c.in-Some.ensures.way
+
+pub turn_end-requires-clause-class : goal.turn_end-requires-clause-class
+turn_end-requires-clause-class c = grind arith
+
+pub returns-clause-picks : goal.returns-clause-picks
+returns-clause-picks c = grind arith
+
+pub returns-clause-moved : goal.returns-clause-moved
+returns-clause-moved c = grind arith
+
+pub offset_bounds-sums-class : goal.offset_bounds-sums-class
+offset_bounds-sums-class c = grind arith
+
+pub overflow_cast-more : goal.overflow_cast-more
+overflow_cast-more c = grind arith
+
+pub overflow_sub-more : goal.overflow_sub-more
+overflow_sub-more c = grind arith

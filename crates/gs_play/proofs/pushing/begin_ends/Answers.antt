@@ -122,3 +122,12 @@ end_sums-requires-clause-other c = c.requires.other
 
 pub returns-clause-room : goal.returns-clause-room
 returns-clause-room c = c.loop-end.invariant.room
+
+pub begin_end-requires-clause-end : goal.begin_end-requires-clause-end
+begin_end-requires-clause-end c = grind arith
+
+pub end_sums-requires-clause-end : goal.end_sums-requires-clause-end
+end_sums-requires-clause-end c = grind arith
+
+pub end_sums-requires-clause-some : goal.end_sums-requires-clause-some
+end_sums-requires-clause-some c = grind arith

@@ -155,3 +155,12 @@ push_end-requires-clause-end c = omega (arith, few (goal.at.push_end-requires-cl
 
 pub push_end-requires-clause-point : goal.push_end-requires-clause-point
 push_end-requires-clause-point c = c.requires.point
+
+pub index-span-requires : goal.index-span-requires
+index-span-requires c = grind arith
+
+pub returns-clause-picks : goal.returns-clause-picks
+returns-clause-picks c = grind arith
+
+pub returns-clause-moved : goal.returns-clause-moved
+returns-clause-moved c = grind arith

@@ -106,3 +106,15 @@ returns-clause-picks c = c.loop-class.invariant.picks
 
 pub returns-clause-moved : goal.returns-clause-moved
 returns-clause-moved c = c.loop-class.invariant.moved
+
+pub classes_below-run-requires-clause-class : goal.classes_below-run-requires-clause-class
+classes_below-run-requires-clause-class c = grind arith
+
+pub classes_below-run-requires-clause-onward : goal.classes_below-run-requires-clause-onward
+classes_below-run-requires-clause-onward c = grind arith
+
+pub push_row-requires-clause-end : goal.push_row-requires-clause-end
+push_row-requires-clause-end c = omega arith
+
+pub round_at-from-requires : goal.round_at-from-requires
+round_at-from-requires c = grind arith

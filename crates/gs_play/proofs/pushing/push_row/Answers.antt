@@ -70,3 +70,12 @@ returns-clause-moved c = c.loop-pair.invariant.moved
 
 pub turn_end-requires-clause-way : goal.turn_end-requires-clause-way
 turn_end-requires-clause-way c = c.requires.way.way
+
+pub pairs-pair-items-requires-clause-class : goal.pairs-pair-items-requires-clause-class
+pairs-pair-items-requires-clause-class c = grind arith
+
+pub pairs-pair-items-requires-clause-top : goal.pairs-pair-items-requires-clause-top
+pairs-pair-items-requires-clause-top c = omega arith
+
+pub pairs-pair-items-requires-clause-some : goal.pairs-pair-items-requires-clause-some
+pairs-pair-items-requires-clause-some c = grind arith

@@ -15,3 +15,12 @@ returns-then-loser-folder-clause-few c = grind arith
 
 pub returns-else-loser-folder-clause-few : goal.returns-else-loser-folder-clause-few
 returns-else-loser-folder-clause-few c = grind arith
+
+pub returns-in-Show-clause-few : goal.returns-in-Show-clause-few
+returns-in-Show-clause-few c = grind arith
+
+pub overflow_sub-result : goal.overflow_sub-result
+overflow_sub-result c = grind arith
+
+pub overflow_sub-gain : goal.overflow_sub-gain
+overflow_sub-gain c = grind arith

@@ -35,3 +35,9 @@ feed-requires-clause-room c = c.requires.room
 
 pub returns-then-more-eq0-clause-room : goal.returns-then-more-eq0-clause-room
 returns-then-more-eq0-clause-room c = c.requires.room
+
+pub returns-clause-picks : goal.returns-clause-picks
+returns-clause-picks c = grind arith
+
+pub returns-clause-moved : goal.returns-clause-moved
+returns-clause-moved c = grind arith

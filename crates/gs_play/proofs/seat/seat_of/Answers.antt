@@ -16,3 +16,6 @@ returns c =
 
 pub begin-requires-clause-other : goal.begin-requires-clause-other
 begin-requires-clause-other c = grind arith
+
+pub begin-requires-clause-one : goal.begin-requires-clause-one
+begin-requires-clause-one c = grind arith

@@ -107,3 +107,9 @@ returns-clause-room c =
 
 pub set_due-requires-clause-dues : goal.set_due-requires-clause-dues
 set_due-requires-clause-dues c = c.requires.room.dues
+
+pub returns-clause-moved : goal.returns-clause-moved
+returns-clause-moved c = grind arith
+
+pub returns-clause-class : goal.returns-clause-class
+returns-clause-class c = grind arith

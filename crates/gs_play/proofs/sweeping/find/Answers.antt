@@ -101,3 +101,12 @@ returns-else-row-side-clause-room c =
 pub returns-else-row-side-clause-tells : goal.returns-else-row-side-clause-tells
 returns-else-row-side-clause-tells c = tells_same (side_frame c.args.side.now) (side_lists c.args.side.now) c.args.tally.now c.add_up.new.tally
     (c.add_up.ensures.found.picks) c.add_up.ensures.moved
+
+pub choose-requires-clause-dues : goal.choose-requires-clause-dues
+choose-requires-clause-dues c = grind arith
+
+pub add_up-requires-clause-dues : goal.add_up-requires-clause-dues
+add_up-requires-clause-dues c = grind arith
+
+pub choose-requires-clause-point : goal.choose-requires-clause-point
+choose-requires-clause-point c = grind arith

@@ -175,3 +175,6 @@ returns-in_default-clause-tells c = c.find.ensures.tells
 
 pub find-requires-clause-room : goal.find-requires-clause-room
 find-requires-clause-room c = c.requires.room
+
+pub overflow_sub-class : goal.overflow_sub-class
+overflow_sub-class c = grind arith

@@ -57,3 +57,12 @@ sweep_block-requires-clause-behind c = λ k lo hi. c.loop-block.invariant.none k
 
 pub returns-clause-room : goal.returns-clause-room
 returns-clause-room c = c.loop-block.invariant.room
+
+pub returns-clause-settled : goal.returns-clause-settled
+returns-clause-settled c = grind arith
+
+pub returns-clause-tells : goal.returns-clause-tells
+returns-clause-tells c = grind arith
+
+pub sweep_block-requires-clause-block : goal.sweep_block-requires-clause-block
+sweep_block-requires-clause-block c = omega arith

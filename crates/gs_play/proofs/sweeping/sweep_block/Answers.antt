@@ -108,3 +108,39 @@ index-row-requires c =
 
 pub returns-clause-tells : goal.returns-clause-tells
 returns-clause-tells c = c.loop-left.invariant.tells
+
+pub index-requires : goal.index-requires
+index-requires c = grind arith
+
+pub past_due-left-requires-in-loop-left-clause-order : goal.past_due-left-requires-in-loop-left-clause-order
+past_due-left-requires-in-loop-left-clause-order c = grind arith
+
+pub renew-requires-clause-dues : goal.renew-requires-clause-dues
+renew-requires-clause-dues c = grind arith
+
+pub renew-requires-clause-whole : goal.renew-requires-clause-whole
+renew-requires-clause-whole c = omega arith
+
+pub sweep_row-requires-clause-from : goal.sweep_row-requires-clause-from
+sweep_row-requires-clause-from c = grind arith
+
+pub sweep_row-requires-clause-turns : goal.sweep_row-requires-clause-turns
+sweep_row-requires-clause-turns c = grind arith
+
+pub sweep_row-requires-clause-order : goal.sweep_row-requires-clause-order
+sweep_row-requires-clause-order c = grind arith
+
+pub renew-requires-clause-block : goal.renew-requires-clause-block
+renew-requires-clause-block c = omega arith
+
+pub renew-requires-clause-order : goal.renew-requires-clause-order
+renew-requires-clause-order c = grind arith
+
+pub renew-requires-clause-within : goal.renew-requires-clause-within
+renew-requires-clause-within c = omega arith
+
+pub past_due-left-requires-clause-order : goal.past_due-left-requires-clause-order
+past_due-left-requires-clause-order c = grind arith
+
+pub past_due-left-requires-clause-within : goal.past_due-left-requires-clause-within
+past_due-left-requires-clause-within c = grind arith

@@ -64,3 +64,18 @@ returns-clause-room c = c.loop-cell.invariant.room
 
 pub returns-clause-settled : goal.returns-clause-settled
 returns-clause-settled c = λ k lo hi. c.loop-cell.invariant.none k (omega (arith, lo, c.loop-cell-test.false)) hi
+
+pub returns-clause-tells : goal.returns-clause-tells
+returns-clause-tells c = grind arith
+
+pub loop-cell-smaller : goal.loop-cell-smaller
+loop-cell-smaller c = grind arith
+
+pub settle-requires-clause-below : goal.settle-requires-clause-below
+settle-requires-clause-below c = omega arith
+
+pub settle-requires-clause-from : goal.settle-requires-clause-from
+settle-requires-clause-from c = grind arith
+
+pub settle-requires-clause-order : goal.settle-requires-clause-order
+settle-requires-clause-order c = grind arith

@@ -29,3 +29,15 @@ returns-clause-blocks c = c.set_due.ensures.blocks ∙ ap (λ (d : Dues). length
 
 pub returns-clause-dues : goal.returns-clause-dues
 returns-clause-dues c = c.set_due.ensures.dues
+
+pub set_due-requires-clause-dues : goal.set_due-requires-clause-dues
+set_due-requires-clause-dues c = grind arith
+
+pub pick-requires-clause-cell : goal.pick-requires-clause-cell
+pick-requires-clause-cell c = grind arith
+
+pub pick-requires-clause-point : goal.pick-requires-clause-point
+pick-requires-clause-point c = grind arith
+
+pub returns-clause-worths : goal.returns-clause-worths
+returns-clause-worths c = grind arith

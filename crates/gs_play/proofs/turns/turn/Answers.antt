@@ -93,3 +93,12 @@ returns-clause-later c = c.next_turn.ensures.later
 
 pub returns-clause-most : goal.returns-clause-most
 returns-clause-most c = c.next_turn.ensures.most
+
+pub sweep-requires-2-clause-turns : goal.sweep-requires-2-clause-turns
+sweep-requires-2-clause-turns c = grind arith
+
+pub sweep-requires-2-clause-order : goal.sweep-requires-2-clause-order
+sweep-requires-2-clause-order c = grind arith
+
+pub invariant_of-first : goal.invariant_of-first
+invariant_of-first c = grind arith

@@ -85,3 +85,6 @@ lay_all-requires-clause-points c = omega (arith, c.deref_mut.ensures.len, c.in_o
 
 pub lay_all-requires-clause-ends : goal.lay_all-requires-clause-ends
 lay_all-requires-clause-ends c = omega (arith, c.deref_mut-2.ensures.len, c.in_ok-to_ends.ensures.len, c.end_total.ensures)
+
+pub overflow_cast-end_total : goal.overflow_cast-end_total
+overflow_cast-end_total c = grind arith
