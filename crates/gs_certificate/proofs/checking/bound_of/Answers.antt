@@ -25,3 +25,6 @@ fraction-requires-clause-positive c = subst (λ (z : ℤ). pos 0 <ℤ z) (sym (s
 
 pub overflow_mul-scale : goal.overflow_mul-scale
 overflow_mul-scale c = grind arith
+
+pub fraction-requires-clause-fits : goal.fraction-requires-clause-fits
+fraction-requires-clause-fits c = grind arith

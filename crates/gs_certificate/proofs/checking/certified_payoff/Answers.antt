@@ -44,3 +44,18 @@ invariant_of-second c = record {
   two = omega arith;
   plan = c.requires.x;
 }
+
+pub returns-in-Some-clause-exact : goal.returns-in-Some-clause-exact
+returns-in-Some-clause-exact c = grind arith
+
+pub invariant_of-first : goal.invariant_of-first
+invariant_of-first c = grind arith
+
+pub plans_pay-requires-clause-first : goal.plans_pay-requires-clause-first
+plans_pay-requires-clause-first c = omega arith
+
+pub returns-in-Some-clause-paid : goal.returns-in-Some-clause-paid
+returns-in-Some-clause-paid c = omega arith
+
+pub returns-in-Some-clause-bounds : goal.returns-in-Some-clause-bounds
+returns-in-Some-clause-bounds c = omega arith

@@ -83,3 +83,9 @@ kept_at-requires-clause-ends c = grind arith
 
 pub kept_at-requires-clause-class : goal.kept_at-requires-clause-class
 kept_at-requires-clause-class c = grind arith
+
+pub number_at_end-number-requires-clause-plan : goal.number_at_end-number-requires-clause-plan
+number_at_end-number-requires-clause-plan c = grind arith
+
+pub kept_at-requires-clause-end : goal.kept_at-requires-clause-end
+kept_at-requires-clause-end c = omega arith

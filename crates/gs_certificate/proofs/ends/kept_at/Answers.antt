@@ -22,3 +22,6 @@ returns c =
     let sum = c.index-2.ensures ∙ get_or_default sums (c.index.result.now + k - 1) c.index-2.result.now (pos 0) inside
     ∙ ap (λ i. get_or sums i (pos 0)) place ∙ e.paid z k c.requires.end c.requires.class in
     ap (λ (n : ℤ). to_z w128 (of_z w128 n)) sum ∙ sym (kept _ (end_small d z k c.requires.end c.requires.class))
+
+pub index-requires-2 : goal.index-requires-2
+index-requires-2 c = grind (arith, common_steps)

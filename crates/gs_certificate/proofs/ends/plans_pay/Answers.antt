@@ -39,3 +39,6 @@ returns c =
 
 pub end_paid-requires-clause-ends : goal.end_paid-requires-clause-ends
 end_paid-requires-clause-ends c = grind arith
+
+pub end_paid-requires-clause-x : goal.end_paid-requires-clause-x
+end_paid-requires-clause-x c = grind arith

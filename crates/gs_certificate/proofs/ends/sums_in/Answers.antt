@@ -84,3 +84,18 @@ slice_bounds-extend_from_slice-end c = grind arith
 
 pub end_sums-requires-clause-other : goal.end_sums-requires-clause-other
 end_sums-requires-clause-other c = grind arith
+
+pub end_sums-requires-clause-end : goal.end_sums-requires-clause-end
+end_sums-requires-clause-end c = omega arith
+
+pub class_total-count-requires-clause-top : goal.class_total-count-requires-clause-top
+class_total-count-requires-clause-top c = omega arith
+
+pub end_sums-requires-clause-some : goal.end_sums-requires-clause-some
+end_sums-requires-clause-some c = omega arith
+
+pub end_round-requires : goal.end_round-requires
+end_round-requires c = omega arith
+
+pub end_sums-requires-clause-two : goal.end_sums-requires-clause-two
+end_sums-requires-clause-two c = omega arith

@@ -6,3 +6,6 @@ sums_in-requires-clause-row c = grind arith
 
 pub sums_in-requires-clause-wide : goal.sums_in-requires-clause-wide
 sums_in-requires-clause-wide c = grind arith
+
+pub returns : goal.returns
+returns c = grind arith

@@ -49,3 +49,9 @@ loop-choice-preserved c m lm =
 
 pub returns : goal.returns
 returns c m lm = c.loop-choice.invariant m (omega (arith, c.loop-choice-test.false, c.loop-choice.auto.choice-end, c.move_total-choice-end.ensures.value))
+
+pub loop-choice-init : goal.loop-choice-init
+loop-choice-init c = grind arith
+
+pub worth_of-requires-clause-ways : goal.worth_of-requires-clause-ways
+worth_of-requires-clause-ways c = grind arith

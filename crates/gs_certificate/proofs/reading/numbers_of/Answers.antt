@@ -36,3 +36,9 @@ returns-in-None c =
     sym c.loop-text.invariant.so_far
     ∙ ap (joined c.loop-text.numbers.items) (rest_refused c.args.player c.loop-text.text-index c.args.texts.now _ c.loop-text-test.true none)
     ∙ ap (λ k. Err (fault.Value c.args.player k)) at
+
+pub as_bytes-requires-text-self : goal.as_bytes-requires-text-self
+as_bytes-requires-text-self c = grind arith
+
+pub offset_bounds-texts-text-index : goal.offset_bounds-texts-text-index
+offset_bounds-texts-text-index c = grind arith

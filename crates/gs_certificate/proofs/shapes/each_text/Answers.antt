@@ -34,3 +34,9 @@ returns-in-None c = grind (arith, common_steps)
 
 pub returns : goal.returns
 returns c = grind (arith, common_steps)
+
+pub loop-item-init : goal.loop-item-init
+loop-item-init c = grind arith
+
+pub push-requires-text-value : goal.push-requires-text-value
+push-requires-text-value c = grind arith

@@ -3,3 +3,6 @@ use Rattle.gs_certificate.proofs.shapes.named.Goals as goal
 
 pub returns-in-Some : goal.returns-in-Some
 returns-in-Some c = grind arith
+
+pub returns-in-None : goal.returns-in-None
+returns-in-None c = grind arith

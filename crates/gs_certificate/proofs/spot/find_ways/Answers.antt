@@ -51,3 +51,6 @@ loop-choice-init c = record {
   each = λ m d l. absurd (omega (arith, l));
   leads = λ m d l. absurd (omega (arith, l));
 }
+
+pub target_at-to-requires-clause-choice : goal.target_at-to-requires-clause-choice
+target_at-to-requires-clause-choice c = grind arith

@@ -14,3 +14,9 @@ loop-i-preserved c =
       value = ap (λ (k : ℕ). c.loop-i.size * 10 + k) c.from.ensures ∙ value_more bs i c.loop-i.size c.loop-i-test.true c.loop-i.invariant.value low high;
       few = omega (arith, c.from.ensures, low, high, c.if-size-ge100000000000000000.false);
     }
+
+pub overflow_add-size : goal.overflow_add-size
+overflow_add-size c = grind arith
+
+pub overflow_sub-b : goal.overflow_sub-b
+overflow_sub-b c = grind arith

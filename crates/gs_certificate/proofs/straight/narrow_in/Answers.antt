@@ -39,3 +39,9 @@ returns-in-34-clause-small c =
     let z = c.narrow_number.result in
     let n = narrow c.sign-negative.result.0 c.digits_in-size.result.0 c.digits_in-size.result.0 z refl c.digits_in-size.ensures.few c.narrow_number.ensures in
     subst (λ (x : ℤ). unsigned_abs x < 2 ^ 90) (kept z n.1) n.1
+
+pub bounds-rest-0 : goal.bounds-rest-0
+bounds-rest-0 c = grind arith
+
+pub narrow_number-requires : goal.narrow_number-requires
+narrow_number-requires c = grind arith

@@ -1,4 +1,4 @@
-use Rattle.std.proofs.Common.{◌≡◌, ℕ, ◌+◌, ◌*◌, ◌^◌, refl, ap, ◌∙◌, arith, of_z, to_z}
+use Rattle.std.proofs.Common.{◌≡◌, ℕ, ◌+◌, ◌*◌, ◌^◌, refl, ap, ◌∙◌, arith, of_z, to_z, rules}
 use Rattle.std.specs.{Int.{w128}, List.{range_with_len}, Prelude.{◌+ℤ◌, unsigned_abs}}
 use Rattle.gs_model.specs.{Frame.{move_count}, Sums.{sum_z}}
 use Rattle.gs_model.proofs.Sparse.{abs_sum}
@@ -31,3 +31,6 @@ returns c =
     omega (arith, c.loop-choice-test.false, c.loop-choice.auto.choice-end, c.move_total-choice-end.ensures.value) in
     c.loop-choice.invariant.sum_is ∙ ap (λ n. sum_z (λ m. total_worth (frame_at k.side) (lists_at k.side) (claimed_totals k) q m c.args.class)
     (range_with_len 0 n)) all
+
+pub plus-sum-requires : goal.plus-sum-requires
+plus-sum-requires c = search rules

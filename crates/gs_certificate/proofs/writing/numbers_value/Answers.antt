@@ -1,4 +1,4 @@
-use Rattle.std.proofs.Common.{◌≡◌, ◌+◌, ◌<◌, ◌++◌, ◌∷◌, [], ℕ, List, length, get_or, map, take, sym, ap, ◌∙◌, rules}
+use Rattle.std.proofs.Common.{◌≡◌, ◌+◌, ◌<◌, ◌++◌, ◌∷◌, [], ℕ, List, length, get_or, map, take, sym, ap, ◌∙◌, rules, arith}
 use Rattle.std.proofs.lemmas.List.{map-append, take_all, take_more}
 use Rattle.std.specs.Prelude.{ℤ, pos}
 use Rattle.serde_json.specs.{Data.{array}, View.{items_of, view}, declared.value.Value.{Value}}
@@ -26,3 +26,6 @@ loop-number-preserved c =
 pub returns : goal.returns
 returns c = view-Array c.loop-number.values ∙ ap (λ ds. array (items_of ds)) (c.loop-number.invariant
     ∙ ap (map number_data) (take_all c.loop-number.number-index c.args.numbers.now c.loop-number-test.false))
+
+pub offset_bounds-numbers-number-index : goal.offset_bounds-numbers-number-index
+offset_bounds-numbers-number-index c = omega arith
