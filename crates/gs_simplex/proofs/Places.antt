@@ -1,13 +1,13 @@
 -- Numbers of rows that stand one after the other in one list, and what is at each place after a part was written.
 use Rattle.std.proofs.Common.{◌≡◌, ◌≢◌, ℕ, suc, ◌+◌, ◌-◌, ◌*◌, ◌<◌, ◌≤◌, ◌⊎◌, inl, inr, List, [], ◌++◌, length, take, drop, map, Vec, vec_items, Global, get_or}
-use Rattle.std.proofs.Common.{slice_index, slice_index_or, slice_set, ℤ, pos, neg_ℤ, ◌-ℤ◌, ◌*ℤ◌, ◌<ℤ◌, unsigned_abs, refl, sym, ap, subst, ◌∙◌, arith}
+use Rattle.std.proofs.Common.{slice_index, slice_index_or, slice_set, ℤ, pos, neg_ℤ, ◌*ℤ◌, ◌<ℤ◌, unsigned_abs, refl, sym, ap, subst, ◌∙◌, arith}
 use Rattle.std.proofs.{Common.{below_more, get_or-set_other, get_or-set_same}, lemmas.Bool.{cases_order, cases_lt}, lemmas.List.{length-drop, length-map}}
 use Rattle.std.proofs.lemmas.List.{get_or_append_left, get_or-append_right, get_or_default, get_or-drop, get_or-take, length-take-le, length-append}
 use Rattle.std.proofs.Math.ListN.{get_or-map}
 use Prim.Native.Nat.{◌∣◌}
 use borrow.Rule.Slice.PartMut.{put_mid}
 use Rattle.gs_simplex.specs.{Rows.{IsNarrow, IsPrimitive}, Numbers.{IsLeadOf}}
-use Rattle.gs_simplex.specs.Numbers.{at, cell, AreNarrowNumbers, IsAtMost, IsMultiple, IsDivided, cleared_by, IsReduced, IsTurned}
+use Rattle.gs_simplex.specs.Numbers.{at, cell, AreNarrowNumbers, IsAtMost, IsMultiple, IsDivided, IsTurned}
 use Rattle.gs_simplex.proofs.{Ring.{linear}, Multiples.{down_nonneg}}
 
 -- the numbers of a row of a list of rows
@@ -85,14 +85,6 @@ divided_same width old old' new new' some eo en u = record {
   multiple = multiple_same width old old' new new' eo en u.multiple;
   primitive = primitive_same_row (width - 1) new new' (λ j h. en j (omega arith)) u.primitive;
 }
-
-pub reduced_same : (lead lead' : ℕ → ℤ) (c width : ℕ) (old old' new new' : ℕ → ℤ) → c < width → ((j : ℕ) → j < width → lead j ≡ lead' j)
-    → ((j : ℕ) → j < width → old j ≡ old' j) → ((j : ℕ) → j < width → new j ≡ new' j)
-    → IsReduced lead c width old new → IsReduced lead' c width old' new'
-reduced_same lead lead' c width old old' new new' cw el eo en =
-    divided_same width (cleared_by lead c old) (cleared_by lead' c old') new new' (omega arith)
-    (λ j h. ap (λ t. t *ℤ old j -ℤ old c *ℤ lead j) (el c cw) ∙ ap (λ t. lead' c *ℤ t -ℤ old c *ℤ lead j) (eo j h)
-    ∙ ap (λ t. lead' c *ℤ old' j -ℤ t *ℤ lead j) (eo c cw) ∙ ap (λ t. lead' c *ℤ old' j -ℤ old' c *ℤ t) (el j h)) en
 
 pub at_most_same : (width most : ℕ) (old new : ℕ → ℤ) → ((j : ℕ) → j < width → old j ≡ new j) → IsAtMost width old most → IsAtMost width new most
 at_most_same width most old new e u j h = let P : ℤ → Type 0 = λ t. unsigned_abs t ≤ most in subst P (e j h) (u j h)

@@ -186,8 +186,7 @@ impl Table {
     {
         let rows = p.rows as usize;
         let mut stands = only_rows(alloc, p)?;
-        let owns = own_columns(alloc, rows, &stands)?;
-        let width = give_slots(rows, &owns, &mut stands) + 1;
+        let width = give_slots(rows, &own_columns(alloc, rows, &stands)?, &mut stands) + 1;
         let mut room = Room {
             lead: vec![in alloc; 0i64; width]?,
             mixed: vec![in alloc; 0i128; width]?,

@@ -89,3 +89,6 @@ returns c =
 
 pub listed_rows-requires-clause-pairs : goal.listed_rows-requires-clause-pairs
 listed_rows-requires-clause-pairs c = grind (arith, common_steps)
+
+pub prices-requires-clause-table : goal.prices-requires-clause-table
+prices-requires-clause-table c = grind arith

@@ -17,3 +17,6 @@ loop-j-preserved c =
 
 pub returns-clause-values : goal.returns-clause-values
 returns-clause-values c = grind arith
+
+pub value_at-requires-clause-row : goal.value_at-requires-clause-row
+value_at-requires-clause-row c = grind arith

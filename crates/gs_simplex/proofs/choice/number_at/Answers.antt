@@ -90,3 +90,6 @@ overflow_mul-start c = grind arith
 
 pub overflow_add-start : goal.overflow_add-start
 overflow_add-start c = grind arith
+
+pub returns-clause-value : goal.returns-clause-value
+returns-clause-value c = grind (arith, common_steps)

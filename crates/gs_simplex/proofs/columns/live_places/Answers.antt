@@ -26,3 +26,6 @@ loop-j-init c = grind (arith, common_steps)
 
 pub returns : goal.returns
 returns c = grind (arith, common_steps)
+
+pub bounds-live-found : goal.bounds-live-found
+bounds-live-found c = grind (arith, common_steps)

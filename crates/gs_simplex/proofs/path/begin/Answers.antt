@@ -26,3 +26,12 @@ start-requires-clause-small c =
 
 pub returns-then-count-gt-MOST_NUMBERS : goal.returns-then-count-gt-MOST_NUMBERS
 returns-then-count-gt-MOST_NUMBERS c = grind arith
+
+pub returns-in_err-basis : goal.returns-in_err-basis
+returns-in_err-basis c = grind arith
+
+pub open-requires-clause-small_cols : goal.open-requires-clause-small_cols
+open-requires-clause-small_cols c = grind arith
+
+pub open-requires-clause-small_rows : goal.open-requires-clause-small_rows
+open-requires-clause-small_rows c = grind arith

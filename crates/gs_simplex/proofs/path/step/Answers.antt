@@ -75,3 +75,21 @@ wide_stop-requires-clause-small_cols c = grind arith
 
 pub wide_stop-requires-clause-column : goal.wide_stop-requires-clause-column
 wide_stop-requires-clause-column c = grind arith
+
+pub overflow_add-p-in-Some : goal.overflow_add-p-in-Some
+overflow_add-p-in-Some c = omega arith
+
+pub overflow_cast-result-in-Leaves-2 : goal.overflow_cast-result-in-Leaves-2
+overflow_cast-result-in-Leaves-2 c = omega arith
+
+pub overflow_add-result-in-Leaves-2 : goal.overflow_add-result-in-Leaves-2
+overflow_add-result-in-Leaves-2 c = omega arith
+
+pub pivot-requires-clause-inside : goal.pivot-requires-clause-inside
+pivot-requires-clause-inside c = grind arith
+
+pub overflow_add-p : goal.overflow_add-p
+overflow_add-p c = omega arith
+
+pub wide_stop-requires-clause-size : goal.wide_stop-requires-clause-size
+wide_stop-requires-clause-size c = grind arith

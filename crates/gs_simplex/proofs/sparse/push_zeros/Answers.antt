@@ -3,3 +3,6 @@ use Rattle.gs_simplex.proofs.sparse.push_zeros.Goals as goal
 
 pub loop-preserved : goal.loop-preserved
 loop-preserved c = grind (arith, common_steps)
+
+pub returns : goal.returns
+returns c = grind arith

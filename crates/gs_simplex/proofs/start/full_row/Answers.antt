@@ -22,3 +22,6 @@ returns-then-i-p c =
     let is = c.in_ok-row.ensures ∙ c.index.ensures ∙ get_or_default rows i c.index.result.now [] inside
     ∙ ap (λ (x : List (List ℤ)). slice_index_or x i []) same in
     raw_of_row p i c.in_ok-row.row.items c.push.new.self.items c.requires.shaped c.if-i-p.true is c.in_ok-push.ensures.items
+
+pub index-requires : goal.index-requires
+index-requires c = grind arith

@@ -44,3 +44,6 @@ pub note_row-requires : goal.note_row-requires
 note_row-requires c =
     ap (λ (x : List ℤ). length x) c.deref.ensures.value ∙ c.in_ok-full_row.ensures.long
     ∙ sym (ap (λ (x : List ℕ). length x) c.deref_mut.ensures.value ∙ c.loop-i.invariant.long)
+
+pub returns-clause-long : goal.returns-clause-long
+returns-clause-long c = grind arith

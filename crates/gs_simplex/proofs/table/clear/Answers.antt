@@ -225,3 +225,6 @@ take_lead-count-requires-clause-inside c = grind arith
 
 pub clear_column-wide-requires-clause-room : goal.clear_column-wide-requires-clause-room
 clear_column-wide-requires-clause-room c = grind arith
+
+pub clear_column-wide-requires-clause-spare : goal.clear_column-wide-requires-clause-spare
+clear_column-wide-requires-clause-spare c = grind arith

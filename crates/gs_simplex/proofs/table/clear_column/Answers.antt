@@ -126,3 +126,6 @@ reduce_at-requires-clause-room c = grind arith
 
 pub bounds-tops-i-in-loop-i : goal.bounds-tops-i-in-loop-i
 bounds-tops-i-in-loop-i c = grind arith
+
+pub offset_bounds-tops-i-in-Ok : goal.offset_bounds-tops-i-in-Ok
+offset_bounds-tops-i-in-Ok c = omega arith

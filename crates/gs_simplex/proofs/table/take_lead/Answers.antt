@@ -73,3 +73,9 @@ take_row-requires-clause-room c = grind arith
 
 pub take_row-requires-clause-long : goal.take_row-requires-clause-long
 take_row-requires-clause-long c = grind arith
+
+pub returns-clause-support : goal.returns-clause-support
+returns-clause-support c = grind arith
+
+pub take_row-requires-clause-inside : goal.take_row-requires-clause-inside
+take_row-requires-clause-inside c = grind arith

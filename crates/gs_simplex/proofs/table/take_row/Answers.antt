@@ -30,3 +30,6 @@ divide_row-requires-clause-narrow c = grind arith
 
 pub returns-clause-narrow : goal.returns-clause-narrow
 returns-clause-narrow c = grind arith
+
+pub returns-clause-same : goal.returns-clause-same
+returns-clause-same c = grind arith

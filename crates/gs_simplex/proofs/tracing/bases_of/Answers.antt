@@ -81,3 +81,6 @@ listed_columns-requires-in-loop-place-clause-small_rows c = c.requires.small_row
 
 pub listed_columns-requires-in-loop-place-clause-small_cols : goal.listed_columns-requires-in-loop-place-clause-small_cols
 listed_columns-requires-in-loop-place-clause-small_cols c = c.requires.small_cols
+
+pub listed_columns-requires-clause-small_rows : goal.listed_columns-requires-clause-small_rows
+listed_columns-requires-clause-small_rows c = grind arith

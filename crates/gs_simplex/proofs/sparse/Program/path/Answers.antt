@@ -39,3 +39,6 @@ returns c =
 
 pub follow_noting-requires-clause-ready : goal.follow_noting-requires-clause-ready
 follow_noting-requires-clause-ready c = grind arith
+
+pub aim_value-aim-requires-clause-table : goal.aim_value-aim-requires-clause-table
+aim_value-aim-requires-clause-table c = grind arith

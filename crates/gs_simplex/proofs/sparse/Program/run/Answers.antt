@@ -62,3 +62,6 @@ begin-requires-clause-shaped c = grind arith
 
 pub best-requires-clause-small_rows : goal.best-requires-clause-small_rows
 best-requires-clause-small_rows c = grind arith
+
+pub best-requires-clause-table : goal.best-requires-clause-table
+best-requires-clause-table c = grind arith

@@ -287,3 +287,9 @@ first_wide-requires-clause-small c = grind arith
 
 pub clear-requires-clause-room : goal.clear-requires-clause-room
 clear-requires-clause-room c = grind arith
+
+pub live_places-found-requires-clause-small : goal.live_places-found-requires-clause-small
+live_places-found-requires-clause-small c = grind arith
+
+pub live_places-found-requires-clause-some : goal.live_places-found-requires-clause-some
+live_places-found-requires-clause-some c = grind arith

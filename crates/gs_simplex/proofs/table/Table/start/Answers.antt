@@ -129,7 +129,7 @@ pub overflow_add-width : goal.overflow_add-width
 overflow_add-width c = grind arith
 
 pub give_slots-width-requires-clause-long : goal.give_slots-width-requires-clause-long
-give_slots-width-requires-clause-long c = ap (λ (x : List ℕ). length x) c.deref-2.ensures.value ∙ c.in_ok-owns.ensures
+give_slots-width-requires-clause-long c = ap (λ (x : List ℕ). length x) c.deref-2.ensures.value ∙ c.in_ok-own_columns.ensures
 
 stands_fit : (m n k s : ℕ) → k ≡ n + 2 → m + 1 ≤ s → s ≤ 1048576 → n < 2 ^ 31 → m + k < 2 ^ 32
 stands_fit m n k s e h small l = omega (arith, e, h, small, l)
