@@ -48,3 +48,12 @@ returns-else-col-first_slack-clause-number c = grind (arith, common_steps)
 
 pub returns-else-col-first_slack-clause-narrow : goal.returns-else-col-first_slack-clause-narrow
 returns-else-col-first_slack-clause-narrow c = narrow_passed c.one_or_none.result c.one_or_none.ensures.narrow
+
+pub returns-then-col-first_slack-clause-narrow : goal.returns-then-col-first_slack-clause-narrow
+returns-then-col-first_slack-clause-narrow c = grind arith
+
+pub overflow_add-col : goal.overflow_add-col
+overflow_add-col c = grind arith
+
+pub overflow_mul-col : goal.overflow_mul-col
+overflow_mul-col c = grind arith

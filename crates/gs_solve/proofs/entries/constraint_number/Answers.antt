@@ -10,3 +10,6 @@ returns-then-col-layout-clause-number c = grind (arith, common_steps)
 
 pub returns-after-col-cols-clause-narrow : goal.returns-after-col-cols-clause-narrow
 returns-after-col-cols-clause-narrow c = narrow_passed c.one_or_none.result c.one_or_none.ensures.narrow
+
+pub returns-then-col-layout-clause-narrow : goal.returns-then-col-layout-clause-narrow
+returns-then-col-layout-clause-narrow c = grind arith

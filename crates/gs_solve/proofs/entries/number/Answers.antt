@@ -14,3 +14,9 @@ pub returns-else-row-layout-clause-number : goal.returns-else-row-layout-clause-
 returns-else-row-layout-clause-number c = λ f lists u. kept_64 c.answer_number.result c.answer_number.ensures.narrow
     ∙ c.answer_number.ensures.number f lists u
     ∙ ap (λ i. form_number f lists i c.args.col) (whole c.args.layout.now.size.one_rows c.args.row c.if-row-layout.false)
+
+pub returns-else-row-layout-clause-narrow : goal.returns-else-row-layout-clause-narrow
+returns-else-row-layout-clause-narrow c = grind arith
+
+pub returns-then-row-layout-clause-narrow : goal.returns-then-row-layout-clause-narrow
+returns-then-row-layout-clause-narrow c = grind arith

@@ -36,3 +36,6 @@ returns-in_err-program-clause-refused c = grind arith
 
 pub of-requires : goal.of-requires
 of-requires c = c.of-size.ensures
+
+pub returns-clause-refused : goal.returns-clause-refused
+returns-clause-refused c = omega arith

@@ -1,4 +1,4 @@
-use Rattle.std.proofs.Common.{◌≡◌, ◌+◌, ◌*◌, ◌^◌, ◌<◌, ℕ, List, length, get_or, take, refl, ap, ◌∙◌, arith, rules, pos, ◌*ℤ◌, unsigned_abs, FitsSigned}
+use Rattle.std.proofs.Common.{◌≡◌, ◌+◌, ◌*◌, ◌^◌, ◌<◌, ℕ, List, length, get_or, take, refl, ap, ◌∙◌, arith, pos, ◌*ℤ◌, unsigned_abs, FitsSigned}
 use Rattle.std.proofs.{Common.{of_z, to_z, to_z-of_z}, lemmas.Nat.{mul-add-lt, mul-le}, Math.Nat.{mul_comm}}
 use Rattle.std.specs.Int.{w64}
 use Rattle.gs_model.specs.{Frame.{end_at}, Sums.{sum_z}}
@@ -48,7 +48,7 @@ inside c =
 
 pays_is : (c : After-pays) → to_z w64 (of_z w64 c.pays.result) ≡ pair_pays 1 (end_at (abstract_frame c.args.form.now) c.args.end) c.in-Some.pair
 pays_is c =
-    let fits : FitsSigned w64 c.pays.result = search rules in to_z-of_z {w = w64} {z = c.pays.result} fits ∙ c.pays.ensures
+    let fits : FitsSigned w64 c.pays.result = record { sfits = c.pays.type_inv } in to_z-of_z {w = w64} {z = c.pays.result} fits ∙ c.pays.ensures
     ∙ ap (λ e. pair_pays 1 e c.in-Some.pair) c.end_in-at.ensures.value
 
 pub loop-pair-init : goal.loop-pair-init
@@ -137,3 +137,9 @@ overflow_add-first c = record {
 
 pub sequence_at-two-requires-clause-end : goal.sequence_at-two-requires-clause-end
 sequence_at-two-requires-clause-end c = c.requires.end
+
+pub overflow_cast-two : goal.overflow_cast-two
+overflow_cast-two c = grind arith
+
+pub overflow_mul-first : goal.overflow_mul-first
+overflow_mul-first c = grind arith

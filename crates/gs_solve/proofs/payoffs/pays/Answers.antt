@@ -42,3 +42,6 @@ returns-in-Folded1 c =
     let p = c.args.pair in
     let is = ap (λ k. pair_pays 1 (end_of (record { round = e.round; kind = k; put = e.put; one = e.one; two = e.two })) p) c.in-Folded1.is in
     lost c.from-put.result e.put p.weight c.from-put.ensures (omega arith) c.requires.few ∙ sym is
+
+pub overflow_sub-result : goal.overflow_sub-result
+overflow_sub-result c = grind arith
