@@ -1,4 +1,5 @@
-use Rattle.std.proofs.{Common.{arith}, lemmas.Grind.{common_steps}}
+use Rattle.std.proofs.{Common.{ap, ◌∙◌, arith}, lemmas.Grind.{common_steps}}
+use Rattle.clap.specs.Words.{new_app}
 use Rattle.gs_words.proofs.Added.{with_next}
 use Rattle.gs_words.proofs.command.command_for.Goals as goal
 
@@ -10,3 +11,9 @@ loop-choice-preserved c = record {
 
 pub returns : goal.returns
 returns c = grind (arith, common_steps)
+
+pub loop-choice-init : goal.loop-choice-init
+loop-choice-init c = record {
+  all = c.choices_of-choice-items.ensures;
+  so_far = (c.new-command.ensures.app ∙ ap new_app c.word-word.ensures, c.new-command.ensures.local);
+}

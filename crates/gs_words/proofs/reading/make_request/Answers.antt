@@ -42,3 +42,9 @@ returns-clause-within c = (c.in_ok-ranks.ensures.within, c.in_ok-suits.ensures.w
 
 pub returns-in_err-ranks-clause-within : goal.returns-in_err-ranks-clause-within
 returns-in_err-ranks-clause-within c = rw c.from_residual-in_err-ranks.ensures tt
+
+pub returns-in_err-kind-clause-within : goal.returns-in_err-kind-clause-within
+returns-in_err-kind-clause-within c = rw c.from_residual-in_err-kind.ensures tt
+
+pub returns-in_err-value_of-clause-within : goal.returns-in_err-value_of-clause-within
+returns-in_err-value_of-clause-within c = rw c.from_residual.ensures tt

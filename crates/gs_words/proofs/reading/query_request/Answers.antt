@@ -23,3 +23,9 @@ returns-clause-value c =
 
 pub returns-clause-within : goal.returns-clause-within
 returns-clause-within c = c.in_ok-player.ensures.within
+
+pub returns-in_err-signal-clause-within : goal.returns-in_err-signal-clause-within
+returns-in_err-signal-clause-within c = rw c.from_residual-in_err-signal.ensures tt
+
+pub returns-in_err-line-clause-within : goal.returns-in_err-line-clause-within
+returns-in_err-line-clause-within c = rw c.from_residual-in_err-line.ensures tt
