@@ -1,5 +1,5 @@
 -- Reading the members of a list one after the other, as a loop does.
-use Rattle.std.proofs.Common.{◌≡◌, ℕ, ◌+◌, ◌≤◌, ◌<◌, List, [], ◌∷◌, ◌++◌, map, drop, length, get_or, Result, Ok, Err, refl, sym, ap, ◌∙◌, append_assoc, add-one}
+use Rattle.std.proofs.Common.{◌≡◌, ℕ, ◌+◌, ◌≤◌, ◌<◌, List, [], ◌∷◌, ◌++◌, map, drop, length, get_or, Result, Ok, Err, IfOk, refl, sym, ap, ◌∙◌, append_assoc, add-one}
 use Rattle.std.specs.Result.{IsErrAnd}
 use Rattle.std.proofs.{Common.{subst}, lemmas.List.{append-nil, drop_all}, Math.Seq.{drop-cons}}
 use Rattle.gs_game.specs.declared.faults.GameFault.{GameFault}
@@ -78,3 +78,8 @@ pub handed_on : {A X Y : Type 0} (view : A → Y) (e : FileFault) (result : Resu
     → IsErrAnd result (λ f. f ≡ e) → Fails e one → ((f : Fault) → one ≡ Err f → total ≡ Err f) → Gives view result total
 handed_on view e (Ok x) one total is h on = absurd is
 handed_on view e (Err f) one total is h on = subst (λ k. Fails k total) (sym is) (fails_so e one total h on)
+
+-- a refusal has no value that a clause on values could be about
+pub no_value : {A : Type 0} (P : A → Type 0) (e : FileFault) (r : Result A FileFault) → IsErrAnd r (λ f. f ≡ e) → IfOk r P
+no_value P e (Ok x) h = absurd h
+no_value P e (Err f) h = tt

@@ -1,16 +1,44 @@
 -- The steps of reading a round, of checking what is stated, and of reading the game:
 -- a fault of one is the fault of all, where those before it give values.
-use Rattle.std.proofs.Common.{◌≡◌, ℕ, ℤ, Bool, List, Ok, Err, refl}
+use Rattle.std.proofs.Common.{◌≡◌, ℕ, ℤ, Bool, true, false, List, Ok, Err, refl}
 use Rattle.toml.specs.Data.{Data, Members}
 use Rattle.gs_card.specs.Decks.{DeckValue}
 use Rattle.gs_model.specs.Game.{Ranking, Round as Rules}
-use Rattle.gs_file.specs.{Faults.{Fault}, Keys.{top, within_round}, Tables.{each, only, required, whole_number, within}}
-use Rattle.gs_file.specs.Reading.{Play, PlayValues, Round, Top, bonus_at, counted, has_tree, play_typed, play_values, play_within, ranking_at}
+use Rattle.gs_file.specs.{Faults.{Fault}, Keys.{top, within_round}, Tables.{each, only, required, text, whole_number, within}}
+use Rattle.gs_file.specs.Reading.{Limit_values, Play, PlayValues, Round, Tree_value, Top, bonus_at, counted, has_tree, play_typed, play_values, play_within, ranking_at}
 use Rattle.gs_file.specs.Reading.{Limit_of, Stated, TopValues, deck_at, game_at, lawful, round_built, round_keys, round_table_at, round_within}
 use Rattle.gs_file.specs.Reading.{stated_fields_at, typed_at, values_at}
 use Rattle.gs_file.specs.{declared.fault.Place.{Place}, declared.form.Form.{Form}}
 use Rattle.gs_file.specs.declared.fault.Key.TheVariants as key
 use Rattle.gs_file.proofs.TopSteps.{known}
+
+-- ---- the values of a round's betting
+
+pub values_stop_tree : (form : Form) (n : ℕ) (table : Members) → {b : Bool} → b ≡ true → {p : Place} → p ≡ within_round n key.Tree → (f : Fault)
+    → required form table p ≡ Err f → play_values form n table b ≡ Err f
+values_stop_tree form n table by at f e = rw (by, known (required form table) at e) refl
+
+pub values_stop_bet : (form : Form) (n : ℕ) (table : Members) → {b : Bool} → b ≡ false → {p : Place} → p ≡ within_round n key.Bet → (f : Fault)
+    → required form table p ≡ Err f → play_values form n table b ≡ Err f
+values_stop_bet form n table by at f e = rw (by, known (required form table) at e) refl
+
+pub values_stop_cap : (form : Form) (n : ℕ) (table : Members) → {b : Bool} → b ≡ false → {p : Place} → p ≡ within_round n key.Bet → {bet : Data}
+    → required form table p ≡ Ok bet → {q : Place} → q ≡ within_round n key.Cap → (f : Fault) → required form table q ≡ Err f → play_values form n table b ≡ Err f
+values_stop_cap form n table by at e at2 f e2 = rw (by, known (required form table) at e, known (required form table) at2 e2) refl
+
+-- ---- the typed values of a round's betting
+
+pub typed_stop_tree : (n : ℕ) {tree : Data} {vs : PlayValues} → vs ≡ Tree_value tree → {p : Place} → p ≡ within_round n key.Tree → (f : Fault) → text p tree ≡ Err f
+    → play_typed n vs ≡ Err f
+typed_stop_tree n {tree} is at f e = rw (is, known (λ p. text p tree) at e) refl
+
+pub typed_stop_bet : (n : ℕ) {bet cap : Data} {vs : PlayValues} → vs ≡ Limit_values bet cap → {p : Place} → p ≡ within_round n key.Bet → (f : Fault)
+    → whole_number p bet ≡ Err f → play_typed n vs ≡ Err f
+typed_stop_bet n {bet} is at f e = rw (is, known (λ p. whole_number p bet) at e) refl
+
+pub typed_stop_cap : (n : ℕ) {bet cap : Data} {vs : PlayValues} → vs ≡ Limit_values bet cap → {p : Place} → p ≡ within_round n key.Bet → {z : ℤ}
+    → whole_number p bet ≡ Ok z → {q : Place} → q ≡ within_round n key.Cap → (f : Fault) → whole_number q cap ≡ Err f → play_typed n vs ≡ Err f
+typed_stop_cap n {bet} {cap} is at e at2 f e2 = rw (is, known (λ p. whole_number p bet) at e, known (λ p. whole_number p cap) at2 e2) refl
 
 -- ---- a round, each value by its type
 

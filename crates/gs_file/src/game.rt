@@ -32,7 +32,6 @@ fn document_of(alloc: Global, text: &str) -> Result<Table, FileFault>
 }
 
 /// Returns the game that a table states, or its first fault.
-#[tactic(auto, unfolding(crate::specs::Reading::game_at))]
 pub fn game_of(alloc: Global, form: Form, table: &Table) -> Result<ValidGame, FileFault>
     ensures { Gives valid_view result (game_at form (table_view table.now)) }
 {

@@ -83,7 +83,6 @@ fn bonus_of(form: Form, table: &Table, version: Version) -> Result<Option<&Value
 }
 
 /// Returns the values at the top, or the first fault.
-#[tactic(auto, unfolding(crate::specs::Reading::values_at))]
 pub fn values_of(form: Form, table: &Table) -> Result<TopValues<'_>, FileFault>
     ensures { Gives values_view result (values_at form (table_view table.now)) }
 {
@@ -120,7 +119,6 @@ fn bonus_typed(alloc: Global, bonus: Option<&Value>) -> Result<Option<Vec<i64>>,
 }
 
 /// Returns the fields at the top, each of its type, or the first fault.
-#[tactic(auto, unfolding(crate::specs::Reading::typed_at))]
 pub fn typed_of<'t>(alloc: Global, values: &TopValues<'t>) -> Result<TopFields<'t>, FileFault>
     ensures { Gives top_view result (typed_at (values_view values.now)) }
 {

@@ -1,6 +1,6 @@
-use Rattle.std.proofs.Common.{arith, subst, sym}
+use Rattle.std.proofs.Common.{◌≤◌, rules, subst, sym}
 use Rattle.toml.specs.View.{table_view}
-use Rattle.gs_file.specs.{Answers.{Gives}, Reading.{game_at}, Views.{valid_view}}
+use Rattle.gs_file.specs.{Answers.{Gives}, Views.{valid_view}}
 use Rattle.gs_file.proofs.{Loop.{handed_on}, RoundSteps.{game_give, game_stops_deck, game_stops_fields, game_stops_rounds, game_stops_stated}}
 use Rattle.gs_file.proofs.RoundSteps.{game_stops_values}
 use Rattle.gs_file.proofs.game.game_of.Goals as goal
@@ -39,21 +39,25 @@ returns c =
     c.in_ok-fields.ensures c.in_ok-stated.ensures.gives c.in_ok-deck.ensures rounds)) c.checked.ensures
 
 pub checked-requires-clause-bonus : goal.checked-requires-clause-bonus
-unfolding game_at
-checked-requires-clause-bonus c = grind arith
+checked-requires-clause-bonus c = c.in_ok-stated.stated.bonuses
 
 pub checked-requires-clause-cards : goal.checked-requires-clause-cards
-unfolding game_at
-checked-requires-clause-cards c = grind arith
+checked-requires-clause-cards c = c.in_ok-rounds.ensures.few
 
 pub rounds_built-requires : goal.rounds_built-requires
-unfolding game_at
-rounds_built-requires c = grind arith
+rounds_built-requires c = subst (λ n. n ≤ 4) (sym c.deref.ensures.len) c.in_ok-stated.ensures.few
 
 pub checked-requires-clause-some_ante : goal.checked-requires-clause-some_ante
-unfolding game_at
-checked-requires-clause-some_ante c = grind arith
+checked-requires-clause-some_ante c = c.in_ok-stated.stated.some
 
 pub checked-requires-clause-ante : goal.checked-requires-clause-ante
-unfolding game_at
-checked-requires-clause-ante c = grind arith
+checked-requires-clause-ante c = c.in_ok-stated.stated.little
+
+pub deck_of-requires-text-ranks : goal.deck_of-requires-text-ranks
+deck_of-requires-text-ranks c = search rules
+
+pub deck_of-requires-text-suits : goal.deck_of-requires-text-suits
+deck_of-requires-text-suits c = search rules
+
+pub deck_of-requires-text-copies : goal.deck_of-requires-text-copies
+deck_of-requires-text-copies c = search rules

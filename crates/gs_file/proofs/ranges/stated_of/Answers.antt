@@ -1,10 +1,11 @@
-use Rattle.std.proofs.{Common.{sym, ap, ◌∙◌, arith, rules}, lemmas.Grind.{common_steps}, lemmas.Int.{to_z-of_z}}
+use Rattle.std.proofs.{Common.{◌≤◌, length, subst, sym, ap, ◌∙◌, rules}, lemmas.Int.{to_z-of_z}}
 use Rattle.std.specs.Int.RustNames.{FitsSigned}
 use mir.Syntax.{w64}
 use Rattle.gs_file.specs.{Tables.{within}, Views.{stated_view, top_view}}
-use Rattle.gs_file.proofs.{Loop.{handed_on}, RoundSteps.{stated_give, stated_stops_ante, stated_stops_bonus, stated_stops_count}}
+use Rattle.gs_file.proofs.{Loop.{handed_on, no_value}, RoundSteps.{stated_give, stated_stops_ante, stated_stops_bonus, stated_stops_count}}
 use Rattle.gs_file.proofs.RoundSteps.{stated_stops_ranged, stated_stops_ranking, stated_stops_rounds}
 use Rattle.gs_file.proofs.ranges.stated_of.Goals as goal
+use Rattle.gs_file.proofs.ranges.stated_of.Goals.{After-top}
 
 pub returns-in_err-check_count-clause-gives : goal.returns-in_err-check_count-clause-gives
 returns-in_err-check_count-clause-gives c =
@@ -33,9 +34,12 @@ returns-in_err-bonus-clause-gives c =
     handed_on stated_view _ _ _ _ c.from_residual-in_err-bonus.ensures.1 c.in_err-bonus.ensures.gives
     (stated_stops_bonus c.args.form (top_view c.args.fields.now) count rounds c.in_ok-ranking.ensures)
 
+ante_fits : (c : After-top) → FitsSigned w64 c.args.fields.now.ante
+ante_fits c = search rules
+
 pub returns-in_err-ante-clause-gives : goal.returns-in_err-ante-clause-gives
 returns-in_err-ante-clause-gives c =
-    let fits : FitsSigned w64 c.args.fields.now.ante = search rules in
+    let fits = ante_fits (goal.at.returns-in_err-ante-clause-gives c).After-top in
     let same = ap (λ z. within c.top.result 1 4096 z) (sym (to_z-of_z w64 c.args.fields.now.ante fits)) in
     let count = rw c.deref.ensures.value at c.in_ok-check_count.ensures.gives in
     let rounds = rw c.deref-2.ensures.value at c.in_ok-rounds.ensures.gives in
@@ -45,7 +49,7 @@ returns-in_err-ante-clause-gives c =
 
 pub returns-in_err-rounds-2-clause-gives : goal.returns-in_err-rounds-2-clause-gives
 returns-in_err-rounds-2-clause-gives c =
-    let fits : FitsSigned w64 c.args.fields.now.ante = search rules in
+    let fits = ante_fits (goal.at.returns-in_err-rounds-2-clause-gives c).After-top in
     let same = ap (λ z. within c.top.result 1 4096 z) (sym (to_z-of_z w64 c.args.fields.now.ante fits)) in
     let count = rw c.deref.ensures.value at c.in_ok-check_count.ensures.gives in
     let rounds = rw c.deref-2.ensures.value at c.in_ok-rounds.ensures.gives in
@@ -56,7 +60,7 @@ returns-in_err-rounds-2-clause-gives c =
 
 pub returns-clause-gives : goal.returns-clause-gives
 returns-clause-gives c =
-    let fits : FitsSigned w64 c.args.fields.now.ante = search rules in
+    let fits = ante_fits (goal.at.returns-clause-gives c).After-top in
     let same = ap (λ z. within c.top.result 1 4096 z) (sym (to_z-of_z w64 c.args.fields.now.ante fits)) in
     let count = rw c.deref.ensures.value at c.in_ok-check_count.ensures.gives in
     let rounds = rw c.deref-2.ensures.value at c.in_ok-rounds.ensures.gives in
@@ -65,7 +69,25 @@ returns-clause-gives c =
     c.in_ok-ante.ensures.gives) ranged
 
 pub returns-clause-few : goal.returns-clause-few
-returns-clause-few c = grind (arith, common_steps)
+returns-clause-few c = c.in_ok-rounds-2.ensures.few
+
+pub returns-in_err-check_count-clause-few : goal.returns-in_err-check_count-clause-few
+returns-in_err-check_count-clause-few c = no_value _ _ _ c.from_residual.ensures.1
+
+pub returns-in_err-rounds-clause-few : goal.returns-in_err-rounds-clause-few
+returns-in_err-rounds-clause-few c = no_value _ _ _ c.from_residual-in_err-rounds.ensures.1
+
+pub returns-in_err-ranking-clause-few : goal.returns-in_err-ranking-clause-few
+returns-in_err-ranking-clause-few c = no_value _ _ _ c.from_residual-in_err-ranking.ensures.1
+
+pub returns-in_err-bonus-clause-few : goal.returns-in_err-bonus-clause-few
+returns-in_err-bonus-clause-few c = no_value _ _ _ c.from_residual-in_err-bonus.ensures.1
+
+pub returns-in_err-ante-clause-few : goal.returns-in_err-ante-clause-few
+returns-in_err-ante-clause-few c = no_value _ _ _ c.from_residual-in_err-ante.ensures.1
+
+pub returns-in_err-rounds-2-clause-few : goal.returns-in_err-rounds-2-clause-few
+returns-in_err-rounds-2-clause-few c = no_value _ _ _ c.from_residual-in_err-rounds-2.ensures.1
 
 pub invariant_of-result : goal.invariant_of-result
 invariant_of-result c = record {
@@ -75,4 +97,10 @@ invariant_of-result c = record {
 }
 
 pub rounds_ranged-requires : goal.rounds_ranged-requires
-rounds_ranged-requires c = grind arith
+rounds_ranged-requires c = subst (λ n. n ≤ 4) (sym c.deref-3.ensures.len) c.in_ok-rounds.ensures.few
+
+pub rounds_of-requires : goal.rounds_of-requires
+rounds_of-requires c = subst (λ rs. length rs ≤ 4) (c.deref.ensures.value ∙ sym c.deref-2.ensures.value) c.in_ok-check_count.ensures.few
+
+pub ranking_by_word-requires-text-word : goal.ranking_by_word-requires-text-word
+ranking_by_word-requires-text-word c = search rules

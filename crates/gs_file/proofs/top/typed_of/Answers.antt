@@ -1,7 +1,7 @@
-use Rattle.std.proofs.{Common.{arith, rules, sym, ap, ◌∙◌}, lemmas.Int.{to_z-of_z}}
+use Rattle.std.proofs.{Common.{rules, sym, ap, ◌∙◌}, lemmas.Int.{to_z-of_z}}
 use Rattle.std.specs.Int.RustNames.{FitsSigned}
 use mir.Syntax.{w64}
-use Rattle.gs_file.specs.{Reading.{typed_at}, Views.{top_view, values_view}}
+use Rattle.gs_file.specs.Views.{top_view, values_view}
 use Rattle.gs_file.proofs.{Loop.{handed_on}, Stating.{ok}, TopSteps.{typed_give, typed_stops_ranks, typed_stops_suits, typed_stops_copies, typed_stops_ranking}}
 use Rattle.gs_file.proofs.TopSteps.{typed_stops_bonus, typed_stops_ante, typed_stops_rounds}
 use Rattle.gs_file.proofs.top.typed_of.Goals as goal
@@ -55,17 +55,13 @@ returns c =
     c.top-6.ensures c.in_ok-rounds.ensures
 
 pub fact_in-ranks : goal.fact_in-ranks
-unfolding typed_at
-fact_in-ranks c = grind arith
+fact_in-ranks c = search rules
 
 pub fact_in-suits : goal.fact_in-suits
-unfolding typed_at
-fact_in-suits c = grind arith
+fact_in-suits c = search rules
 
 pub fact_in-copies : goal.fact_in-copies
-unfolding typed_at
-fact_in-copies c = grind arith
+fact_in-copies c = search rules
 
 pub fact_in-ranking : goal.fact_in-ranking
-unfolding typed_at
-fact_in-ranking c = grind arith
+fact_in-ranking c = search rules
