@@ -1,7 +1,7 @@
 use Rattle.std.proofs.Common.{◌≡◌, arith}
 use Rattle.gs_seq.specs.{Games.{frame_in}, Plans.{IsPlanOf}}
 use Rattle.gs_strategy.specs.Views.{whole_view}
-use Rattle.gs_strategy.proofs.Strategies.{checked_strategy}
+use Rattle.gs_strategy.proofs.{Steps.{no_value}, Strategies.{checked_strategy}}
 use Rattle.gs_strategy.proofs.reading.stored_from.Goals.{In_ok-classes, In_ok-one, In_ok-two}
 use Rattle.gs_strategy.proofs.reading.stored_from.Goals as goal
 
@@ -31,3 +31,18 @@ pub invariant_of-result : goal.invariant_of-result
 invariant_of-result c =
     let at = goal.at.invariant_of-result c in
     record { parents = parents at.In_ok-classes; first = first at.In_ok-one; second = second at.In_ok-two }
+
+pub returns-in_err-verdict : goal.returns-in_err-verdict
+returns-in_err-verdict c = no_value _ _ c.from_residual.ensures.0
+
+pub returns-in_err-game : goal.returns-in_err-game
+returns-in_err-game c = no_value _ _ c.from_residual-in_err-game.ensures.0
+
+pub returns-in_err-classes : goal.returns-in_err-classes
+returns-in_err-classes c = no_value _ _ c.from_residual-in_err-classes.ensures.0
+
+pub returns-in_err-one : goal.returns-in_err-one
+returns-in_err-one c = no_value _ _ c.from_residual-in_err-one.ensures.0
+
+pub returns-in_err-two : goal.returns-in_err-two
+returns-in_err-two c = no_value _ _ c.from_residual-in_err-two.ensures.0
