@@ -57,14 +57,23 @@ fn deck_text(fault: DeckFault) -> &'static str
     }
 }
 
+// Returns what is wrong, followed by a number.
+fn counted_text(alloc: Global, wrong: &str, number: u128) -> Result<String, AllocError>
+    ensures { IfOk result (λ text. string_bytes text ≡ wrong.now ++ decimal number) }
+{
+    format!(in alloc; "{wrong}{number}")
+}
+
 // Returns what is wrong with a tree's text, and at which byte.
 fn tree_text(alloc: Global, fault: TreeFault) -> Result<String, AllocError>
     ensures { IfOk result (λ text. string_bytes text ≡ text_of_tree fault) }
 {
     match fault {
-        TreeFault::RepeatedLetter { at } => format!(in alloc; "repeated letter at {at}"),
-        TreeFault::TooDeep { at } => format!(in alloc; "too deep at {at}"),
-        TreeFault::Syntax { at } => format!(in alloc; "syntax at {at}"),
+        TreeFault::RepeatedLetter { at } => {
+            counted_text(alloc, "repeated letter at ", u128::from(at))
+        }
+        TreeFault::TooDeep { at } => counted_text(alloc, "too deep at ", u128::from(at)),
+        TreeFault::Syntax { at } => counted_text(alloc, "syntax at ", u128::from(at)),
         TreeFault::Memory => String::from_str(alloc, "out of memory"),
     }
 }
@@ -84,13 +93,6 @@ fn uneven_text(alloc: Global, round: u8, path: &[u8]) -> Result<Vec<u8>, AllocEr
     let mut text = format!(in alloc; "uneven: round {round} path ")?.into_bytes();
     text.extend_from_slice(path)?;
     Ok(text)
-}
-
-// Returns what is wrong, followed by a number.
-fn counted_text(alloc: Global, wrong: &str, number: u128) -> Result<String, AllocError>
-    ensures { IfOk result (λ text. string_bytes text ≡ wrong.now ++ decimal number) }
-{
-    format!(in alloc; "{wrong}{number}")
 }
 
 // Returns what is wrong, followed by a number, a word and another number.

@@ -53,3 +53,9 @@ overflow_cast-next-in-loop-next c = grind arith
 
 pub loop-next-smaller : goal.loop-next-smaller
 loop-next-smaller c = grind arith
+
+pub push_signal-requires-clause-some : goal.push_signal-requires-clause-some
+push_signal-requires-clause-some c = c.requires.some
+
+pub push_signal-requires-clause-last : goal.push_signal-requires-clause-last
+push_signal-requires-clause-last c = c.requires.last

@@ -41,10 +41,16 @@ returns c =
     ∙ ap (λ n. old ++ (first start ++ flat_map (line start) (range_with_len 1 n))) many
 
 pub push_class-requires-clause-lists : goal.push_class-requires-clause-lists
-push_class-requires-clause-lists c = grind arith
+push_class-requires-clause-lists c = c.requires.lists
 
 pub push_class-requires-clause-nexts : goal.push_class-requires-clause-nexts
 push_class-requires-clause-nexts c = grind arith
 
 pub push_class-requires-clause-above : goal.push_class-requires-clause-above
 push_class-requires-clause-above c = λ more. ap (λ (xs : List (String Global)). map string_bytes xs) c.deref.ensures.value ∙ c.in_ok-above.ensures more
+
+pub push_class-requires-clause-some : goal.push_class-requires-clause-some
+push_class-requires-clause-some c = c.requires.some
+
+pub push_class-requires-clause-last : goal.push_class-requires-clause-last
+push_class-requires-clause-last c = c.requires.last
