@@ -40,3 +40,10 @@ returns-in_ok-unlike-in-Err-Unlike-clause-unlike c =
       ),
       c.in_ok-unlike-in-Err-Unlike.ensures,
     )
+
+pub unlike-requires-clause-some : goal.unlike-requires-clause-some
+unlike-requires-clause-some c =
+    let e = c.in-Err-Unlike in (rw e.field-0-is at e.ensures.unlike).round_in.0
+
+pub returns-in-Ok-clause-lossless : goal.returns-in-Ok-clause-lossless
+returns-in-Ok-clause-lossless c = c.in-Ok.ensures.lossless

@@ -12,3 +12,6 @@ returns-in_err-of-clause-large c =
 
 pub returns-clause-held : goal.returns-clause-held
 returns-clause-held c = grind arith
+
+pub returns-clause-small : goal.returns-clause-small
+returns-clause-small c = c.in_ok-of.ensures.small

@@ -1,4 +1,4 @@
-use Rattle.std.proofs.Common.{◌≡◌, ◌++◌, ◌∙◌, ℕ, List, Result, Ok, Err, IfOk, String, Vec, ap, append_assoc, codes, decimal, refl, string_bytes, subst, sym}
+use Rattle.std.proofs.Common.{◌≡◌, ◌++◌, ◌∙◌, ℕ, List, Result, Ok, Err, IfOk, String, Vec, ap, append_assoc, codes, decimal, refl, rules, string_bytes, subst, sym}
 use Rattle.std.specs.{String.{string_vec}, declared.alloc.Global.{Global}}
 use Rattle.gs_frac.specs.Texts.{fraction_text}
 use Rattle.gs_reply.specs.Refusals.{Refusal, Unlike_pair, Overflows, Many_pivots, Too_large, Wrong_number, Bad_query, Other_game}
@@ -94,3 +94,16 @@ pub returns-in-BadGame : goal.returns-in-BadGame
 returns-in-BadGame c =
     filed c.line_with.result c.args.refusal.now (told.BadGame c.in-BadGame.fault) _ c.in-BadGame.is c.line_with.ensures (λ why h.
     ap (λ (t : List ℕ). codes "bad game: " ++ t ++ codes "\n") (c.deref.ensures.value ∙ c.in_ok-text-in-BadGame.ensures h.1 h.2) ∙ ap line_of (sym h.3))
+
+pub fact_in-format-in-WrongNumber-2 : goal.fact_in-format-in-WrongNumber-2
+fact_in-format-in-WrongNumber-2 c = search rules
+
+pub returns-in-BadCertificate : goal.returns-in-BadCertificate
+returns-in-BadCertificate c =
+    filed c.line_with-in-BadCertificate.result c.args.refusal.now (told.BadCertificate c.in-BadCertificate.text) _ c.in-BadCertificate.is
+    c.line_with-in-BadCertificate.ensures (λ why h.
+    ap (λ (t : List ℕ). codes "bad certificate: " ++ t ++ codes "\n") c.deref-in-BadCertificate.ensures.value ∙ ap line_of (sym h))
+
+pub store_fault_text-requires : goal.store_fault_text-requires
+store_fault_text-requires c =
+    let h = subst (λ r. IsRefusal r c.requires.0) c.in-BadStrategy.is c.requires.1 in (h.0, h.1)
