@@ -1,4 +1,4 @@
-//! Ordered game isomorphism of signals, and numbers in order of first occurrence: equal keys get equal numbers, from 1 on.
+//! Ordered game isomorphism of signals.
 #![tactic(auto)]
 
 mod children;
@@ -11,6 +11,5 @@ mod numbers;
 mod pairings;
 mod signal_classes;
 
-pub use numbers::{number_of, number_of_list};
 pub use pairings::pairing;
 pub use signal_classes::{last_classes, shrink};

@@ -11,7 +11,10 @@ use std::alloc::{AllocError, Global};
 use std::hash::Hash;
 
 /// Returns the number of a key: 1 plus its place among the distinct keys so far, in order of first occurrence. Adds a new key to `keys`.
-pub fn number_of<K: Eq + Hash + Drop>(keys: &mut IndexSet<K>, key: K) -> Result<u32, AllocError>
+pub(crate) fn number_of<K: Eq + Hash + Drop>(
+    keys: &mut IndexSet<K>,
+    key: K,
+) -> Result<u32, AllocError>
     requires { index_set_len keys.old + 1 < 2 ^ 32 }
     ensures grown { OnOk result (keys.new.keys ≡ insert_key K.eq keys.old.keys key) }
     ensures some { IfOk result (λ n. 0 < n) }
@@ -25,7 +28,7 @@ pub fn number_of<K: Eq + Hash + Drop>(keys: &mut IndexSet<K>, key: K) -> Result<
 
 /// Returns the number of a list: 1 plus its place among the distinct lists so far, in order of first occurrence.
 /// Adds a copy of a new list to `lists`, and leaves `lists` as it is for a known one.
-pub fn number_of_list<P: Copy + Eq + Hash + Drop>(
+pub(crate) fn number_of_list<P: Copy + Eq + Hash + Drop>(
     alloc: Global,
     lists: &mut IndexSet<Vec<P>>,
     list: &[P],

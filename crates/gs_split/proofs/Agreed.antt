@@ -4,7 +4,7 @@ use Rattle.std.proofs.Common.{◌-◌, false, replicate, ⊎_elim}
 use Rattle.std.proofs.lemmas.{Bool.{cases_lt}, List.{get_or-replicate, get_or_default, length-replicate, same_lists}}
 use Rattle.std.proofs.lemmas.List.FromFn.{get_or-map-range_with_len, length-map-range_with_len}
 use Rattle.std.proofs.lemmas.Bool.Decides.{Decides-and, Decides-eqb, Decides-like}
-use Rattle.std.specs.{Prelude.{◌==◌, ◌&&◌}, Bool.{Decides}, Ordering.{int_eq}}
+use Rattle.std.specs.{Prelude.{◌==◌, ◌&&◌, ◌+◌, if◌then◌else◌}, Bool.{Decides}, Ordering.{int_eq}}
 use Rattle.gs_model.specs.{Classes.{ClassLists, IsClass, class_of, first_member, list_of}, Game.{Game, IsPlayable, round_count}}
 use Rattle.gs_model.specs.Frame.{Frame, at_round, frame_of, last_round, signal_count}
 use Rattle.gs_model.specs.{Lossless.{weight_against, weight_with}, Signals.{signals}}
@@ -148,3 +148,8 @@ key_exact x y =
       (ap (λ (p : ℕ × ℕ × ℕ). p.1) e, ap (λ (p : ℕ × ℕ × ℕ). p.2) e),
     ))
     (Decides-and _ _ (Decides-eqb x.0 y.0) (Decides-and _ _ (Decides-eqb x.1 y.1) (Decides-eqb x.2 y.2)))
+
+-- a key that is added is at most one more
+pub one_more : (new : Bool) (n : ℕ) → n + (if new then 1 else 0) ≤ n + 1
+one_more true n = omega arith
+one_more false n = omega arith

@@ -8,7 +8,6 @@ ghost use Rattle.gs_filter.specs.Members.{AreNextMembers};
 ghost use Rattle.gs_split.specs.Turns.{AreMemberNumbers};
 
 use gs_filter::Classes;
-use gs_iso::number_of_list;
 use gs_lossless::SideKeys;
 use indexmap::IndexSet;
 use std::alloc::{AllocError, Global};
@@ -42,7 +41,7 @@ pub(crate) fn number_members(
             numbers[first as usize]
         } else {
             let sums = at.sums(alloc, signal)?;
-            number_of_list(alloc, &mut seen, &sums)?
+            seen.insert_full(sums)?.0 as u32 + 1
         };
         numbers[signal as usize] = number;
     }

@@ -4,7 +4,6 @@ ghost use Rattle.std.specs.Prelude.{◌≡◌, ◌+◌, ◌≤◌, ◌<◌, ◌^
 ghost use Rattle.gs_iso.specs.KeyNumbers.{HasClassOf, IsKeyClasses};
 ghost use Rattle.gs_split.specs.Turns.{turn_key};
 
-use gs_iso::number_of;
 use indexmap::IndexSet;
 use std::alloc::{AllocError, Global};
 use std::marker::Model;
@@ -90,7 +89,7 @@ pub(crate) fn round_classes(alloc: Global, keys: &TurnKeys<'_>) -> Result<Vec<u3
         let item = noted(&mut last, key, at as u32);
         let class = match class_again(keys, &classes, item, key) {
             Some(class) => class,
-            None => number_of(&mut seen, key)?,
+            None => seen.insert_full(key)?.0 as u32 + 1,
         };
         classes.push(class)?;
     }

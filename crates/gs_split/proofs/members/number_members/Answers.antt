@@ -1,13 +1,14 @@
 use Rattle.std.proofs.lemmas.Result.{IfOk-from_err}
-use Rattle.std.proofs.Common.{◌≡◌, ◌<◌, ℕ, List, Vec, Global, ap, arith, get_or, length, refl, set, subst, sym}
+use Rattle.std.proofs.Common.{◌≡◌, ◌+◌, ◌-◌, ◌<◌, ◌∙◌, ◌^◌, ℕ, List, Some, Vec, Global, ap, arith, get_or, length, refl, set, slice_get, subst, sym}
 use Rattle.gs_lossless.specs.{declared.parts.Part.{Part}, Amounts.{AreAmounts}, declared.side_keys.SideKeys.{SideKeys}}
 use Rattle.gs_model.specs.{Classes.{list_of}, Frame.{frame_of, signal_count}, Signals.{signals}}
 use Rattle.gs_tree.specs.Trees.{rules_of}
 use Rattle.gs_lossless.proofs.{Merge.{part_decides}, Scanned.{side_classes, side_in, side_signals}}
 use Rattle.gs_filter.proofs.Linked.{member_first}
-use Rattle.gs_iso.proofs.Numbered.{number_leads}
-use Rattle.gs_split.proofs.{Agreed.{part_eq}, MemberNumbers.{AreNumbering, number_stood, numbered_all, numbered_first, numbering_more}}
-use Rattle.gs_split.proofs.members.number_members.Goals.{then-first-signal, else-first-signal+in_ok-sums+in_ok-number}
+use Rattle.gs_iso.specs.KeyNumbers.{IsNumberOf, StayIn, same_parts}
+use Rattle.gs_iso.proofs.Numbered.{number_leads, slice_get-insert}
+use Rattle.gs_split.proofs.{Agreed.{one_more, part_eq}, MemberNumbers.{AreNumbering, number_stood, numbered_all, numbered_first, numbering_more}}
+use Rattle.gs_split.proofs.members.number_members.Goals.{then-first-signal, else-first-signal+in_ok-sums+in_ok-number, In_ok-number}
 use Rattle.gs_split.proofs.members.number_members.Goals as goal
 
 -- the list of the round has a class for each of its signals
@@ -56,12 +57,20 @@ loop-next-preserved c =
           subst (λ ks. more ks c.if-first-signal.number) (sym (ap (λ x. x.keys) w.seen-is)) (subst (more old) (sym w.number-is) made)
       | else-first-signal+in_ok-sums+in_ok-number w ↦
           let n = w.in_ok-number.ensures in
-          let keys = w.number_of_list.new.lists.keys in
-          let number = w.in_ok-number.number in
-          let signs = subst (λ (ps : List Part). AreAmounts f lists at.side at.round s ps) (sym w.deref.ensures.value) w.in_ok-sums.ensures in
-          let here = number_leads part_eq part_decides (AreAmounts f lists at.side at.round) keys w.deref.result.now s number n.number signs in
-          let made = numbering_more f lists at.side at.round c.args.class old_numbers old keys numbers c.args.nexts.now s number h c.requires.nexts l here
-          n.kept n.few n.unique in
+          let sums = w.in_ok-sums.sums in
+          let keys = w.insert_full.new.self.keys in
+          let place = w.in_ok-number.field-0.0 in
+          let behind : place + 1 - 1 ≡ place = omega arith in
+          let number : IsNumberOf part_eq keys sums.items (place + 1) = record {
+            some = omega arith;
+            key = n.stored.0;
+            stands = ap (slice_get keys) behind ∙ n.stored.1;
+            same = n.stored.2;
+          } in
+          let stay : StayIn old keys = λ i k e. subst (λ ks. slice_get ks i ≡ Some k) (sym n.keys) (slice_get-insert (same_parts part_eq) old sums i k e) in
+          let here = number_leads part_eq part_decides (AreAmounts f lists at.side at.round) keys sums.items s (place + 1) number w.in_ok-sums.ensures in
+          let made = numbering_more f lists at.side at.round c.args.class old_numbers old keys numbers c.args.nexts.now s (place + 1) h c.requires.nexts l here
+          stay (omega (arith, n.len, one_more w.in_ok-number.field-0.1 (length old))) n.unique in
           subst (λ ks. more ks c.if-first-signal.number) (sym (ap (λ x. x.keys) w.seen-is)) (subst (more keys) (sym w.number-is) made)
     ]
 
@@ -75,8 +84,15 @@ returns-clause-members c =
 pub loop-next-smaller : goal.loop-next-smaller
 loop-next-smaller c = grind arith
 
-pub number_of_list-requires-clause-few : goal.number_of_list-requires-clause-few
-number_of_list-requires-clause-few c = grind arith
+-- the number of a list fits 32 bits
+fits : (c : In_ok-number) → c.in_ok-number.field-0.0 + 1 < 2 ^ 32
+fits c =
+    let n = c.in_ok-number.ensures in
+    let room : length c.loop-next.seen.keys + 1 < 2 ^ 32 = grind arith in
+    omega (arith, n.within, n.len, one_more c.in_ok-number.field-0.1 (length c.loop-next.seen.keys), room)
+
+pub overflow_add-number : goal.overflow_add-number
+overflow_add-number c = omega (arith, fits c)
 
 pub returns-clause-others : goal.returns-clause-others
 returns-clause-others c = grind arith
@@ -95,9 +111,6 @@ first-next-requires-clause-top c =
 
 pub first-next-requires-clause-some : goal.first-next-requires-clause-some
 first-next-requires-clause-some c = (side_in (frame_of (rules_of c.args.at.now.signals.now)) c.args.at.now.side c.args.at.now.round c.args.at.now.has).0
-
-pub number_of_list-requires-clause-unique : goal.number_of_list-requires-clause-unique
-number_of_list-requires-clause-unique c = c.loop-next.invariant.numbered.distinct
 
 pub returns-in_err-number : goal.returns-in_err-number
 returns-in_err-number c = let failed = c.from_residual-in_err-number.ensures.0 in record {
