@@ -1,6 +1,7 @@
 -- Kuhn's game: three cards, one each, one round of a check or a bet of 1; and the verdict on its players' plans after one turn of play.
 -- Source: the plans and the verdict by an independent program that tries every pure raw plan.
-use Rattle.std.specs.Prelude.{ℕ, ◌-◌, [], ◌∷◌, List, get_or, pos}
+use Rattle.std.specs.Prelude.{ℕ, ◌-◌, ◌*◌, ◌<◌, ◌≤◌, [], ◌∷◌, List, get_or, ℤ, pos}
+use Rattle.gs_converge.specs.Laws.{AreTogetherAtMost}
 use Rattle.gs_model.specs.{Betting.{Bet, act, fold, even, none, move}, Classes.{ClassLists}, Frame.{frame_of}, Game.{Game, High}, Plans.{Plan, lift}}
 use Rattle.gs_model.specs.{Play.{IsFictitiousPlay}, Verdict.{IsVerdict}}
 
@@ -43,3 +44,9 @@ KuhnVerdict = IsVerdict (frame_of kuhn) (lift (frame_of kuhn) apart turn_one) (l
 -- these plans are those after one turn of fictitious play
 abbrev pub KuhnPlay : Type 0
 KuhnPlay = IsFictitiousPlay (frame_of kuhn) apart 1 turn_one turn_two
+
+-- fictitious play of this game converges: for each fraction p / q above 0 there is a number of turns from which on the sum of both gaps is at most p / q
+abbrev pub KuhnConverges : Type 0
+KuhnConverges =
+    (p q : ℕ) → 0 < p → (turns : ℕ) × ((n : ℕ) (x y : Plan) (value gap1 gap2 : ℤ × ℕ) → turns ≤ n → IsFictitiousPlay (frame_of kuhn) apart n x y
+    → IsVerdict (frame_of kuhn) (lift (frame_of kuhn) apart x) (lift (frame_of kuhn) apart y) value gap1 gap2 → AreTogetherAtMost gap1 gap2 p q)

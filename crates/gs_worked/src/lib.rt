@@ -6,7 +6,7 @@
 
 mod readback;
 
-ghost use Rattle.gs_worked.specs.{Decks.{OneRank, TwoSuits}, Kuhn.{KuhnPlay, KuhnVerdict}, Pivots.{TiedPath, TiedPivot}, Puts.{PutsAreChips}};
+ghost use Rattle.gs_worked.specs.{Decks.{OneRank, TwoSuits}, Kuhn.{KuhnConverges, KuhnPlay, KuhnVerdict}, Pivots.{TiedPath, TiedPivot}, Puts.{PutsAreChips}};
 
 pub use readback::made_files_are_read_back;
 
@@ -33,6 +33,11 @@ pub fn kuhn_play()
 /// Kuhn poker after one turn of play: the value is 1/12, and the players could still gain 13/12 and 7/6.
 pub fn kuhn_verdict()
     ensures { KuhnVerdict }
+{}
+
+/// Kuhn poker meets the premises of the law on the gaps of fictitious play: they go to 0.
+pub fn kuhn_converges()
+    ensures { KuhnConverges }
 {}
 
 /// A linear program in three rows: Bland's rule makes one pivot, and the path ends.

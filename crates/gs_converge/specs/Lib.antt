@@ -1,0 +1,2 @@
+pub mod BestTurns
+pub mod Laws
