@@ -2,7 +2,7 @@
 use Rattle.std.proofs.Common.{◌≡◌, ℕ, ◌-◌, ◌≤◌, List, [], length, Result, Ok, Err, sym, ap, subst, ◌∙◌}
 use Rattle.std.specs.Prelude.{IsTrue}
 use Rattle.gs_bet.specs.{declared.fault.Mistake.{Mistake}, declared.fault.Mistake.TheVariants.{RepeatedLetter, TooDeep, Syntax}}
-use Rattle.gs_bet.specs.{declared.fault.Stop.TheVariants.{At}, Grammar.{tree_text, is_tree}, Cuts.{at_tree, whole}, Reading.{Read, Fails, all_of}}
+use Rattle.gs_bet.specs.{declared.fault.ReadError.TheVariants.{Fault}, Grammar.{tree_text, is_tree}, Cuts.{at_tree, whole}, Reading.{Read, Fails, all_of}}
 use Rattle.gs_bet.specs.Faults.{IsFaultOf, IsMistake, mistake_fault}
 use Rattle.gs_model.specs.Betting.{Bet}
 use Rattle.gs_bet.proofs.{Steps.{read}, ReadsAsCut.{LeadsTo, reads_as_cut}, Whole.{is_read, reads, is_mistake, left_within}}
@@ -25,13 +25,13 @@ only text t u h is e = done_is t u (sym (read_to text (Ok (t, [])) h) ∙ ap (re
 no_error : (u : Bet) (m : Mistake × List ℕ) → done u ≡ Err m → ⊥
 no_error u m h = absurd cc
 
-pub refuses : (text : List ℕ) (m : Mistake) (left : ℕ) (u : Bet) → Fails (At m left) (all_of text) → IsTrue (is_tree u) → text ≡ tree_text u → ⊥
+pub refuses : (text : List ℕ) (m : Mistake) (left : ℕ) (u : Bet) → Fails (Fault m left) (all_of text) → IsTrue (is_tree u) → text ≡ tree_text u → ⊥
 refuses text m left u f is e = no_error u (m, f.0) (sym (reads u is) ∙ ap (read (at_tree [])) (sym e) ∙ read_to text (Err (m, f.0)) f.1)
 
-pub mistaken : (text : List ℕ) (m : Mistake) (left : ℕ) → Fails (At m left) (all_of text) → IsMistake text (length text - left) m
+pub mistaken : (text : List ℕ) (m : Mistake) (left : ℕ) → Fails (Fault m left) (all_of text) → IsMistake text (length text - left) m
 mistaken text m left f = rw (← f.2) (is_mistake text m f.0 (read_to text (Err (m, f.0)) f.1))
 
-pub within : (text : List ℕ) (m : Mistake) (left : ℕ) → Fails (At m left) (all_of text) → left ≤ length text
+pub within : (text : List ℕ) (m : Mistake) (left : ℕ) → Fails (Fault m left) (all_of text) → left ≤ length text
 within text m left f = rw (← f.2) (left_within text m f.0 (read_to text (Err (m, f.0)) f.1))
 
 pub fault : (text : List ℕ) (m : Mistake) (at : ℕ) → IsMistake text at m → IsFaultOf text (mistake_fault m at)

@@ -1,11 +1,11 @@
 -- Steps of reading, as the program takes them.
 use Rattle.std.proofs.Common.{◌≡◌, ℕ, zero, suc, ◌+◌, ◌-◌, ◌<◌, ◌≤◌, List, [], ◌∷◌, ◌++◌, length, Ok, Err, refl, sym, ap, ◌∙◌, get_or, inl, inr, Bool, true}
 use Rattle.std.proofs.{Common.{false, cond, eqb, ltb, ◌&&◌, ◌||◌, arith, take, drop, take_all}, lemmas.Bool.{cases_Bool, false≢true, ltb-true}, lemmas.List.{length-append}}
-use Rattle.gs_bet.specs.{declared.fault.Mistake.TheVariants.{TooDeep, Syntax}, declared.fault.Stop.{Stop}, declared.shape.Move.{Move, out-Move}, declared.shape.Tree.TheVariants.{Even, Fold}}
+use Rattle.gs_bet.specs.{declared.fault.Mistake.TheVariants.{TooDeep, Syntax}, declared.fault.ReadError.{ReadError}, declared.shape.Move.{Move, out-Move}, declared.shape.Tree.TheVariants.{Even, Fold}}
 use Rattle.gs_bet.specs.{MoveLists.{count, push_move}, TreeView.{plain, plain_moves}}
 use Rattle.gs_bet.specs.Reading.{Read, Fails, outer_at, ◌>>=◌, player_digit, act_with, act_at, moves_at, move_at, more_at, inner_at}
 use Rattle.gs_bet.proofs.TreeLaws.{plain-even, plain-fold}
-use Rattle.gs_bet.specs.declared.fault.Stop.TheVariants as stops
+use Rattle.gs_bet.specs.declared.fault.ReadError.TheVariants as errors
 use Rattle.gs_model.specs.Betting.{Bet, Moves, move}
 
 pub count_plain : (ms : List Move) → count (plain_moves ms) ≡ length ms
@@ -65,20 +65,20 @@ moves_step tree zero ms more bytes behind lt h = absurd (omega arith)
 moves_step tree (suc k) ms more bytes behind lt h = let e : k ≡ suc k - 1 = omega arith in
     rw h (ap (λ i. more_at (count more) behind >>= λ m. cond m.0 (moves_at tree i more m.1) (Ok (more, m.1))) e)
 
-pub fails_here : (e : Stop) (tree : List ℕ → Read Bet) (k : ℕ) (ms : Moves) (bytes : List ℕ) (total : Read Moves) → 0 < k → moves_at tree k ms bytes ≡ total
+pub fails_here : (e : ReadError) (tree : List ℕ → Read Bet) (k : ℕ) (ms : Moves) (bytes : List ℕ) (total : Read Moves) → 0 < k → moves_at tree k ms bytes ≡ total
     → Fails e (move_at tree ms bytes) → Fails e total
 unfolding moves_at
 fails_here e tree zero ms bytes total lt so_far h = absurd (omega arith)
-fails_here stops.Memory tree (suc k) ms bytes total lt so_far h = tt
-fails_here (stops.At m left) tree (suc k) ms bytes total lt so_far h =
+fails_here errors.Memory tree (suc k) ms bytes total lt so_far h = tt
+fails_here (errors.Fault m left) tree (suc k) ms bytes total lt so_far h =
     let e : moves_at tree (suc k) ms bytes ≡ Err (m, h.0) = rw h.1 refl in
     (h.0, sym so_far ∙ e, h.2)
 
-pub fails_behind : (e : Stop) (tree : List ℕ → Read Bet) (k : ℕ) (ms more : Moves) (bytes behind : List ℕ) (total : Read Moves) → 0 < k
+pub fails_behind : (e : ReadError) (tree : List ℕ → Read Bet) (k : ℕ) (ms more : Moves) (bytes behind : List ℕ) (total : Read Moves) → 0 < k
     → moves_at tree k ms bytes ≡ total → move_at tree ms bytes ≡ Ok (more, behind)
     → Fails e (more_at (count more) behind) → Fails e total
-fails_behind stops.Memory tree k ms more bytes behind total lt so_far h f = tt
-fails_behind (stops.At m left) tree k ms more bytes behind total lt so_far h f =
+fails_behind errors.Memory tree k ms more bytes behind total lt so_far h f = tt
+fails_behind (errors.Fault m left) tree k ms more bytes behind total lt so_far h f =
     let e : moves_at tree k ms bytes ≡ Err (m, f.0) = moves_step tree k ms more bytes behind lt h ∙ rw f.1 refl in
     (f.0, sym so_far ∙ e, f.2)
 
@@ -119,7 +119,7 @@ pub record Pushed (tree : List ℕ → Read Bet) (ms new : List Move) (bytes beh
   pub so_far : moves_at tree (26 - length ms) (plain_moves ms) bytes ≡ total
   pub next : move_at tree (plain_moves ms) bytes ≡ Ok (plain_moves new, behind)
 
-pub pushed_fails : (e : Stop) (tree : List ℕ → Read Bet) (ms new : List Move) (bytes behind : List ℕ) (total : Read Moves)
+pub pushed_fails : (e : ReadError) (tree : List ℕ → Read Bet) (ms new : List Move) (bytes behind : List ℕ) (total : Read Moves)
     → Pushed tree ms new bytes behind total → Fails e (more_at (length new) behind) → Fails e total
 pushed_fails e tree ms new bytes behind total p h =
     let k : 0 < 26 - length ms = omega (arith, p.room) in

@@ -1,9 +1,9 @@
 -- Reading a tree's text from the left. A reader gives the value and the bytes after it, or the first mistake and the bytes from it on.
 use Rattle.std.specs.Prelude.{ℕ, zero, suc, ◌+◌, ◌-◌, ◌*◌, ◌≡◌, Bool, true, false, ◌&&◌, ◌||◌, ◌==◌, nat_lt, nat_le, if◌then◌else◌, List, [], ◌∷◌, length}
 use Rattle.std.specs.Prelude.{Result, Ok, Err}
-use Rattle.gs_bet.specs.{declared.fault.Mistake.{Mistake}, declared.fault.Mistake.TheVariants.{RepeatedLetter, TooDeep, Syntax}, declared.fault.Stop.{Stop}}
+use Rattle.gs_bet.specs.{declared.fault.Mistake.{Mistake}, declared.fault.Mistake.TheVariants.{RepeatedLetter, TooDeep, Syntax}, declared.fault.ReadError.{ReadError}}
 use Rattle.gs_bet.specs.{MoveLists.{count, has_letter, push_move}, Grammar.{is_letter}}
-use Rattle.gs_bet.specs.declared.fault.Stop.TheVariants as stops
+use Rattle.gs_bet.specs.declared.fault.ReadError.TheVariants as errors
 use Rattle.gs_model.specs.Betting.{Bet, Moves, act, fold, even, none}
 
 -- what reading gives: a value and the bytes after it, or a mistake and the bytes from it on
@@ -16,13 +16,13 @@ abbrev pub ◌>>=◌ : {A B : Type 0} → Read A → (A × List ℕ → Read B) 
 (Ok x) >>= f = f x
 (Err e) >>= f = Err e
 
--- a stop of the program is the mistake that reading gives, with as many bytes left, unless memory ran out
-abbrev pub Fails : {Y : Type 0} → Stop → Read Y → Type 0
-Fails stops.Memory read = Unit {0}
-Fails (stops.At m left) read = (rest : List ℕ) × (read ≡ Err (m, rest)) × (length rest ≡ left)
+-- an error of the program is the mistake that reading gives, with as many bytes left, unless memory ran out
+abbrev pub Fails : {Y : Type 0} → ReadError → Read Y → Type 0
+Fails errors.Memory read = Unit {0}
+Fails (errors.Fault m left) read = (rest : List ℕ) × (read ≡ Err (m, rest)) × (length rest ≡ left)
 
 -- what a function returned, seen by `view`, is what reading gives, unless memory ran out
-abbrev pub Gives : {X Y : Type 0} → (X → Y × List ℕ) → Result X Stop → Read Y → Type 0
+abbrev pub Gives : {X Y : Type 0} → (X → Y × List ℕ) → Result X ReadError → Read Y → Type 0
 Gives view (Ok x) read = read ≡ Ok (view x)
 Gives view (Err e) read = Fails e read
 

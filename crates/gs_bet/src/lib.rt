@@ -8,7 +8,7 @@ mod reading;
 mod shape;
 mod writing;
 
-pub use fault::TreeFault;
+pub use fault::{TreeError, TreeFault};
 pub use laws::{one_cut, one_tree, trees_have_players};
 pub use limit::limit_tree;
 pub use reading::parse_tree;

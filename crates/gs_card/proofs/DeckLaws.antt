@@ -4,7 +4,7 @@ use Rattle.std.proofs.Common.{get_or, Some, None, arith, refl, ap, sym, ◌∙�
 use Rattle.std.proofs.{lemmas.List.{length-map, length-replicate}, lemmas.List.Elements.{All-map, All-replicate}, lemmas.List.Sums.{AllPass-from_list_all}}
 use Rattle.std.proofs.lemmas.Bool.{or_parts, and_parts, not-false, eqb-false, eqb-true, ltb-false, ne_eqb, leb-true}
 use Rattle.std.specs.{List.{list_all}, Char.{is_ascii_alphanumeric, is_ascii_digit}}
-use Rattle.gs_card.specs.{Decks.{IsDeck, repeats, counts_of, deck_of_texts}, DeckFaults.{fault_of}, declared.faults.DeckFault.{DeckFault}}
+use Rattle.gs_card.specs.{Decks.{IsDeck, repeats, counts_of, deck_of_texts}, DeckFaults.{fault_of}, declared.faults.DeckFault.{DeckFault}, declared.faults.TheConstants.{MOST_KINDS}}
 use Rattle.gs_card.specs.declared.faults.DeckFault.TheVariants.{NoCards, BadLetter, RepeatedLetter, TooManyKinds, BadCopies}
 
 passes : (a b c d e : Bool) (f g h i j : DeckFault) → cond a (Some f) (cond b (Some g) (cond c (Some h) (cond d (Some i) (cond e (Some j) None)))) ≡ None
@@ -21,13 +21,13 @@ pub record IsFaultless (ranks suits digits : List ℕ) : Type 0 where
   pub some : ((length ranks == 0) || (length suits == 0)) ≡ false
   pub letters : (list_all is_ascii_alphanumeric ranks && list_all is_ascii_alphanumeric suits) ≡ true
   pub differ : (repeats ranks || repeats suits) ≡ false
-  pub few : nat_lt 52 (length ranks * length suits) ≡ false
+  pub few : nat_lt MOST_KINDS (length ranks * length suits) ≡ false
   pub copies : ((length digits == 0) || ((length digits == length ranks * length suits) && list_all is_ascii_digit digits)) ≡ true
 
 pub faultless : (ranks suits copies : List ℕ) → fault_of ranks suits copies ≡ None → IsFaultless ranks suits copies
 faultless ranks suits copies h =
     let p = passes ((length ranks == 0) || (length suits == 0)) (not (list_all is_ascii_alphanumeric ranks && list_all is_ascii_alphanumeric suits))
-    (repeats ranks || repeats suits) (nat_lt 52 (length ranks * length suits))
+    (repeats ranks || repeats suits) (nat_lt MOST_KINDS (length ranks * length suits))
     (not ((length copies == 0) || ((length copies == length ranks * length suits) && list_all is_ascii_digit copies))) NoCards BadLetter
     RepeatedLetter TooManyKinds BadCopies h in
     record { some = p.0; letters = not-false _ p.1; differ = p.2; few = p.3; copies = not-false _ p.4 }

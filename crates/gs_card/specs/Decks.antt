@@ -3,6 +3,7 @@
 use Rattle.std.specs.Prelude.{ℕ, ◌*◌, ◌-◌, ◌≡◌, ◌≤◌, ◌<◌, ◌==◌, ◌||◌, Bool, false, true, List, [], ◌∷◌, length, map, replicate, All, slice_index}
 use Rattle.std.specs.{List.{list_any}, Char.{is_ascii_alphanumeric}}
 use Rattle.gs_model.specs.Outcome.{rank_of, suit_of}
+use Rattle.gs_card.specs.declared.faults.TheConstants.{MOST_KINDS}
 
 -- a deck as contracts see it: the letters of the ranks and of the suits, and the number of copies of each kind
 pub record DeckValue : Type 0 where
@@ -19,11 +20,11 @@ abbrev pub repeats : List ℕ → Bool
 repeats [] = false
 repeats (x ∷ xs) = list_any (λ y. y == x) xs || repeats xs
 
--- what every deck is: 1 to 52 kinds; letters that are ASCII letters or digits and differ within the ranks and within the suits; for each kind a count from 0
+-- what every deck is: 1 to `MOST_KINDS` kinds, which is 52; letters that are ASCII letters or digits and differ within the ranks and within the suits; for each kind a count from 0
 -- to 9
 pub record IsDeck (d : DeckValue) : Type 0 where
   pub some : 0 < kinds d
-  pub few : kinds d ≤ 52
+  pub few : kinds d ≤ MOST_KINDS
   pub rank_letters : All (λ c. is_ascii_alphanumeric c ≡ true) d.ranks
   pub suit_letters : All (λ c. is_ascii_alphanumeric c ≡ true) d.suits
   pub ranks_differ : repeats d.ranks ≡ false

@@ -5,10 +5,10 @@ ghost use Rattle.std.specs.Prelude.{slice_index, nat_lt, ◌==◌, true, false, 
 ghost use Rattle.std.specs.{List.{list_all, range_with_len}, Char.{is_ascii_alphanumeric, is_ascii_digit}};
 ghost use Rattle.gs_model.specs.{Cards.{groups}, Outcome.{rank_of, suit_of}};
 ghost use Rattle.gs_card.specs.{Decks.{DeckValue, IsDeck, IsTextOf, kinds, repeats, counts_of, deck_of_texts, card_text}, Groups.{IsGroup}};
-ghost use Rattle.gs_card.specs.{Kinds.{HasLetters}, DeckFaults.{fault_of}, declared.faults.DeckFault.TheVariants.{Memory}};
+ghost use Rattle.gs_card.specs.{Kinds.{HasLetters}, DeckFaults.{fault_of}, declared.faults.DeckError.TheVariants.{Fault, Memory}};
 
 use crate::cards::{Card, Cards};
-use crate::faults::DeckFault;
+use crate::faults::{DeckError, DeckFault, MOST_KINDS};
 use crate::groups::{Group, all_groups};
 use std::alloc::{AllocError, Global};
 use std::marker::Model;
@@ -52,7 +52,7 @@ fn place_of(letters: &[u8], letter: u8) -> Option<usize>
 
 /// Returns the number of the kind with these letters, none where no kind has them.
 fn number_of(ranks: &[u8], suits: &[u8], rank: u8, suit: u8) -> Option<u8>
-    requires few { length ranks.now * length suits.now ≤ 52 }
+    requires few { length ranks.now * length suits.now ≤ MOST_KINDS }
     requires ranks_differ { repeats ranks.now ≡ false }
     requires suits_differ { repeats suits.now ≡ false }
     ensures found { IfSome result (HasLetters ranks.now suits.now rank suit) }
@@ -84,13 +84,13 @@ fn are_copies(kinds: usize, copies: &[u8]) -> bool
     copies.is_empty() || copies.len() == kinds && are_digits(copies)
 }
 
-/// Returns whether there are more than 52 kinds, which is too many for a deck.
+/// Returns whether there are more than `MOST_KINDS` kinds, which is too many for a deck.
 fn are_too_many(ranks: usize, suits: usize) -> bool
     requires some_ranks { 0 < ranks }
     requires some_suits { 0 < suits }
-    ensures { result ≡ nat_lt 52 (ranks * suits) }
+    ensures { result ≡ nat_lt MOST_KINDS (ranks * suits) }
 {
-    ranks > 52 || suits > 52 || ranks * suits > 52
+    ranks > MOST_KINDS || suits > MOST_KINDS || ranks * suits > MOST_KINDS
 }
 
 /// Returns why these texts make no deck, none where they make one.
@@ -133,17 +133,17 @@ impl Deck {
     /// kind.
     ///
     /// Fails with the first `DeckFault` that applies, or if memory runs out.
-    pub fn new(alloc: Global, ranks: &str, suits: &str, copies: &str) -> Result<Deck, DeckFault>
-        ensures refused { IfSome (fault_of ranks.now suits.now copies.now) (λ f. result ≡ Err f) }
+    pub fn new(alloc: Global, ranks: &str, suits: &str, copies: &str) -> Result<Deck, DeckError>
+        ensures refused { IfSome (fault_of ranks.now suits.now copies.now) (λ fault. result ≡ Err (Fault fault)) }
         ensures made { IfNone (fault_of ranks.now suits.now copies.now)
-            (MatchResult result (λ deck. deck ≡ deck_of_texts ranks.now suits.now copies.now) (λ f. f ≡ Memory)) }
+            (MatchResult result (λ deck. deck ≡ deck_of_texts ranks.now suits.now copies.now) (λ error. error ≡ Memory)) }
         ensures deck { IfOk result IsDeck }
     {
         let ranks = ranks.as_bytes();
         let suits = suits.as_bytes();
         let copies = copies.as_bytes();
         if let Some(fault) = fault(ranks, suits, copies) {
-            return Err(fault);
+            return Err(DeckError::Fault(fault));
         }
         let counts = counts(alloc, ranks.len() * suits.len(), copies)?;
         let ranks = Vec::from_slice(alloc, ranks)?;
@@ -227,7 +227,8 @@ impl Deck {
     /// Returns the letter of the card's rank and the letter of its suit.
     pub fn card_text(&self, card: Card) -> [u8; 2]
         requires { card < kinds self.now }
-        ensures { result ≡ card_text self.now card }
+        ensures letters { result ≡ card_text self.now card }
+        ensures deck { IsDeck self.now }
     {
         let rank_letter = self.ranks[self.rank(card) as usize];
         let suit_letter = self.suits[self.suit(card) as usize];

@@ -2,6 +2,7 @@
 
 ghost use Rattle.std.specs.{Prelude.{◌≡◌, ◌<◌, ◌≤◌, ◌++◌, ◌∷◌, [], All, IfOk, OnOk, length, map, vec_len}, List.Sorted.{IsNonDecreasing}};
 ghost use Rattle.gs_model.specs.Cards.{groups, groups_above, groups_with};
+ghost use Rattle.gs_card.specs.declared.faults.TheConstants.{MOST_KINDS};
 
 use crate::cards::Card;
 use std::alloc::{AllocError, Global};
@@ -62,7 +63,7 @@ fn push_groups(
     front: &mut Vec<Card>,
     out: &mut Vec<Group>,
 ) -> Result<(), AllocError>
-    requires few { vec_len left.old ≤ 52 }
+    requires few { vec_len left.old ≤ MOST_KINDS }
     requires within { least ≤ vec_len left.old }
     requires ascending { IsNonDecreasing front.old.items }
     requires below { All (λ card. card ≤ least) front.old.items }
@@ -91,7 +92,7 @@ fn push_with(
     front: &mut Vec<Card>,
     out: &mut Vec<Group>,
 ) -> Result<(), AllocError>
-    requires few { vec_len left.old ≤ 52 }
+    requires few { vec_len left.old ≤ MOST_KINDS }
     requires within { card < vec_len left.old }
     requires ascending { IsNonDecreasing front.old.items }
     requires below { All (λ other. other ≤ card) front.old.items }
@@ -112,9 +113,9 @@ fn push_with(
     Ok(())
 }
 
-/// Returns all groups of `size` cards that `left` allows, in lexicographic order. `left` has the number of copies of each kind, 52 kinds at most.
+/// Returns all groups of `size` cards that `left` allows, in lexicographic order. `left` has the number of copies of each kind, `MOST_KINDS` kinds at most.
 pub(crate) fn all_groups(alloc: Global, left: &[u8], size: u8) -> Result<Vec<Group>, AllocError>
-    requires { length left.now ≤ 52 }
+    requires { length left.now ≤ MOST_KINDS }
     ensures { IfOk result (λ found. found.items ≡ groups left.now size) }
 {
     let mut out = Vec::new(alloc);

@@ -15,7 +15,7 @@ mod rankings;
 pub use cards::{Card, Cards};
 pub use counting::{times, ways};
 pub use decks::Deck;
-pub use faults::DeckFault;
+pub use faults::{DeckError, DeckFault, MOST_KINDS};
 pub use groups::Group;
 pub use rankings::Ranking;
 

@@ -3,7 +3,7 @@ use Rattle.std.proofs.{Common.{◌≡◌, ◌≢◌, ℕ, ◌+◌, ◌-◌, ◌<
 use Rattle.std.proofs.lemmas.List.Sums.{passes_at_first}
 use Rattle.gs_filter.proofs.TallyLaws.{first_before}
 use Rattle.gs_filter.specs.{Faults.{IsFaultOf, first_beside, StaysTogether}, declared.fault.ClassFault.{ClassFault}}
-use Rattle.gs_filter.specs.declared.fault.ClassFault.TheVariants.{Length, NotFirstSeen, ParentsApart, Memory}
+use Rattle.gs_filter.specs.declared.fault.ClassFault.TheVariants.{Length, NotFirstSeen, ParentsApart}
 use Rattle.gs_model.specs.Classes.{ClassLists, IsClasses, class_of, list_of}
 
 -- signals of one class have parents of one class, where the round above is named
@@ -26,12 +26,10 @@ together parents lists round b h later top within =
     let filtered : FilterAt parents lists (round - 1) round = subst (λ r. FilterAt parents lists (round - 1) r) back filter in
     filtered a b (omega arith) (omega arith) same
 
-pub classes_kept : (parents : List (List ℕ)) (lists : ClassLists) (why : ClassFault) → IsClasses parents lists → (why ≢ Memory) → IsFaultOf parents lists why
-    → ⊥
-classes_kept parents lists (Length round) h some f =
+pub classes_kept : (parents : List (List ℕ)) (lists : ClassLists) (why : ClassFault) → IsClasses parents lists → IsFaultOf parents lists why → ⊥
+classes_kept parents lists (Length round) h f =
     let top : round ≤ length parents = elim f.with_one [ inl e ↦ e | inr e ↦ omega (arith, h.rounds, e) ] in
     f.here (record { with_parents = top; with_classes = omega (arith, h.rounds, top); lengths = h.lengths round f.some top })
-classes_kept parents lists (NotFirstSeen round at) h some f = f.1.here.here (h.numbered round f.1.some (omega (arith, h.rounds, f.1.top)) at f.1.here.within)
-classes_kept parents lists (ParentsApart round a b) h some f = f.2.here.here
+classes_kept parents lists (NotFirstSeen round at) h f = f.1.here.here (h.numbered round f.1.some (omega (arith, h.rounds, f.1.top)) at f.1.here.within)
+classes_kept parents lists (ParentsApart round a b) h f = f.2.here.here
     (together parents lists round b h f.2.some (omega (arith, h.rounds, f.2.top)) f.2.here.within)
-classes_kept parents lists Memory h some f = some refl

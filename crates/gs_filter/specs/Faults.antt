@@ -1,8 +1,9 @@
 -- The rules for class lists, in the order in which they are checked, and the first place that breaks a rule.
 use Rattle.std.specs.{Prelude.{ℕ, ◌-◌, ◌<◌, ◌≤◌, ◌≡◌, ◌==◌, ◌⊎◌, List, length, get_or}, List.{position_or_len}}
 use Rattle.gs_model.specs.{Numbering.{IsNumbered}, Classes.{ClassLists, list_of}}
-use Rattle.gs_filter.specs.{Tallies.{IsFirstUnseenIn}, declared.fault.ClassFault.{ClassFault}}
-use Rattle.gs_filter.specs.declared.fault.ClassFault.TheVariants.{Length, NotFirstSeen, ParentsApart, Memory}
+use Rattle.gs_filter.specs.{Tallies.{IsFirstUnseenIn}, declared.fault.ClassError.{ClassError}, declared.fault.ClassFault.{ClassFault}}
+use Rattle.gs_filter.specs.declared.fault.ClassFault.TheVariants.{Length, NotFirstSeen, ParentsApart}
+use Rattle.gs_filter.specs.declared.fault.ClassError.TheVariants.{Fault, Memory}
 
 -- ---- lengths
 
@@ -76,23 +77,26 @@ pub record AreFirstApart (parents : List (List ℕ)) (lists : ClassLists) (round
 
 -- ---- faults
 
--- a fault names the first broken rule, in the order lengths, numbers, parents; `Memory` may be reported for any lists
+-- a fault names the first broken rule, in the order lengths, numbers, parents
 abbrev pub IsFaultOf : List (List ℕ) → ClassLists → ClassFault → Type 0
 IsFaultOf parents lists (Length round) = IsFirstLength parents lists round
 IsFaultOf parents lists (NotFirstSeen round at) = Agree parents lists × IsFirstUnseen lists round at
 IsFaultOf parents lists (ParentsApart round a b) = Agree parents lists × AllNumbered lists × AreFirstApart parents lists round a b
-IsFaultOf parents lists Memory = Unit {0}
 
--- the faults that reading the numbers can find: the first invalid number, or out of memory
-abbrev pub IsUnseen : ClassLists → ClassFault → Type 0
-IsUnseen lists (NotFirstSeen round at) = IsFirstUnseen lists round at
+-- an error is the fault of the lists; memory may run out for any lists
+abbrev pub IsErrorOf : List (List ℕ) → ClassLists → ClassError → Type 0
+IsErrorOf parents lists Memory = Unit {0}
+IsErrorOf parents lists (Fault why) = IsFaultOf parents lists why
+
+-- why reading the numbers fails: the first invalid number; memory may run out for any lists
+abbrev pub IsUnseen : ClassLists → ClassError → Type 0
 IsUnseen lists Memory = Unit {0}
-IsUnseen lists (Length round) = ⊥
-IsUnseen lists (ParentsApart round a b) = ⊥
+IsUnseen lists (Fault (NotFirstSeen round at)) = IsFirstUnseen lists round at
+IsUnseen lists (Fault (Length round)) = ⊥
+IsUnseen lists (Fault (ParentsApart round a b)) = ⊥
 
 -- the fault that comparing the parents can find: two members of one class with parents in different classes
 abbrev pub IsApart : List (List ℕ) → ClassLists → ClassFault → Type 0
 IsApart parents lists (ParentsApart round a b) = AreFirstApart parents lists round a b
 IsApart parents lists (NotFirstSeen round at) = ⊥
-IsApart parents lists Memory = ⊥
 IsApart parents lists (Length round) = ⊥

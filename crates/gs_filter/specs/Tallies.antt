@@ -1,7 +1,7 @@
 -- Sizes and first members of the classes of one list.
 use Rattle.std.specs.{Prelude.{ℕ, ◌+◌, ◌<◌, ◌≤◌, ◌≡◌, ◌^◌, ◌==◌, List, length, take, get_or, map, count_by}, List.{range_with_len, position_or_len}}
 use Rattle.gs_model.specs.Numbering.{greatest, IsNumbered}
-use Rattle.gs_filter.specs.{declared.tally.Tally.{Tally}, declared.tally.Stop.{Stop}, declared.tally.Stop.TheVariants.{Unseen, Memory}}
+use Rattle.gs_filter.specs.{declared.tally.Tally.{Tally}, declared.tally.TallyError.{TallyError}, declared.tally.TallyError.TheVariants.{Fault, Memory}}
 
 -- the size of a class, and its first member
 abbrev pub tally_of : List ℕ → ℕ → Tally
@@ -25,10 +25,10 @@ pub record IsFirstUnseenIn (list : List ℕ) (at : ℕ) : Type 0 where
   pub before : (k : ℕ) → k < at → IsNextNumber list k
   pub here : ¬ IsNextNumber list at
 
--- why tallying a list stopped: the first place with an invalid number, or out of memory
-abbrev pub IsStopOf : List ℕ → Stop → Type 0
-IsStopOf list (Unseen at) = IsFirstUnseenIn list at
-IsStopOf list Memory = Unit {0}
+-- why a list is not tallied: the first place with an invalid number; memory may run out for any list
+abbrev pub IsErrorOf : List ℕ → TallyError → Type 0
+IsErrorOf list Memory = Unit {0}
+IsErrorOf list (Fault at) = IsFirstUnseenIn list at
 
 -- what comparing the parents' classes needs: the parents and classes of one round, the classes `above` of the round before, and the tallies
 pub record AreReady (parents above list : List ℕ) (tallies : List Tally) : Type 0 where

@@ -5,7 +5,7 @@ ghost use Rattle.gs_model.specs.{Rows.{rows}, Classes.{list_of, class_of, class_
 ghost use Rattle.gs_filter.specs.Filter.{AreParents, IsParentClass, single_classes};
 
 use crate::apart::first_apart;
-use crate::fault::ClassFault;
+use crate::fault::{ClassError, ClassFault};
 use crate::rows::{copy_of, counted, first_length, of_round};
 use crate::tallies::{Tallies, tally_lists};
 use crate::tally::Tally;
@@ -40,26 +40,26 @@ impl Model for Classes {
 }
 
 impl Classes {
-    ghost use Rattle.gs_filter.specs.{Faults.{IsFaultOf}, Tallies.{tally_of}};
+    ghost use Rattle.gs_filter.specs.{Faults.{IsErrorOf}, Tallies.{tally_of}};
 
-    /// Makes classes from these lists over these parents. Errors: the first rule that the lists break, or `Memory` if memory runs out.
+    /// Makes classes from these lists over these parents. Fails with the first rule that the lists break, or if memory runs out.
     pub fn new(
         alloc: Global,
         parents: &[Vec<u32>],
         lists: Vec<Vec<u32>>,
-    ) -> Result<Classes, ClassFault>
+    ) -> Result<Classes, ClassError>
         requires { AreParents (rows parents.now) }
         ensures parents { IfOk result (λ c. c.parents ≡ rows parents.now) }
         ensures lists { IfOk result (λ c. c.lists ≡ rows lists.items) }
         ensures classes { IfOk result (λ c. IsClasses c.parents c.lists) }
-        ensures refused { IfErr result (IsFaultOf (rows parents.now) (rows lists.items)) }
+        ensures refused { IfErr result (IsErrorOf (rows parents.now) (rows lists.items)) }
     {
         if let Some(round) = first_length(parents, &lists) {
-            return Err(ClassFault::Length { round });
+            return Err(ClassError::Fault(ClassFault::Length { round }));
         }
         let tallies = tally_lists(alloc, &lists)?;
         if let Some(fault) = first_apart(parents, &lists, &tallies) {
-            return Err(fault);
+            return Err(ClassError::Fault(fault));
         }
         Ok(Classes {
             parents: copy_of(alloc, parents)?,
@@ -85,7 +85,7 @@ impl Classes {
                 lists,
                 tallies,
             }),
-            Err(ClassFault::Memory) => Err(AllocError),
+            Err(ClassError::Memory) => Err(AllocError),
             Err(_) => unreachable!(),
         }
     }

@@ -1,9 +1,9 @@
 //! The faults of class lists.
 
 ghost use Rattle.std.specs.Prelude.{◌≡◌};
-ghost use Rattle.gs_filter.specs.declared.fault.ClassFault.TheVariants.{Memory};
+ghost use Rattle.gs_filter.specs.declared.fault.ClassError.TheVariants.{Fault, Memory};
 
-use std::alloc::AllocError;
+use std::alloc::{AllocError, AllocFailed};
 use std::error::Error;
 use std::fmt;
 
@@ -16,8 +16,6 @@ pub enum ClassFault {
     NotFirstSeen { round: u32, at: u32 },
     /// `a` is the first member of the class of `b`, and their parents are in different classes.
     ParentsApart { round: u32, a: u32, b: u32 },
-    /// Out of memory.
-    Memory,
 }
 
 impl fmt::Display for ClassFault {
@@ -33,17 +31,39 @@ impl fmt::Display for ClassFault {
             ClassFault::ParentsApart { round, a, b } => {
                 write!(f, "parents apart in round {round} at {a} and {b}")
             }
-            ClassFault::Memory => write!(f, "out of memory"),
         }
     }
 }
 
 impl Error for ClassFault {}
 
-impl<E: Into<AllocError> + Drop> From<E> for ClassFault {
-    ghost from_gives = { λ _ e. e ≡ Memory };
+/// Why no classes are made: memory ran out, or the lists break a rule.
+#[derive(Clone, Copy, Debug)]
+pub enum ClassError {
+    Memory,
+    Fault(ClassFault),
+}
 
-    fn from(_error: E) -> ClassFault {
-        ClassFault::Memory
+impl From<AllocError> for ClassError {
+    ghost from_gives = { λ _ error. error ≡ Memory };
+
+    fn from(_: AllocError) -> ClassError {
+        ClassError::Memory
+    }
+}
+
+impl<T: Drop> From<AllocFailed<T>> for ClassError {
+    ghost from_gives = { λ _ error. error ≡ Memory };
+
+    fn from(_: AllocFailed<T>) -> ClassError {
+        ClassError::Memory
+    }
+}
+
+impl From<ClassFault> for ClassError {
+    ghost from_gives = { λ fault error. error ≡ Fault fault };
+
+    fn from(fault: ClassFault) -> ClassError {
+        ClassError::Fault(fault)
     }
 }

@@ -11,6 +11,6 @@ mod tallies;
 mod tally;
 
 pub use classes::Classes;
-pub use fault::ClassFault;
+pub use fault::{ClassError, ClassFault};
 pub use laws::classes_have_no_fault;
 pub use members::next_members;

@@ -2,11 +2,11 @@
 
 ghost use Rattle.std.specs.Prelude.{◌≡◌, ◌+◌, ◌↔◌, ◌<◌, ◌≤◌, ◌^◌, length, map, slice_index, EachIndex, IfErr, IfOk, IsTrue, OnOk};
 ghost use Rattle.gs_model.specs.{Numbering.{IsNumbered}, Rows.{rows}};
-ghost use Rattle.gs_filter.specs.{Tallies.{tallies_of, IsStopOf}, Filter.{AreShort}, Faults.{AllNumbered, IsUnseen}};
+ghost use Rattle.gs_filter.specs.{Tallies.{tallies_of, IsErrorOf}, Filter.{AreShort}, Faults.{AllNumbered, IsUnseen}};
 
-use crate::fault::ClassFault;
+use crate::fault::{ClassError, ClassFault};
 use crate::rows::of_round;
-use crate::tally::{Stop, Tally, count_members};
+use crate::tally::{Tally, TallyError, count_members};
 use std::alloc::Global;
 use std::marker::Model;
 
@@ -69,12 +69,12 @@ fn counts_up(list: &[u32]) -> bool
     true
 }
 
-/// Returns the tally of each class of a list. Errors: the first place whose number is invalid, or `Memory` if memory runs out.
-pub(crate) fn tally_list(alloc: Global, list: &[u32]) -> Result<Tallies, Stop>
+/// Returns the tally of each class of a list. Fails with the first place whose number is invalid, or if memory runs out.
+pub(crate) fn tally_list(alloc: Global, list: &[u32]) -> Result<Tallies, TallyError>
     requires { length list.now < 2 ^ 32 }
     ensures tallied { IfOk result (λ tallies. tallies ≡ tallies_of list.now) }
     ensures numbered { OnOk result (IsNumbered list.now) }
-    ensures unseen { IfErr result (IsStopOf list.now) }
+    ensures unseen { IfErr result (IsErrorOf list.now) }
 {
     if counts_up(list) {
         return Ok(Tallies {
@@ -88,8 +88,8 @@ pub(crate) fn tally_list(alloc: Global, list: &[u32]) -> Result<Tallies, Stop>
     })
 }
 
-/// Returns the tallies of each list. Errors: the first invalid number, by round and place, or `Memory` if memory runs out.
-pub(crate) fn tally_lists(alloc: Global, lists: &[Vec<u32>]) -> Result<Vec<Tallies>, ClassFault>
+/// Returns the tallies of each list. Fails with the first invalid number, by round and place, or if memory runs out.
+pub(crate) fn tally_lists(alloc: Global, lists: &[Vec<u32>]) -> Result<Vec<Tallies>, ClassError>
     requires few { length lists.now ≤ 4 }
     requires short { AreShort (rows lists.now) }
     ensures tallied { IfOk result (λ tallies. tallies.items ≡ map tallies_of (rows lists.now)) }
@@ -100,8 +100,10 @@ pub(crate) fn tally_lists(alloc: Global, lists: &[Vec<u32>]) -> Result<Vec<Talli
     for round in 1..lists.len() as u32 + 1 {
         match tally_list(alloc, of_round(lists, round)) {
             Ok(list) => tallies.push(list)?,
-            Err(Stop::Unseen(at)) => return Err(ClassFault::NotFirstSeen { round, at }),
-            Err(Stop::Memory) => return Err(ClassFault::Memory),
+            Err(TallyError::Memory) => return Err(ClassError::Memory),
+            Err(TallyError::Fault(at)) => {
+                return Err(ClassError::Fault(ClassFault::NotFirstSeen { round, at }));
+            }
         }
     }
     Ok(tallies)

@@ -2,7 +2,7 @@
 
 ghost use Rattle.std.specs.Prelude.{◌≡◌, ◌<◌, ◌^◌, length, IfOk, OnOk, IfErr};
 ghost use Rattle.gs_model.specs.Numbering.{IsNumbered};
-ghost use Rattle.gs_filter.specs.Tallies.{tallies_of, IsStopOf};
+ghost use Rattle.gs_filter.specs.Tallies.{tallies_of, IsErrorOf};
 
 use std::alloc::{AllocFailed, Global};
 
@@ -13,38 +13,37 @@ pub(crate) struct Tally {
     pub(crate) first: u32,
 }
 
-/// Why a list could not be tallied.
+/// Why a list is not tallied: memory ran out, or the number at this place is 0 or more than one above the greatest before it.
 #[derive(Clone, Copy)]
-pub(crate) enum Stop {
-    /// The number at this place is 0, or more than one above the greatest before it.
-    Unseen(u32),
+pub(crate) enum TallyError {
     Memory,
+    Fault(u32),
 }
 
-impl<T: Drop> From<AllocFailed<T>> for Stop {
+impl<T: Drop> From<AllocFailed<T>> for TallyError {
     ghost use Rattle.std.specs.Prelude.{◌≡◌};
-    ghost use Rattle.gs_filter.specs.declared.tally.Stop.TheVariants.{Memory};
+    ghost use Rattle.gs_filter.specs.declared.tally.TallyError.TheVariants.{Memory};
 
     ghost from_gives = { λ _ e. e ≡ Memory };
 
-    fn from(_error: AllocFailed<T>) -> Stop {
-        Stop::Memory
+    fn from(_error: AllocFailed<T>) -> TallyError {
+        TallyError::Memory
     }
 }
 
-/// Returns the tally of each class of a list. Errors: the first place whose number is invalid, or `Memory` if memory runs out.
-pub(crate) fn count_members(alloc: Global, list: &[u32]) -> Result<Vec<Tally>, Stop>
+/// Returns the tally of each class of a list. Fails with the first place whose number is invalid, or if memory runs out.
+pub(crate) fn count_members(alloc: Global, list: &[u32]) -> Result<Vec<Tally>, TallyError>
     requires { length list.now < 2 ^ 32 }
     ensures tallied { IfOk result (λ tallies. tallies.items ≡ tallies_of list.now) }
     ensures numbered { OnOk result (IsNumbered list.now) }
-    ensures unseen { IfErr result (IsStopOf list.now) }
+    ensures unseen { IfErr result (IsErrorOf list.now) }
 {
     let mut tallies: Vec<Tally> = Vec::new(alloc);
     for (at, class) in list.iter().enumerate() {
         let class = *class as usize;
         let seen = tallies.len();
         if class == 0 || class > seen + 1 {
-            return Err(Stop::Unseen(at as u32));
+            return Err(TallyError::Fault(at as u32));
         }
         if class > seen {
             tallies.push(Tally {

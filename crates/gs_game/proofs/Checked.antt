@@ -6,14 +6,14 @@ use Rattle.std.specs.{Prelude.{Option, Some, None, All}, List.{AllByRecursion}}
 use Rattle.gs_card.specs.Rankings.{ranking_of}
 use Rattle.gs_model.specs.{Deals.{deals}, Frame.{frame_of, total_weight, trees_of}, Walk.{walk, walk_start, walk_rounds}, Numbering.{greatest}}
 use Rattle.gs_model.specs.{Game.{Game as Rules, Round as RoundRules, Ranking, High, Pair, Three, round_count}, Outcome.{IsBonus, categories}, Signals.{signals}}
-use Rattle.gs_game.specs.{declared.faults.GameFault.{GameFault}, declared.game.Game.{Game}, declared.game.Round.{Round}, declared.positions.Point.{Point}}
-use Rattle.gs_game.specs.{declared.positions.End.{End}, declared.positions.Target.{Target as StoredTarget}, FaultOf.{IsFaultOf}, Money.{first_of, most_in}}
+use Rattle.gs_game.specs.{declared.faults.GameError.{GameError}, declared.faults.GameFault.{GameFault}, declared.game.Game.{Game}, declared.game.Round.{Round}, declared.positions.Point.{Point}}
+use Rattle.gs_game.specs.{declared.positions.End.{End}, declared.positions.Target.{Target as StoredTarget}, FaultOf.{IsErrorOf, IsFaultOf}, Money.{first_of, most_in}}
 use Rattle.gs_game.specs.{Games.{HasFewCards, game_of, round_rules, plain_trees}, Limits.{IsDealable, IsWithinLimits}, Lines.{RoundsFollow}}
 use Rattle.gs_game.specs.Refusals.{put_too_large, too_many_lines, too_heavy, too_many_signals, too_many_deals, card_refusal, betting_refusal, even_refusal}
 use Rattle.gs_game.specs.Refusals.{uneven_refusal, put_refusal, lines_refusal, deal_refusal, weight_refusal, signals_from, signals_refusal, deals_refusal}
 use Rattle.gs_game.specs.{Refusals.{first_refusal}, Valid.{IsWalkOf}, Walks.{Grows, RoundsWalkable}}
 use Rattle.gs_model.proofs.Basics.{some-none}
-use Rattle.gs_game.proofs.{DealChecks.{cards_pass}, Deciding.{fault_first, fault_second, trees_are, ends_are}, Evenly.{neither}, PointBound.{few_points}}
+use Rattle.gs_game.proofs.{DealChecks.{cards_pass}, Deciding.{error_first, error_second, fault_first, trees_are, ends_are}, Evenly.{neither}, PointBound.{few_points}}
 
 -- a test that found nothing
 not-over : {A : Type 0} (limit n : ℕ) (x : A) (r : Option A) → (nat_lt limit n ≡ true → r ≡ Some x) → r ≡ None → n ≤ limit
@@ -28,13 +28,13 @@ pub cards_fault : (g : Rules) (f : GameFault) → IsFaultOf (card_refusal g) f �
 unfolding first_refusal
 cards_fault g f h = fault_first (card_refusal g) _ f h
 
-pub betting_fault : (g : Rules) (f : GameFault) → card_refusal g ≡ None → IsFaultOf (betting_refusal g) f → IsFaultOf (first_refusal g) f
+pub betting_fault : (g : Rules) (f : GameError) → card_refusal g ≡ None → IsErrorOf (betting_refusal g) f → IsErrorOf (first_refusal g) f
 unfolding first_refusal
-betting_fault g f c h = fault_second (card_refusal g) _ f c (fault_first (betting_refusal g) _ f h)
+betting_fault g f c h = error_second (card_refusal g) _ f c (error_first (betting_refusal g) _ f h)
 
-pub deals_fault : (g : Rules) (f : GameFault) → card_refusal g ≡ None → betting_refusal g ≡ None → IsFaultOf (deal_refusal g) f → IsFaultOf (first_refusal g) f
+pub deals_fault : (g : Rules) (f : GameError) → card_refusal g ≡ None → betting_refusal g ≡ None → IsErrorOf (deal_refusal g) f → IsErrorOf (first_refusal g) f
 unfolding first_refusal
-deals_fault g f c b h = fault_second (card_refusal g) _ f c (fault_second (betting_refusal g) _ f b h)
+deals_fault g f c b h = error_second (card_refusal g) _ f c (error_second (betting_refusal g) _ f b h)
 
 pub no_refusal : (g : Rules) → card_refusal g ≡ None → betting_refusal g ≡ None → deal_refusal g ≡ None → first_refusal g ≡ None
 unfolding first_refusal

@@ -6,7 +6,7 @@ use Rattle.std.proofs.lemmas.List.{length-map}
 use Rattle.std.specs.{Prelude.{Some, None, All, ◌==◌, ◌&&◌, nat_le}, List.{AllByRecursion}}
 use Rattle.gs_model.specs.{Frame.{frame_of, total_weight}, Deals.{deals}}
 use Rattle.gs_model.specs.{Game.{Game as Rules, Round as RoundRules, Ranking, High, Pair, Three, round_count, round_at}, Signals.{signals}}
-use Rattle.gs_card.specs.Rankings.{ranking_of}
+use Rattle.gs_card.specs.{Rankings.{ranking_of}, declared.faults.TheConstants.{MOST_KINDS}}
 use Rattle.gs_model.proofs.Basics.{every-append, some-none}
 use Rattle.gs_game.specs.{declared.game.Game.{Game}, declared.game.Round.{Round}, declared.faults.GameFault.{GameFault}, FaultOf.{IsFaultOf}}
 use Rattle.gs_game.specs.{Games.{HasFewCards, game_of, round_rules}, Money.{first_of}, Refusals.{signals_refusal, deals_refusal, deal_refusal}}
@@ -152,7 +152,7 @@ sizes_few rs h =
     All-from_recursion (λ k. k ≤ 3) (deal_sizes (map round_rules rs)) (every-append (λ k. k
     ≤ 3) (seen_sizes (map round_rules rs)) (privates (map round_rules rs)) few.0 few.1)
 
-pub copies_few : (counts : List ℕ) → length counts ≤ 52 → All (λ n. n ≤ 9) counts → sum counts ≤ 468
+pub copies_few : (counts : List ℕ) → length counts ≤ MOST_KINDS → All (λ n. n ≤ 9) counts → sum counts ≤ 468
 copies_few counts short h =
     let s = sum_by-le (λ (x : ℕ). x) 9 counts h in
     omega (arith, s, short)

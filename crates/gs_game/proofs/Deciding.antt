@@ -4,31 +4,27 @@ use Rattle.std.proofs.lemmas.Bool.{lt-ltb, le-ltb}
 use Rattle.std.specs.Prelude.{◌==◌, ◌&&◌, Option, Some, None, nat_le, nat_lt, Result, Ok, Err, MatchResult}
 use Rattle.gs_model.specs.{Betting.{Bet}, Frame.{trees_of}, Walk.{walk, walk_start}, Numbering.{greatest}}
 use Rattle.gs_model.specs.Game.{Game as Rules, Round as RoundRules, round_at, round_count}
-use Rattle.gs_game.specs.{declared.faults.GameFault.{GameFault}, declared.game.Game.{Game}, declared.game.Round.{Round}, FaultOf.{IsFaultOf}, Counts.{ends_in}}
+use Rattle.gs_game.specs.{declared.faults.GameError.{GameError}, declared.faults.GameFault.{GameFault}, declared.game.Game.{Game}, declared.game.Round.{Round}, FaultOf.{IsErrorOf, IsFaultOf}, Counts.{ends_in}}
 use Rattle.gs_game.specs.{Games.{round_rules, game_of, plain_trees}, Money.{first_of, most_in}, Refusals.{betting_refusal}}
 use Rattle.gs_game.specs.Refusals.{Refusal, put_too_large, too_many_lines, no_even_from, uneven_from, even_refusal, uneven_refusal, put_refusal, lines_refusal}
 use Rattle.gs_game.specs.Refusals.{card_refusal, no_private, private_refusal, rounds, rounds_refusal}
-use Rattle.gs_game.specs.declared.faults.GameFault.TheVariants as faults
+use Rattle.gs_game.specs.declared.faults.GameError.TheVariants as errors
 use Rattle.gs_game.proofs.EndLaws.{rounds_count}
 
 -- a fault of the first test is the fault of both
 pub fault_first : (a b : Option Refusal) (f : GameFault) → IsFaultOf a f → IsFaultOf (first_of a b) f
-fault_first a b (faults.Rounds n) h = rw h refl
-fault_first a b faults.NoPrivate h = rw h refl
-fault_first a b (faults.RankingCards m n) h = rw h refl
-fault_first a b (faults.NotEnoughCards m n) h = rw h refl
-fault_first a b (faults.NoEven n) h = rw h refl
-fault_first a b (faults.Uneven n path) h = rw h refl
-fault_first a b (faults.PutTooLarge n) h = rw h refl
-fault_first a b (faults.TooManyLines n) h = rw h refl
-fault_first a b (faults.TooHeavy n) h = rw h refl
-fault_first a b (faults.TooManySignals n) h = rw h refl
-fault_first a b faults.TooManyDeals h = rw h refl
-fault_first a b faults.Memory h = tt
+fault_first a b f h = rw h refl
+
+pub error_first : (a b : Option Refusal) (e : GameError) → IsErrorOf a e → IsErrorOf (first_of a b) e
+error_first a b errors.Memory h = tt
+error_first a b (errors.Fault f) h = fault_first a b f h
 
 -- a fault of the second test, where the first finds none
 pub fault_second : (a b : Option Refusal) (f : GameFault) → a ≡ None → IsFaultOf b f → IsFaultOf (first_of a b) f
 fault_second a b f e h = rw e h
+
+pub error_second : (a b : Option Refusal) (f : GameError) → a ≡ None → IsErrorOf b f → IsErrorOf (first_of a b) f
+error_second a b f e h = rw e h
 
 same_trees : (rs : List Round) → map (λ (r : RoundRules). r.tree) (map round_rules rs) ≡ plain_trees rs
 same_trees [] = refl
@@ -79,11 +75,11 @@ pub evens_fault : (g : Game) (rs : List Round) (f : GameFault) → rs ≡ g.roun
 unfolding betting_refusal even_refusal
 evens_fault g rs f e h = fault_first (even_refusal (game_of g)) _ f (rw (trees_are g, sym e) h)
 
-pub uneven_fault : (g : Game) (rs ss : List Round) (f : GameFault) → rs ≡ g.rounds.items → no_even_from 1 (plain_trees rs) ≡ None → ss ≡ g.rounds.items
-    → IsFaultOf (uneven_from 1 (plain_trees ss)) f → IsFaultOf (betting_refusal (game_of g)) f
+pub uneven_fault : (g : Game) (rs ss : List Round) (f : GameError) → rs ≡ g.rounds.items → no_even_from 1 (plain_trees rs) ≡ None → ss ≡ g.rounds.items
+    → IsErrorOf (uneven_from 1 (plain_trees ss)) f → IsErrorOf (betting_refusal (game_of g)) f
 unfolding betting_refusal uneven_refusal
 uneven_fault g rs ss f d fine e h =
-    fault_second (even_refusal (game_of g)) _ f (evens_fine g rs d fine) (fault_first (uneven_refusal (game_of g)) _ f (rw (trees_are g, sym e) h))
+    error_second (even_refusal (game_of g)) _ f (evens_fine g rs d fine) (error_first (uneven_refusal (game_of g)) _ f (rw (trees_are g, sym e) h))
 
 -- the trees are even
 pub record EvensPass (g : Game) : Type 0 where
@@ -109,13 +105,6 @@ lines_fault g f p put h =
 pub betting_fine : (g : Game) → EvensPass g → put_refusal (game_of g) ≡ None → lines_refusal (game_of g) ≡ None → betting_refusal (game_of g) ≡ None
 unfolding betting_refusal
 betting_fine g p put lines = rw (p.evens, p.uneven, put, lines) refl
-
--- the last test decides
-pub lines_decide : (g : Game) (r : Result (Unit {0}) GameFault) → EvensPass g → put_refusal (game_of g) ≡ None
-    → MatchResult r (λ _. lines_refusal (game_of g) ≡ None) (IsFaultOf (lines_refusal (game_of g)))
-    → MatchResult r (λ _. betting_refusal (game_of g) ≡ None) (IsFaultOf (betting_refusal (game_of g)))
-lines_decide g (Ok x) p put h = betting_fine g p put h
-lines_decide g (Err f) p put h = lines_fault g f p put h
 
 -- no round, or too many
 pub rounds_refused : (g : Rules) (n : ℕ) → n ≡ round_count g → (n ≡ 0) ⊎ ((n ≢ 0) × (4 < n)) → card_refusal g ≡ Some (rounds n)

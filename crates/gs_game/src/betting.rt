@@ -3,10 +3,10 @@
 ghost use Rattle.std.specs.Prelude.{◌≡◌, ◌≤◌, ◌<◌, ◌+◌, ◌-◌, ◌*◌, ◌^◌, ℕ, None, MatchResult, length, min};
 ghost use Rattle.gs_bet.specs.TreeView.{plain};
 ghost use Rattle.gs_model.specs.Numbering.{greatest};
-ghost use Rattle.gs_game.specs.{FaultOf.{IsFaultOf}, Counts.{ends_in, ends_of}, Games.{game_of, plain_trees}, Money.{most_in}};
+ghost use Rattle.gs_game.specs.{FaultOf.{IsErrorOf, IsFaultOf}, Counts.{ends_in, ends_of}, Games.{game_of, plain_trees}, Money.{most_in}};
 ghost use Rattle.gs_game.specs.Refusals.{betting_refusal, lines_refusal, no_even_from, put_refusal, uneven_from};
 
-use crate::faults::GameFault;
+use crate::faults::{GameError, GameFault};
 use crate::game::{Game, Round};
 use crate::money::{Put, find_uneven, has_even, most_above};
 use gs_bet::Tree;
@@ -29,18 +29,18 @@ fn check_evens(rounds: &[Round], number: u8) -> Result<(), GameFault>
 }
 
 /// Checks that the players have put the same at each even leaf of these trees. Fails with the first uneven leaf. The first tree is that of round `number`.
-fn check_uneven(alloc: Global, rounds: &[Round], number: u8) -> Result<(), GameFault>
+fn check_uneven(alloc: Global, rounds: &[Round], number: u8) -> Result<(), GameError>
     requires { number + length rounds.now ≤ 5 }
-    ensures { MatchResult result (λ _. uneven_from number (plain_trees rounds.now) ≡ None) (IsFaultOf (uneven_from number (plain_trees rounds.now))) }
+    ensures { MatchResult result (λ _. uneven_from number (plain_trees rounds.now) ≡ None) (IsErrorOf (uneven_from number (plain_trees rounds.now))) }
 {
     match rounds {
         [first, rest @ ..] => {
             let mut path = Vec::new(alloc);
             if find_uneven(&first.tree.tree, Put { one: 0, two: 0 }, &mut path)? {
-                return Err(GameFault::Uneven {
+                return Err(GameError::Fault(GameFault::Uneven {
                     round: number,
                     path,
-                });
+                }));
             }
             check_uneven(alloc, rest, number + 1)
         }
@@ -130,14 +130,15 @@ fn check_lines(game: &Game) -> Result<(), GameFault>
 
 /// Checks a game's betting. Fails with the first refusal that applies to it: even leaves, equal money, the most put, the number of ends.
 #[tactic(auto, unfolding(crate::specs::Refusals::betting_refusal, crate::specs::Refusals::even_refusal, crate::specs::Refusals::uneven_refusal))]
-pub fn check_betting(alloc: Global, game: &Game) -> Result<(), GameFault>
+pub fn check_betting(alloc: Global, game: &Game) -> Result<(), GameError>
     requires few { length game.now.rounds.items ≤ 4 }
     requires ante { game.now.ante ≤ 4096 }
     requires bonus { greatest game.now.bonus.items ≤ 9 }
-    ensures { MatchResult result (λ _. betting_refusal (game_of game.now) ≡ None) (IsFaultOf (betting_refusal (game_of game.now))) }
+    ensures { MatchResult result (λ _. betting_refusal (game_of game.now) ≡ None) (IsErrorOf (betting_refusal (game_of game.now))) }
 {
     check_evens(&game.rounds, 1)?;
     check_uneven(alloc, &game.rounds, 1)?;
     check_put(game)?;
-    check_lines(game)
+    check_lines(game)?;
+    Ok(())
 }

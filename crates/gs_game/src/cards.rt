@@ -1,7 +1,7 @@
 //! Checks a game's rounds and cards.
 
 ghost use Rattle.std.specs.Prelude.{◌≡◌, ◌≤◌, ◌*◌, ◌↔◌, EachIndex, IsTrue, None, MatchResult, All, length, slice_index, sum, sum_by};
-ghost use Rattle.gs_card.specs.Rankings.{ranking_of};
+ghost use Rattle.gs_card.specs.{Rankings.{ranking_of}, declared.faults.TheConstants.{MOST_KINDS}};
 ghost use Rattle.gs_game.specs.{FaultOf.{IsFaultOf}, Games.{HasFewCards, game_of}, Refusals.{card_refusal, ranks}};
 
 use crate::faults::GameFault;
@@ -27,7 +27,7 @@ fn cards_over(rounds: &[Round]) -> (u8, u8)
 
 /// Returns the number of all copies of all kinds.
 pub fn all_copies(counts: &[u8]) -> u32
-    requires { length counts.now ≤ 52 }
+    requires { length counts.now ≤ MOST_KINDS }
     ensures { result ≡ sum counts.now }
 {
     let mut all = 0;

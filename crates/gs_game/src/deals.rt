@@ -1,14 +1,15 @@
 //! Checks the weight of a game's deals, and the numbers of its signals and deals.
 
 ghost use Rattle.std.specs.Prelude.{◌≡◌, ◌≤◌, ◌<◌, ◌+◌, ◌*◌, None, IfOk, OnOk, MatchResult, All, length, map, min, sum, ◌++◌};
+ghost use Rattle.gs_card.specs.Decks.{IsDeck};
 ghost use Rattle.gs_model.specs.{Cards.{choose}, Deals.{deals}, Frame.{frame_of, total_weight}};
-ghost use Rattle.gs_game.specs.{FaultOf.{IsFaultOf}, Games.{HasFewCards, game_of, round_rules}, Money.{first_of}};
+ghost use Rattle.gs_game.specs.{FaultOf.{IsErrorOf, IsFaultOf}, Games.{HasFewCards, game_of, round_rules}, Money.{first_of}};
 ghost use Rattle.gs_game.specs.Refusals.{card_refusal, deal_refusal, deals_refusal, signals_refusal};
 ghost use Rattle.gs_game.specs.Sequences.{count_sequences, deal_sizes, draws, power, privates, seen_sizes};
 
 use crate::cards::{all_copies, are_single};
 use crate::counting::count_sequences;
-use crate::faults::GameFault;
+use crate::faults::{GameError, GameFault};
 use crate::game::{Game, Round};
 use std::alloc::{AllocError, Global};
 
@@ -133,17 +134,17 @@ pub struct DealTotals {
 
 /// Returns the number and the weight of all deals. Fails with the first refusal that applies to them: their weight, the raw signals of a round, their
 /// number.
-pub fn check_deals(alloc: Global, game: &Game) -> Result<DealTotals, GameFault>
+pub fn check_deals(alloc: Global, game: &Game) -> Result<DealTotals, GameError>
     requires cards { All HasFewCards game.now.rounds.items }
     requires checked { card_refusal (game_of game.now) ≡ None }
     ensures { MatchResult result (λ totals. (deal_refusal (game_of game.now) ≡ None) × (totals.weight ≡ total_weight (frame_of (game_of game.now)))
-        × (totals.count ≡ length (deals (game_of game.now)))) (IsFaultOf (deal_refusal (game_of game.now))) }
+        × (totals.count ≡ length (deals (game_of game.now))) × IsDeck game.now.deck) (IsErrorOf (deal_refusal (game_of game.now))) }
 {
     let counts = game.deck.counts();
     let sizes = sizes_of(alloc, &game.rounds)?;
     let weight = draws(all_copies(counts), &sizes);
     if weight > 67_108_864 {
-        return Err(GameFault::TooHeavy { weight });
+        return Err(GameError::Fault(GameFault::TooHeavy { weight }));
     }
     let weight = weight as u64;
     let mut left = Vec::from_slice(alloc, counts)?;

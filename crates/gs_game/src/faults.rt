@@ -1,7 +1,7 @@
 //! Why a game is refused.
 
 ghost use Rattle.std.specs.Prelude.{◌≡◌};
-ghost use Rattle.gs_game.specs.declared.faults.GameFault.TheVariants.{Memory};
+ghost use Rattle.gs_game.specs.declared.faults.GameError.TheVariants.{Fault, Memory};
 
 use std::alloc::AllocError;
 
@@ -30,14 +30,27 @@ pub enum GameFault {
     TooManySignals { round: u8 },
     /// There are more than 8,000,000 deals.
     TooManyDeals,
-    /// Memory ran out.
-    Memory,
 }
 
-impl From<AllocError> for GameFault {
+/// Why a check of a game gives no answer: memory ran out, or the game is refused.
+#[derive(Drop)]
+pub enum GameError {
+    Memory,
+    Fault(GameFault),
+}
+
+impl From<AllocError> for GameError {
     ghost from_gives = { λ _ e. e ≡ Memory };
 
-    fn from(_e: AllocError) -> GameFault {
-        GameFault::Memory
+    fn from(_e: AllocError) -> GameError {
+        GameError::Memory
+    }
+}
+
+impl From<GameFault> for GameError {
+    ghost from_gives = { λ why e. e ≡ Fault why };
+
+    fn from(why: GameFault) -> GameError {
+        GameError::Fault(why)
     }
 }

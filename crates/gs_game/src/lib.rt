@@ -19,7 +19,7 @@ mod valid;
 mod walk;
 
 pub use cards::are_single;
-pub use faults::GameFault;
+pub use faults::{GameError, GameFault};
 pub use game::{Game, Round};
 pub use laws::{rounds_go_on, rules_are_refusals};
 pub use positions::{Arrow, End, EndKind, Point, Step, Target};

@@ -4,7 +4,7 @@ ghost use Rattle.std.specs.Prelude.{◌≡◌, ◌≤◌, ◌++◌, ◌∷◌, [
 ghost use Rattle.gs_game.specs.{Games.{HasFewCards, round_rules}, GoingOn.{unbet}, Sequences.{seen_sizes}};
 ghost use Rattle.gs_model.specs.Game.{Round as RoundRules};
 
-use crate::faults::GameFault;
+use crate::faults::GameError;
 use crate::game::{Game, Round};
 use crate::valid::ValidGame;
 use gs_bet::limit_tree;
@@ -79,7 +79,7 @@ impl ValidGame {
         match stopped.check(alloc) {
             Ok(valid) => Ok(Some(valid)),
             Err(fault) => match fault {
-                GameFault::Memory => Err(AllocError),
+                GameError::Memory => Err(AllocError),
                 _ => Ok(None),
             },
         }

@@ -1,6 +1,7 @@
 //! Valid games.
 
 ghost use Rattle.std.specs.Prelude.{◌≡◌, ◌≤◌, None, length};
+ghost use Rattle.gs_card.specs.Decks.{IsDeck};
 ghost use Rattle.gs_model.specs.{Deals.{deals as deals_of}, Frame.{frame_of, total_weight}};
 ghost use Rattle.gs_game.specs.{Games.{game_of}, Limits.{IsDealable, IsWithinLimits}, Refusals.{first_refusal}, Valid.{IsWalkOf}};
 
@@ -16,6 +17,7 @@ pub struct ValidGame {
     pub(crate) start: Target,
     pub(crate) deals: u32,
     pub(crate) weight: u64,
+    pub ghost deck: { IsDeck game.deck },
     pub ghost accepted: { first_refusal (game_of game) ≡ None },
     pub ghost ante: { (1 ≤ game.ante) × (game.ante ≤ 4096) },
     pub ghost limits: { IsWithinLimits (game_of game) },

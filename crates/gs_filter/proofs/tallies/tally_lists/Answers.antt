@@ -21,8 +21,8 @@ loop-round-preserved c =
           (cases_lt r c.loop-round.round);
     }
 
-pub returns-in-Err-Unseen-clause-unseen : goal.returns-in-Err-Unseen-clause-unseen
-returns-in-Err-Unseen-clause-unseen c = grind (arith, common_steps)
+pub returns-in-Err-Fault-clause-unseen : goal.returns-in-Err-Fault-clause-unseen
+returns-in-Err-Fault-clause-unseen c = grind (arith, common_steps)
 
 pub returns-clause-numbered : goal.returns-clause-numbered
 returns-clause-numbered c = grind (arith, common_steps)

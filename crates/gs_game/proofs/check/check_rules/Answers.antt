@@ -25,7 +25,7 @@ pub returns : goal.returns
 returns c =
     let card = c.in_ok-check_cards.ensures in
     let betting = c.in_ok-check_betting.ensures in
-    MatchResult-weaker c.check_deals.result c.check_deals.ensures (λ totals h. (card, betting, h.0, h.1, h.2))
+    MatchResult-weaker c.check_deals.result c.check_deals.ensures (λ totals h. (card, betting, h.0, h.1, h.2, h.3))
     (λ fault h. deals_fault (game_of c.args.game.now) fault card betting h)
 
 pub check_deals-requires-clause-cards : goal.check_deals-requires-clause-cards

@@ -40,7 +40,7 @@ returns c =
     let sizes = c.deref-2.ensures.value ∙ c.in_ok-sizes.ensures ∙ ap (λ (rs : List Round). deal_sizes (map round_rules rs)) c.deref.ensures.value in
     let weight = weight_within c.args.game.now c.all_copies.result c.draws-weight.result c.deref-2.result.now
     (c.all_copies.ensures ∙ ap sum c.counts-counts.ensures.counts) sizes c.draws-weight.ensures.ways c.if-weight-gt67108864.false in
-    (counts_within c.args.game.now weight.passes c.in_ok-count.ensures.0, weight.weighs, c.in_ok-count.ensures.1)
+    (counts_within c.args.game.now weight.passes c.in_ok-count.ensures.0, weight.weighs, c.in_ok-count.ensures.1, c.counts-counts.ensures.deck)
 
 pub check_counts-requires-clause-weight : goal.check_counts-requires-clause-weight
 check_counts-requires-clause-weight c = grind (arith, common_steps)

@@ -1,16 +1,16 @@
 use Rattle.std.proofs.{Common.{◌≡◌, ◌∙◌, ℕ, List, ap, length, refl, subst, sym, Vec, Global, Result, Ok, Err, arith}, lemmas.Result.{IfOk-from_err}}
 use Rattle.std.specs.Result.{IfErr, IsErrAnd}
 use Rattle.gs_model.specs.{Classes.{IsClasses}, Rows.{rows}}
-use Rattle.gs_filter.specs.{Filter.{AreParents}, Faults.{Agree, AllNumbered, AllTogether, IsFaultOf, IsFirstLength}}
-use Rattle.gs_filter.specs.{declared.fault.ClassFault.{ClassFault}, declared.fault.ClassFault.TheVariants.{Memory}}
+use Rattle.gs_filter.specs.{Filter.{AreParents}, Faults.{Agree, AllNumbered, AllTogether, IsErrorOf, IsFirstLength}}
+use Rattle.gs_filter.specs.{declared.fault.ClassError.{ClassError}, declared.fault.ClassError.TheVariants.{Memory}}
 use Rattle.gs_filter.proofs.RowLaws.{length-rows}
 use Rattle.gs_filter.proofs.ApartLaws.{classes_from}
 use Rattle.gs_filter.proofs.classes.Classes.new.Goals as goal
 
 -- out of memory says nothing of the lists
-memory_says : {T : Type 0} (parents lists : List (List ℕ)) (r : Result T ClassFault) → IsErrAnd r (λ e. e ≡ Memory) → IfErr r (IsFaultOf parents lists)
+memory_says : {T : Type 0} (parents lists : List (List ℕ)) (r : Result T ClassError) → IsErrAnd r (λ e. e ≡ Memory) → IfErr r (IsErrorOf parents lists)
 memory_says parents lists (Ok x) is = tt
-memory_says parents lists (Err e) is = subst (IsFaultOf parents lists) (sym is) tt
+memory_says parents lists (Err e) is = subst (IsErrorOf parents lists) (sym is) tt
 
 module _ (c : goal.In_ok-copy_of) where
   are_classes : IsClasses (rows c.args.parents.now) (rows c.args.lists.items)

@@ -17,6 +17,7 @@ pub invariant_of-result : goal.invariant_of-result
 invariant_of-result c =
     let grown = rw (c.new.ensures.items, c.new-2.ensures.items, c.deref.ensures.value, c.start.ensures) at c.in_ok-start.ensures in
     record {
+      deck = c.in_ok-totals.ensures.5;
       accepted = no_refusal (game_of c.args.self) c.in_ok-totals.ensures.0 c.in_ok-totals.ensures.1 c.in_ok-totals.ensures.2;
       ante = (c.requires.some_ante, c.requires.ante);
       limits = limits c.args.self c.requires.cards c.in_ok-totals.ensures.0 c.in_ok-totals.ensures.2;

@@ -3,10 +3,10 @@ use Rattle.std.proofs.{lemmas.Grind.{common_steps}, lemmas.List.{get_or-take, ta
 use Rattle.std.specs.{Prelude.{All, IfOk, IfSome, MatchOption, Option, Result, None, ◌≢◌}, declared.alloc.AllocError.{AllocError}, List.{AllByRecursion}}
 use Rattle.gs_card.specs.Decks.{DeckValue}
 use Rattle.gs_model.specs.{Game.{Game as Rules, Round as RoundRules, High}, Outcome.{IsBonus}}
-use Rattle.gs_game.specs.{FaultOf.{IsFaultOf}, Games.{HasFewCards, game_of, round_rules}, GoingOn.{StopsAfter, stopped_game, unbet}, Refusals.{Refusal, first_refusal}}
-use Rattle.gs_game.specs.{Sequences.{seen_sizes}, declared.faults.GameFault.{GameFault}, declared.game.Game.{Game}, declared.game.Round.{Round}}
+use Rattle.gs_game.specs.{FaultOf.{IsErrorOf}, Games.{HasFewCards, game_of, round_rules}, GoingOn.{StopsAfter, stopped_game, unbet}, Refusals.{Refusal, first_refusal}}
+use Rattle.gs_game.specs.{Sequences.{seen_sizes}, declared.faults.GameError.{GameError}, declared.game.Game.{Game}, declared.game.Round.{Round}}
 use Rattle.gs_game.specs.declared.valid.ValidGame.{ValidGame}
-use Rattle.gs_game.specs.declared.faults.GameFault.TheVariants as faults
+use Rattle.gs_game.specs.declared.faults.GameError.TheVariants as errors
 use Rattle.gs_game.proofs.valid.ValidGame.stopped.Goals as goal
 use Rattle.gs_game.proofs.valid.ValidGame.stopped.Goals.{in-Memory, in_default}
 
@@ -20,20 +20,10 @@ few_first rs n h =
     (recursion_from_All (λ (r : RoundRules). (r.private ≤ 2) × (r.public ≤ 3)) (map round_rules rs) h)) in
     λ k d l. let m = length-take n rs in subst HasFewCards (sym (get_or-take n rs k d (omega (arith, l, m)))) (each k d (omega (arith, l, m)))
 
--- a fault that is not want of memory is a refusal
-refused : (r : Option Refusal) (fault : GameFault) → fault ≢ faults.Memory → IsFaultOf r fault → r ≢ None
-refused r (faults.Rounds count) apart answers none = cc
-refused r faults.NoPrivate apart answers none = cc
-refused r (faults.RankingCards own all) apart answers none = cc
-refused r (faults.NotEnoughCards need have) apart answers none = cc
-refused r (faults.NoEven round) apart answers none = cc
-refused r (faults.Uneven round path) apart answers none = cc
-refused r (faults.PutTooLarge chips) apart answers none = cc
-refused r (faults.TooManyLines count) apart answers none = cc
-refused r (faults.TooHeavy weight) apart answers none = cc
-refused r (faults.TooManySignals round) apart answers none = cc
-refused r faults.TooManyDeals apart answers none = cc
-refused r faults.Memory apart answers none = apart refl
+-- an error that is not want of memory is a refusal
+refused : (r : Option Refusal) (error : GameError) → error ≢ errors.Memory → IsErrorOf r error → r ≢ None
+refused r errors.Memory apart answers none = apart refl
+refused r (errors.Fault why) apart answers none = cc
 
 -- the game of a copied deck and of such rounds is the stopped game
 made_so : (g : Rules) (round : ℕ) (d e : DeckValue) (bonus : List ℕ) (rs : List RoundRules) → e ≡ d → bonus ≡ 1 ∷ [] → g.suits ≡ length d.suits
@@ -116,7 +106,7 @@ returns-after-fault-clause-whenever c =
       | in_default w ↦
           subst P (sym w.result-is)
           (refused (first_refusal (stopped_game (game_of game) c.args.round)) c.in-Err.fault w.in_default.not-Memory
-          (subst (λ (g : Rules). IsFaultOf (first_refusal g) c.in-Err.fault) made c.in-Err.ensures.refused))
+          (subst (λ (g : Rules). IsErrorOf (first_refusal g) c.in-Err.fault) made c.in-Err.ensures.refused))
     ]
 
 pub returns-after-fault-clause-stops : goal.returns-after-fault-clause-stops
