@@ -12,7 +12,7 @@ ghost use Rattle.gs_lossless.specs.declared.sides.Side.TheVariants.{Deals};
 use crate::grouped::Grouped;
 use crate::scan::first_apart;
 use crate::sides::Side;
-use gs_filter::{ClassFault, Classes};
+use gs_filter::{ClassError, Classes};
 use gs_tree::Signals;
 use std::alloc::{AllocError, Global};
 
@@ -50,10 +50,8 @@ pub fn stopped_classes(
     let lists = stopped_lists(alloc, classes, round)?;
     match Classes::new(alloc, stopped.parents(), lists) {
         Ok(classes) => Ok(Some(classes)),
-        Err(fault) => match fault {
-            ClassFault::Memory => Err(AllocError),
-            _ => Ok(None),
-        },
+        Err(ClassError::Memory) => Err(AllocError),
+        Err(ClassError::Fault(_)) => Ok(None),
     }
 }
 

@@ -5,7 +5,7 @@ ghost use Rattle.gs_model.specs.Frame.{frame_of};
 ghost use Rattle.gs_tree.specs.Trees.{rules_of};
 
 use crate::numbers::numbers_in;
-use gs_filter::{ClassFault, Classes};
+use gs_filter::{ClassError, Classes};
 use gs_tree::Signals;
 use std::alloc::{AllocError, Global};
 
@@ -23,7 +23,7 @@ fn numbers_of(text: &str) -> &str {
 
 /// Returns classes of a game's signals from a text: for each round the number of each signal's class, with a slash between two rounds. For an empty text
 /// each signal is a class of its own.
-pub fn classes_of(alloc: Global, signals: &Signals<'_>, text: &str) -> Result<Classes, ClassFault>
+pub fn classes_of(alloc: Global, signals: &Signals<'_>, text: &str) -> Result<Classes, ClassError>
     ensures { IfOk result (λ c. c.parents ≡ (frame_of (rules_of signals.now)).parents) }
 {
     if text.is_empty() {

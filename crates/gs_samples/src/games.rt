@@ -5,8 +5,8 @@ ghost use Rattle.gs_card.specs.Rankings.{ranking_of};
 ghost use Rattle.gs_game.specs.Games.{HasFewCards};
 ghost use Rattle.gs_model.specs.Outcome.{IsBonus};
 
-use gs_bet::{TreeFault, parse_tree};
-use gs_card::{Deck, DeckFault, Ranking};
+use gs_bet::{TreeError, TreeFault, parse_tree};
+use gs_card::{Deck, DeckError, DeckFault, Ranking};
 use gs_game::{Game, Round, ValidGame};
 use std::alloc::{AllocError, Global};
 
@@ -42,6 +42,24 @@ pub enum SampleFault {
 impl From<AllocError> for SampleFault {
     fn from(_: AllocError) -> SampleFault {
         SampleFault::Memory
+    }
+}
+
+impl From<DeckError> for SampleFault {
+    fn from(error: DeckError) -> SampleFault {
+        match error {
+            DeckError::Memory => SampleFault::Memory,
+            DeckError::Fault(fault) => SampleFault::Deck(fault),
+        }
+    }
+}
+
+impl From<TreeError> for SampleFault {
+    fn from(error: TreeError) -> SampleFault {
+        match error {
+            TreeError::Memory => SampleFault::Memory,
+            TreeError::Fault(fault) => SampleFault::Tree(fault),
+        }
     }
 }
 
@@ -81,7 +99,7 @@ fn round_of(alloc: Global, words: &str) -> Result<Round, SampleFault>
     let (cards, tree) = words.rsplit_once(' ').ok_or(SampleFault::Line)?;
     let (first, second) = cards.split_once(' ').ok_or(SampleFault::Line)?;
     let (private, public) = (number_in(first)?, number_in(second)?);
-    let tree = parse_tree(alloc, tree_of(tree)).map_err(SampleFault::Tree)?;
+    let tree = parse_tree(alloc, tree_of(tree))?;
     if private > 2 || public > 3 {
         return Err(SampleFault::Range);
     }
@@ -125,7 +143,7 @@ pub fn game_of(alloc: Global, line: &str) -> Result<ValidGame, SampleFault> {
         return Err(SampleFault::Line);
     }
     let (suits, copies) = parts[1].split_once(' ').unwrap_or((parts[1], ""));
-    let deck = Deck::new(alloc, parts[0], suits, copies).map_err(SampleFault::Deck)?;
+    let deck = Deck::new(alloc, parts[0], suits, copies)?;
     let (ranking, stakes) = parts[2].split_once(' ').unwrap_or((parts[2], "1 1 1"));
     let (bonus, ante) = stakes.rsplit_once(' ').ok_or(SampleFault::Line)?;
     let ranking = ranking_in(ranking)?;

@@ -4,7 +4,7 @@ ghost use Rattle.std.specs.Prelude.{IfOk, ◌<◌};
 ghost use Rattle.gs_model.specs.Rows.{rows};
 ghost use Rattle.gs_filter.specs.Filter.{AreParents};
 
-use gs_filter::{ClassFault, Classes};
+use gs_filter::{ClassError, Classes};
 use std::alloc::{AllocError, Global};
 use std::test::Fail;
 
@@ -36,7 +36,7 @@ fn worked_parents(alloc: Global) -> Result<Vec<Vec<u32>>, AllocError>
 }
 
 /// Returns the classes of lists of digits over the worked parents, or their fault.
-fn classes_in(alloc: Global, text: &str) -> Result<Classes, ClassFault> {
+fn classes_in(alloc: Global, text: &str) -> Result<Classes, ClassError> {
     let parents = worked_parents(alloc)?;
     Classes::new(alloc, &parents, lists_of(alloc, text)?)
 }
@@ -97,7 +97,7 @@ fn other_class(classes: &Classes) -> Option<(u8, u32)> {
 }
 
 /// Returns the first rows of `NUMBERS` and of `CLASSES` that fail in the worked filter.
-fn others(alloc: Global) -> Result<(Option<(u8, u32)>, Option<(u8, u32)>), ClassFault> {
+fn others(alloc: Global) -> Result<(Option<(u8, u32)>, Option<(u8, u32)>), ClassError> {
     let classes = classes_in(alloc, "121 123312")?;
     Ok((other_numbers(&classes), other_class(&classes)))
 }

@@ -11,13 +11,14 @@ use Rattle.gs_lossless.proofs.stopped.stopped_classes.Goals as goal
 pub new-requires : goal.new-requires
 new-requires c = subst AreParents (sym c.parents.ensures) (are_parents c.args.stopped.now)
 
-pub returns-in_default-clause-whenever : goal.returns-in_default-clause-whenever
-returns-in_default-clause-whenever c = λ classes.
+pub returns-in-Err-Fault-clause-whenever : goal.returns-in-Err-Fault-clause-whenever
+returns-in-Err-Fault-clause-whenever c = λ classes.
     let parents = (frame_of (rules_of c.args.stopped.now)).parents in
     let lists = stopped_lists c.args.classes.now.lists c.args.round in
-    let fault = subst (λ (ls : ClassLists). IsFaultOf (rows c.parents.result.now) ls c.in-Err.fault) c.in_ok-lists.ensures c.in-Err.ensures.refused in
-    classes_kept parents lists c.in-Err.fault classes c.in_default.not-Memory
-    (subst (λ (ps : List (List ℕ)). IsFaultOf ps lists c.in-Err.fault) c.parents.ensures fault)
+    let why = c.in-Err-Fault.field-0 in
+    let fault = subst (λ (ls : ClassLists). IsFaultOf (rows c.parents.result.now) ls why) c.in_ok-lists.ensures
+    (rw c.in-Err-Fault.field-0-is at c.in-Err-Fault.ensures.refused) in
+    classes_kept parents lists why classes (subst (λ (ps : List (List ℕ)). IsFaultOf ps lists why) c.parents.ensures fault)
 
 pub returns-in-Ok-clause-same : goal.returns-in-Ok-clause-same
 returns-in-Ok-clause-same c = grind (arith, common_steps)
