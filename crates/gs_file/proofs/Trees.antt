@@ -4,10 +4,11 @@ use Rattle.std.specs.Prelude.{IsTrue, slice_get}
 use Rattle.gs_bet.specs.{declared.fault.Mistake.{Mistake}, declared.fault.Mistake.TheVariants.{RepeatedLetter, TooDeep, Syntax}}
 use Rattle.gs_bet.specs.{declared.fault.TreeFault.{TreeFault}, Cuts.{Cut}, Faults.{IsFaultOf, IsMistake, ReadsAs, mistake_fault, mistake_at}}
 use Rattle.gs_bet.specs.{Grammar.{is_tree, tree_text, IsLongest}, Reading.{Read, all_of, at_end, outer_at, ◌>>=◌}}
+use Rattle.gs_bet.specs.declared.fault.TreeError.TheVariants as errors
 use Rattle.gs_bet.specs.declared.fault.TreeFault.TheVariants as tree
 use Rattle.gs_bet.proofs.{Parsing.{found, only, refuses, mistaken}, Whole.{one_cut}}
 use Rattle.gs_model.specs.Betting.{Bet}
-use Rattle.gs_file.specs.{Faults.{tree_text as tree_fault}, Answers.{Fails, of_tree}, Reading.{tree_at, tree_read}, TreeTexts.{IsTreeRead}}
+use Rattle.gs_file.specs.{Faults.{tree_text as tree_fault}, Reading.{tree_at, tree_read}, TreeTexts.{IsTreeRead}}
 
 abbrev leftover : Read Bet → List ℕ
 leftover (Ok p) = p.1
@@ -56,12 +57,11 @@ reads_mistake n text at m none is = by_answer (all_of text) refl
     by_answer (Err (k, rest)) a = ap (λ (f : TreeFault). Err (tree_fault n f))
         (one_mistake text (length text - length rest) at k m (mistaken text k (length rest) (rest, a, refl)) is)
 
-pub reads_fault : (n : ℕ) (text : List ℕ) (f : TreeFault) → ((t : Bet) → IsTrue (is_tree t) → text ≡ tree_text t → ReadsAs (Err f) t) → IsFaultOf text f
-    → Fails (of_tree n f) (tree_at n text)
+pub reads_fault : (n : ℕ) (text : List ℕ) (f : TreeFault) → ((t : Bet) → IsTrue (is_tree t) → text ≡ tree_text t → ReadsAs (Err (errors.Fault f)) t)
+    → IsFaultOf text f → tree_at n text ≡ Err (tree_fault n f)
 reads_fault n text (tree.RepeatedLetter at) none is = reads_mistake n text at RepeatedLetter none is
 reads_fault n text (tree.TooDeep at) none is = reads_mistake n text at TooDeep none is
 reads_fault n text (tree.Syntax at) none is = reads_mistake n text at Syntax none is
-reads_fault n text tree.Memory none is = tt
 
 -- what is read is the tree or the mistake that the grammar names
 pub is_read : (n : ℕ) (text : List ℕ) → IsTreeRead n text (tree_at n text)

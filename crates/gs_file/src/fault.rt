@@ -1,7 +1,7 @@
 //! Faults of a game file.
 
 ghost use Rattle.std.specs.Prelude.{◌≡◌};
-ghost use Rattle.gs_file.specs.declared.fault.FileFault.TheVariants.{Memory};
+ghost use Rattle.gs_file.specs.declared.fault.FileError.TheVariants.{Fault, Memory};
 
 use gs_bet::TreeFault;
 use gs_card::DeckFault;
@@ -58,7 +58,7 @@ pub struct Place {
     pub round: u8,
 }
 
-/// The first fault of a game file, or that memory ran out. The checks are made in the order of the file's description.
+/// The first fault of a game file. The checks are made in the order of the file's description.
 #[derive(Drop)]
 pub enum FileFault {
     /// The bytes are not UTF-8.
@@ -81,62 +81,35 @@ pub enum FileFault {
     TreeText { round: u8, fault: TreeFault },
     /// The game breaks a rule.
     Game(GameFault),
-    /// Memory ran out.
+}
+
+/// Why no game is read: memory ran out, or the file has a fault.
+#[derive(Drop)]
+pub enum FileError {
     Memory,
+    Fault(FileFault),
 }
 
-impl From<AllocError> for FileFault {
-    ghost from_gives = { λ _ e. e ≡ Memory };
+impl From<AllocError> for FileError {
+    ghost from_gives = { λ _ error. error ≡ Memory };
 
-    fn from(_: AllocError) -> FileFault {
-        FileFault::Memory
+    fn from(_: AllocError) -> FileError {
+        FileError::Memory
     }
 }
 
-impl<T: Drop> From<AllocFailed<T>> for FileFault {
-    ghost from_gives = { λ _ e. e ≡ Memory };
+impl<T: Drop> From<AllocFailed<T>> for FileError {
+    ghost from_gives = { λ _ error. error ≡ Memory };
 
-    fn from(_: AllocFailed<T>) -> FileFault {
-        FileFault::Memory
+    fn from(_: AllocFailed<T>) -> FileError {
+        FileError::Memory
     }
 }
 
-impl From<DeckFault> for FileFault {
-    ghost use Rattle.gs_file.specs.Answers.{of_deck};
+impl From<FileFault> for FileError {
+    ghost from_gives = { λ fault error. error ≡ Fault fault };
 
-    ghost from_gives = { λ why e. e ≡ of_deck why };
-
-    fn from(fault: DeckFault) -> FileFault {
-        match fault {
-            DeckFault::Memory => FileFault::Memory,
-            fault => FileFault::Deck(fault),
-        }
-    }
-}
-
-impl From<GameFault> for FileFault {
-    ghost use Rattle.gs_file.specs.Answers.{of_rules};
-
-    ghost from_gives = { λ why e. e ≡ of_rules why };
-
-    fn from(fault: GameFault) -> FileFault {
-        match fault {
-            GameFault::Memory => FileFault::Memory,
-            fault => FileFault::Game(fault),
-        }
-    }
-}
-
-impl FileFault {
-    ghost use Rattle.gs_file.specs.Answers.{of_tree};
-
-    /// Returns the fault of the file for a fault of a round's tree.
-    pub(crate) fn of_tree(round: u8, fault: TreeFault) -> FileFault
-        ensures { result ≡ of_tree round fault }
-    {
-        match fault {
-            TreeFault::Memory => FileFault::Memory,
-            fault => FileFault::TreeText { round, fault },
-        }
+    fn from(fault: FileFault) -> FileError {
+        FileError::Fault(fault)
     }
 }

@@ -1,10 +1,10 @@
 //! Reading a whole game file.
 
 ghost use Rattle.toml.specs.View.{table_view};
-ghost use Rattle.gs_file.specs.{Answers.{Gives}, Reading.{utf8_text, parsed_at, game_at, read_at}, Views.{valid_view}};
+ghost use Rattle.gs_file.specs.{Answers.{Gives, MayGive}, Reading.{utf8_text, parsed_at, game_at, read_at}, Views.{valid_view}};
 
 use crate::build::{checked, deck_of, rounds_built};
-use crate::fault::FileFault;
+use crate::fault::{FileError, FileFault};
 use crate::form::Form;
 use crate::ranges::stated_of;
 use crate::top::{typed_of, values_of};
@@ -21,19 +21,19 @@ fn text_of_bytes(bytes: &[u8]) -> Result<&str, FileFault>
     }
 }
 
-fn document_of(alloc: Global, text: &str) -> Result<Table, FileFault>
-    ensures { Gives (λ t. table_view t) result (parsed_at text.now) }
+fn document_of(alloc: Global, text: &str) -> Result<Table, FileError>
+    ensures { MayGive (λ t. table_view t) result (parsed_at text.now) }
 {
     match toml::table_from_str(alloc, text) {
         Ok(table) => Ok(table),
-        Err(error) if error.is_memory() => Err(FileFault::Memory),
-        Err(_) => Err(FileFault::NotToml),
+        Err(error) if error.is_memory() => Err(FileError::Memory),
+        Err(_) => Err(FileError::Fault(FileFault::NotToml)),
     }
 }
 
 /// Returns the game that a table states, or its first fault.
-pub fn game_of(alloc: Global, form: Form, table: &Table) -> Result<ValidGame, FileFault>
-    ensures { Gives valid_view result (game_at form (table_view table.now)) }
+pub fn game_of(alloc: Global, form: Form, table: &Table) -> Result<ValidGame, FileError>
+    ensures { MayGive valid_view result (game_at form (table_view table.now)) }
 {
     let values = values_of(form, table)?;
     let fields = typed_of(alloc, &values)?;
@@ -54,8 +54,8 @@ pub fn game_of(alloc: Global, form: Form, table: &Table) -> Result<ValidGame, Fi
 
 /// Returns the game that the bytes of a game file state, or their first fault.
 #[tactic(auto, unfolding(crate::specs::Reading::read_at))]
-pub fn read_game(alloc: Global, bytes: &[u8]) -> Result<ValidGame, FileFault>
-    ensures { Gives valid_view result (read_at bytes.now) }
+pub fn read_game(alloc: Global, bytes: &[u8]) -> Result<ValidGame, FileError>
+    ensures { MayGive valid_view result (read_at bytes.now) }
 {
     let text = text_of_bytes(bytes)?;
     let table = document_of(alloc, text)?;

@@ -2,11 +2,11 @@
 
 ghost use Rattle.std.specs.Prelude.{option_map};
 ghost use Rattle.toml.specs.View.{view, table_view};
-ghost use Rattle.gs_file.specs.{Answers.{Gives}, Keys.{top_keys}, Tables.{only}};
+ghost use Rattle.gs_file.specs.{Answers.{Gives, MayGive}, Keys.{top_keys}, Tables.{only}};
 ghost use Rattle.gs_file.specs.Reading.{version_of, version_at, copies_value, bonus_value, values_at, bonus_numbers, typed_at};
 ghost use Rattle.gs_file.specs.Views.{values_view, top_view};
 
-use crate::fault::{FileFault, Key};
+use crate::fault::{FileError, FileFault, Key};
 use crate::fields::{
     check_only, required_at, text_of, text_or_none, top, value_at, whole_number_of,
 };
@@ -106,8 +106,8 @@ pub fn values_of(form: Form, table: &Table) -> Result<TopValues<'_>, FileFault>
     })
 }
 
-fn bonus_typed(alloc: Global, bonus: Option<&Value>) -> Result<Option<Vec<i64>>, FileFault>
-    ensures { Gives (option_map (λ v. v.items)) result (bonus_numbers (option_map (λ v. view v.now) bonus.entry)) }
+fn bonus_typed(alloc: Global, bonus: Option<&Value>) -> Result<Option<Vec<i64>>, FileError>
+    ensures { MayGive (option_map (λ v. v.items)) result (bonus_numbers (option_map (λ v. view v.now) bonus.entry)) }
 {
     match bonus {
         None => Ok(None),
@@ -119,8 +119,8 @@ fn bonus_typed(alloc: Global, bonus: Option<&Value>) -> Result<Option<Vec<i64>>,
 }
 
 /// Returns the fields at the top, each of its type, or the first fault.
-pub fn typed_of<'t>(alloc: Global, values: &TopValues<'t>) -> Result<TopFields<'t>, FileFault>
-    ensures { Gives top_view result (typed_at (values_view values.now)) }
+pub fn typed_of<'t>(alloc: Global, values: &TopValues<'t>) -> Result<TopFields<'t>, FileError>
+    ensures { MayGive top_view result (typed_at (values_view values.now)) }
 {
     let ranks = text_of(values.ranks, top(Key::Ranks))?;
     let suits = text_of(values.suits, top(Key::Suits))?;

@@ -2,8 +2,8 @@ use Rattle.std.proofs.Common.{arith}
 use Rattle.std.proofs.{Common.{◌≡◌, ◌+◌, map, ◌++◌, ◌∷◌, [], subst, sym, ap, ◌∙◌, All}, lemmas.List.{map-append}, lemmas.List.Elements.{All-push}}
 use Rattle.std.proofs.lemmas.Result.{err_from_is_err_and}
 use Rattle.gs_game.specs.Games.{HasFewCards, round_rules}
-use Rattle.gs_file.specs.{Answers.{Fails}, Reading.{round_built}, Tables.{each}, Views.{ranged_view}}
-use Rattle.gs_file.proofs.Loop.{goes_on, breaks_off, is_done}
+use Rattle.gs_file.specs.{Answers.{MayFail}, Reading.{round_built}, Tables.{each}, Views.{ranged_view}}
+use Rattle.gs_file.proofs.Loop.{goes_on, is_done, may_break_off}
 use Rattle.gs_file.proofs.build.rounds_built.Goals as goal
 
 pub loop-index-preserved : goal.loop-index-preserved
@@ -35,9 +35,9 @@ returns-in_err-round c =
     let e = err_from_is_err_and c.from_residual.result c.from_residual.ensures.1 in
     let why = c.in_err-round.field-0.0 in
     let total = each round_built 1 (map ranged_view c.args.sizes.now) in
-    let fails : Fails why total = breaks_off round_built ranged_view why (map round_rules c.loop-index.rounds.items) c.args.sizes.now n
+    let fails : MayFail why total = may_break_off round_built ranged_view why (map round_rules c.loop-index.rounds.items) c.args.sizes.now n
     (n + 1) c.index-sizes-index.result total c.loop-index-test.true
-    (subst (λ x. Fails why (round_built (n + 1) (ranged_view x))) c.index-sizes-index.is c.in_err-round.ensures.gives) c.loop-index.invariant.so_far in
+    (subst (λ x. MayFail why (round_built (n + 1) (ranged_view x))) c.index-sizes-index.is c.in_err-round.ensures.gives) c.loop-index.invariant.so_far in
     record { gives = rw (e.1, e.2) fails; few = rw e.1 tt }
 
 pub loop-index-init : goal.loop-index-init

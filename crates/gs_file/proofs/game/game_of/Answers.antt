@@ -1,41 +1,41 @@
 use Rattle.std.proofs.Common.{◌≤◌, rules, subst, sym}
 use Rattle.toml.specs.View.{table_view}
-use Rattle.gs_file.specs.{Answers.{Gives}, Views.{valid_view}}
-use Rattle.gs_file.proofs.{Loop.{handed_on}, RoundSteps.{game_give, game_stops_deck, game_stops_fields, game_stops_rounds, game_stops_stated}}
+use Rattle.gs_file.specs.{Answers.{MayGive}, Views.{valid_view}}
+use Rattle.gs_file.proofs.{Loop.{handed_over, handed_up}, RoundSteps.{game_give, game_stops_deck, game_stops_fields, game_stops_rounds, game_stops_stated}}
 use Rattle.gs_file.proofs.RoundSteps.{game_stops_values}
 use Rattle.gs_file.proofs.game.game_of.Goals as goal
 
 pub returns-in_err-values : goal.returns-in_err-values
 returns-in_err-values c =
-    handed_on valid_view _ _ _ _ c.from_residual.ensures.1 c.in_err-values.ensures
+    handed_up valid_view _ _ _ _ c.from_residual.ensures.1 c.in_err-values.ensures
     (game_stops_values c.args.form (table_view c.args.table.now))
 
 pub returns-in_err-fields : goal.returns-in_err-fields
 returns-in_err-fields c =
-    handed_on valid_view _ _ _ _ c.from_residual-in_err-fields.ensures.1 c.in_err-fields.ensures
+    handed_over valid_view _ _ _ _ c.from_residual-in_err-fields.ensures.1 c.in_err-fields.ensures
     (game_stops_fields c.args.form (table_view c.args.table.now) c.in_ok-values.ensures)
 
 pub returns-in_err-stated : goal.returns-in_err-stated
 returns-in_err-stated c =
-    handed_on valid_view _ _ _ _ c.from_residual-in_err-stated.ensures.1 c.in_err-stated.ensures.gives
+    handed_over valid_view _ _ _ _ c.from_residual-in_err-stated.ensures.1 c.in_err-stated.ensures.gives
     (game_stops_stated c.args.form (table_view c.args.table.now) c.in_ok-values.ensures c.in_ok-fields.ensures)
 
 pub returns-in_err-deck : goal.returns-in_err-deck
 returns-in_err-deck c =
-    handed_on valid_view _ _ _ _ c.from_residual-in_err-deck.ensures.1 c.in_err-deck.ensures
+    handed_over valid_view _ _ _ _ c.from_residual-in_err-deck.ensures.1 c.in_err-deck.ensures
     (game_stops_deck c.args.form (table_view c.args.table.now) c.in_ok-values.ensures c.in_ok-fields.ensures c.in_ok-stated.ensures.gives)
 
 pub returns-in_err-rounds : goal.returns-in_err-rounds
 returns-in_err-rounds c =
     let fails = rw c.deref.ensures.value at c.in_err-rounds.ensures.gives in
-    handed_on valid_view _ _ _ _ c.from_residual-in_err-rounds.ensures.1 fails
+    handed_over valid_view _ _ _ _ c.from_residual-in_err-rounds.ensures.1 fails
     (game_stops_rounds c.args.form (table_view c.args.table.now) c.in_ok-values.ensures c.in_ok-fields.ensures c.in_ok-stated.ensures.gives
     c.in_ok-deck.ensures)
 
 pub returns : goal.returns
 returns c =
     let rounds = rw c.deref.ensures.value at c.in_ok-rounds.ensures.gives in
-    subst (Gives valid_view c.checked.result) (sym (game_give c.args.form (table_view c.args.table.now) c.in_ok-values.ensures
+    subst (MayGive valid_view c.checked.result) (sym (game_give c.args.form (table_view c.args.table.now) c.in_ok-values.ensures
     c.in_ok-fields.ensures c.in_ok-stated.ensures.gives c.in_ok-deck.ensures rounds)) c.checked.ensures
 
 pub checked-requires-clause-bonus : goal.checked-requires-clause-bonus

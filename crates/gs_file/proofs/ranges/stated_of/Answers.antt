@@ -2,7 +2,7 @@ use Rattle.std.proofs.{Common.{◌≤◌, length, subst, sym, ap, ◌∙◌, rul
 use Rattle.std.specs.Int.RustNames.{FitsSigned}
 use mir.Syntax.{w64}
 use Rattle.gs_file.specs.{Tables.{within}, Views.{stated_view, top_view}}
-use Rattle.gs_file.proofs.{Loop.{handed_on, no_value}, RoundSteps.{stated_give, stated_stops_ante, stated_stops_bonus, stated_stops_count}}
+use Rattle.gs_file.proofs.{Loop.{handed_over, handed_up, no_value}, RoundSteps.{stated_give, stated_stops_ante, stated_stops_bonus, stated_stops_count}}
 use Rattle.gs_file.proofs.RoundSteps.{stated_stops_ranged, stated_stops_ranking, stated_stops_rounds}
 use Rattle.gs_file.proofs.ranges.stated_of.Goals as goal
 use Rattle.gs_file.proofs.ranges.stated_of.Goals.{After-top}
@@ -10,28 +10,28 @@ use Rattle.gs_file.proofs.ranges.stated_of.Goals.{After-top}
 pub returns-in_err-check_count-clause-gives : goal.returns-in_err-check_count-clause-gives
 returns-in_err-check_count-clause-gives c =
     let fails = rw c.deref.ensures.value at c.in_err-check_count.ensures.gives in
-    handed_on stated_view _ _ _ _ c.from_residual.ensures.1 fails
+    handed_up stated_view _ _ _ _ c.from_residual.ensures.1 fails
     (stated_stops_count c.args.form (top_view c.args.fields.now))
 
 pub returns-in_err-rounds-clause-gives : goal.returns-in_err-rounds-clause-gives
 returns-in_err-rounds-clause-gives c =
     let count = rw c.deref.ensures.value at c.in_ok-check_count.ensures.gives in
     let fails = rw c.deref-2.ensures.value at c.in_err-rounds.ensures.gives in
-    handed_on stated_view _ _ _ _ c.from_residual-in_err-rounds.ensures.1 fails
+    handed_over stated_view _ _ _ _ c.from_residual-in_err-rounds.ensures.1 fails
     (stated_stops_rounds c.args.form (top_view c.args.fields.now) count)
 
 pub returns-in_err-ranking-clause-gives : goal.returns-in_err-ranking-clause-gives
 returns-in_err-ranking-clause-gives c =
     let count = rw c.deref.ensures.value at c.in_ok-check_count.ensures.gives in
     let rounds = rw c.deref-2.ensures.value at c.in_ok-rounds.ensures.gives in
-    handed_on stated_view _ _ _ _ c.from_residual-in_err-ranking.ensures.1 c.in_err-ranking.ensures
+    handed_up stated_view _ _ _ _ c.from_residual-in_err-ranking.ensures.1 c.in_err-ranking.ensures
     (stated_stops_ranking c.args.form (top_view c.args.fields.now) count rounds)
 
 pub returns-in_err-bonus-clause-gives : goal.returns-in_err-bonus-clause-gives
 returns-in_err-bonus-clause-gives c =
     let count = rw c.deref.ensures.value at c.in_ok-check_count.ensures.gives in
     let rounds = rw c.deref-2.ensures.value at c.in_ok-rounds.ensures.gives in
-    handed_on stated_view _ _ _ _ c.from_residual-in_err-bonus.ensures.1 c.in_err-bonus.ensures.gives
+    handed_over stated_view _ _ _ _ c.from_residual-in_err-bonus.ensures.1 c.in_err-bonus.ensures.gives
     (stated_stops_bonus c.args.form (top_view c.args.fields.now) count rounds c.in_ok-ranking.ensures)
 
 ante_fits : (c : After-top) → FitsSigned w64 c.args.fields.now.ante
@@ -43,7 +43,7 @@ returns-in_err-ante-clause-gives c =
     let same = ap (λ z. within c.top.result 1 4096 z) (sym (to_z-of_z w64 c.args.fields.now.ante fits)) in
     let count = rw c.deref.ensures.value at c.in_ok-check_count.ensures.gives in
     let rounds = rw c.deref-2.ensures.value at c.in_ok-rounds.ensures.gives in
-    handed_on stated_view _ _ _ _ c.from_residual-in_err-ante.ensures.1 c.in_err-ante.ensures.gives
+    handed_up stated_view _ _ _ _ c.from_residual-in_err-ante.ensures.1 c.in_err-ante.ensures.gives
     (λ f h. stated_stops_ante c.args.form (top_view c.args.fields.now) count rounds c.in_ok-ranking.ensures c.in_ok-bonus.ensures.gives
     c.top.ensures f (same ∙ h))
 
@@ -54,7 +54,7 @@ returns-in_err-rounds-2-clause-gives c =
     let count = rw c.deref.ensures.value at c.in_ok-check_count.ensures.gives in
     let rounds = rw c.deref-2.ensures.value at c.in_ok-rounds.ensures.gives in
     let fails = rw c.deref-3.ensures.value at c.in_err-rounds-2.ensures.gives in
-    handed_on stated_view _ _ _ _ c.from_residual-in_err-rounds-2.ensures.1 fails
+    handed_over stated_view _ _ _ _ c.from_residual-in_err-rounds-2.ensures.1 fails
     (stated_stops_ranged c.args.form (top_view c.args.fields.now) count rounds c.in_ok-ranking.ensures c.in_ok-bonus.ensures.gives
     c.top.ensures (same ∙ c.in_ok-ante.ensures.gives))
 
