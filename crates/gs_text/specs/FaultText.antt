@@ -1,12 +1,10 @@
 -- The text of each fault of a game file. Source: this project's printed texts.
-use Rattle.std.specs.{Prelude.{ℕ, ◌==◌, List, [], ◌++◌, codes, Err, if◌then◌else◌}, Fmt.{decimal, signed_decimal}}
-use Rattle.gs_bet.specs.declared.fault.TreeFault.{TreeFault}
-use Rattle.gs_bet.specs.declared.fault.TreeFault.TheVariants as tree
-use Rattle.gs_card.specs.declared.faults.DeckFault.{DeckFault}
-use Rattle.gs_card.specs.declared.faults.DeckFault.TheVariants as cards
+use Rattle.std.specs.{Prelude.{ℕ, ◌==◌, List, [], ◌++◌, codes, if◌then◌else◌}, Fmt.{decimal, signed_decimal}}
+use Rattle.gs_bet.specs.{Faults.{fault_text as tree_text}, declared.fault.TreeFault.{TreeFault}}
+use Rattle.gs_card.specs.DeckFaults.{fault_text as deck_text}
 use Rattle.gs_game.specs.Refusals.{Refusal, rounds, no_private, ranking_cards, not_enough_cards, no_even, uneven, put_too_large, too_many_lines, too_heavy}
 use Rattle.gs_game.specs.Refusals.{too_many_signals, too_many_deals}
-use Rattle.gs_file.specs.{Answers.{Fails}, Keys.{key_text}, Reading.{FileGame}, declared.fault.FileFault.{FileFault}, declared.fault.Place.{Place}}
+use Rattle.gs_file.specs.{Keys.{key_text}, declared.fault.Place.{Place}}
 use Rattle.gs_file.specs.Faults.{Fault, not_text, not_toml, missing_key, unknown_key, wrong_type, bad_version, range, deck, tree_text as tree_in, game}
 
 -- the round of a key, unless the key stands outside the rounds
@@ -16,22 +14,6 @@ in_round n = if n == 0 then [] else codes " in round " ++ decimal n
 -- what is wrong with a key, the key, and its round
 abbrev pub place_text : List ℕ → Place → List ℕ
 place_text wrong place = wrong ++ codes " " ++ key_text place.key ++ in_round place.round
-
--- what is wrong with the texts of the deck
-abbrev pub deck_text : DeckFault → List ℕ
-deck_text cards.NoCards = codes "deck: no cards"
-deck_text cards.BadLetter = codes "deck: bad letter"
-deck_text cards.RepeatedLetter = codes "deck: repeated letter"
-deck_text cards.TooManyKinds = codes "deck: too many kinds"
-deck_text cards.BadCopies = codes "deck: bad copies"
-deck_text cards.Memory = codes "out of memory"
-
--- what is wrong with a tree's text, and at which byte
-abbrev pub tree_text : TreeFault → List ℕ
-tree_text (tree.RepeatedLetter at) = codes "repeated letter at " ++ decimal at
-tree_text (tree.TooDeep at) = codes "too deep at " ++ decimal at
-tree_text (tree.Syntax at) = codes "syntax at " ++ decimal at
-tree_text tree.Memory = codes "out of memory"
 
 -- what is wrong with the text of a round's tree
 abbrev pub round_tree_text : ℕ → TreeFault → List ℕ
@@ -63,7 +45,3 @@ fault_text (range place) = place_text (codes "out of range") place
 fault_text (deck why) = deck_text why
 fault_text (tree_in round why) = round_tree_text round why
 fault_text (game why) = rule_text why
-
--- the program's fault stands for this one
-abbrev pub IsFault : FileFault → Fault → Type 0
-IsFault told why = Fails {Y = FileGame} told (Err why)

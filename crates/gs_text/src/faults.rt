@@ -1,14 +1,12 @@
 //! Writing the texts of the faults of a game file.
 
-ghost use Rattle.std.specs.{Prelude.{◌≡◌, ◌≢◌, ◌++◌, IfOk, OnOk, codes, string_bytes, Err}, Fmt.{decimal}};
-ghost use Rattle.gs_file.specs.{Faults.{Fault, bad_version, game as broken_rule}, Answers.{FailsByRules}, Reading.{FileGame}};
-ghost use Rattle.gs_file.specs.declared.fault.FileFault.TheVariants as file;
-ghost use Rattle.gs_game.specs.Refusals.{Refusal};
-ghost use Rattle.gs_text.specs.FaultText.{IsFault, deck_text as text_of_deck, fault_text, in_round as text_in_round, place_text as text_of_place};
-ghost use Rattle.gs_text.specs.FaultText.{round_tree_text as text_of_round_tree, rule_text as text_of_rule, tree_text as text_of_tree};
+ghost use Rattle.std.specs.{Prelude.{◌≡◌, ◌++◌, IfOk, OnOk, codes, string_bytes}, Fmt.{decimal}};
+ghost use Rattle.gs_file.specs.{Answers.{fault_of}, Faults.{bad_version}};
+ghost use Rattle.gs_game.specs.FaultOf.{refusal_of};
+ghost use Rattle.gs_text.specs.FaultText.{fault_text, in_round as text_in_round, place_text as text_of_place, round_tree_text as text_of_round_tree};
+ghost use Rattle.gs_text.specs.FaultText.{rule_text as text_of_rule};
 
 use gs_bet::TreeFault;
-use gs_card::DeckFault;
 use gs_file::{FileFault, Place};
 use gs_game::GameFault;
 use std::alloc::{AllocError, Global};
@@ -43,20 +41,6 @@ fn unknown_key_text(alloc: Global, round: u8) -> Result<String, AllocError>
     Ok(text)
 }
 
-// Returns why ranks, suits and copies make no deck.
-fn deck_text(fault: DeckFault) -> &'static str
-    ensures { result.now ≡ text_of_deck fault }
-{
-    match fault {
-        DeckFault::NoCards => "deck: no cards",
-        DeckFault::BadLetter => "deck: bad letter",
-        DeckFault::RepeatedLetter => "deck: repeated letter",
-        DeckFault::TooManyKinds => "deck: too many kinds",
-        DeckFault::BadCopies => "deck: bad copies",
-        DeckFault::Memory => "out of memory",
-    }
-}
-
 // Returns what is wrong, followed by a number.
 fn counted_text(alloc: Global, wrong: &str, number: u128) -> Result<String, AllocError>
     ensures { IfOk result (λ text. string_bytes text ≡ wrong.now ++ decimal number) }
@@ -64,26 +48,11 @@ fn counted_text(alloc: Global, wrong: &str, number: u128) -> Result<String, Allo
     format!(in alloc; "{wrong}{number}")
 }
 
-// Returns what is wrong with a tree's text, and at which byte.
-fn tree_text(alloc: Global, fault: TreeFault) -> Result<String, AllocError>
-    ensures { IfOk result (λ text. string_bytes text ≡ text_of_tree fault) }
-{
-    match fault {
-        TreeFault::RepeatedLetter { at } => {
-            counted_text(alloc, "repeated letter at ", u128::from(at))
-        }
-        TreeFault::TooDeep { at } => counted_text(alloc, "too deep at ", u128::from(at)),
-        TreeFault::Syntax { at } => counted_text(alloc, "syntax at ", u128::from(at)),
-        TreeFault::Memory => String::from_str(alloc, "out of memory"),
-    }
-}
-
 // Returns what is wrong with the text of a round's tree.
 fn round_tree_text(alloc: Global, round: u8, fault: TreeFault) -> Result<String, AllocError>
     ensures { IfOk result (λ text. string_bytes text ≡ text_of_round_tree round fault) }
 {
-    let wrong = tree_text(alloc, fault)?;
-    format!(in alloc; "tree of round {round}: {wrong}")
+    format!(in alloc; "tree of round {round}: {fault}")
 }
 
 // Returns the text for an even leaf at which the players have put in different amounts, with the letters of the moves to it.
@@ -110,7 +79,7 @@ fn counts_text(
 
 // Returns the text of the rule that a game breaks.
 fn rule_text(alloc: Global, fault: &GameFault) -> Result<Vec<u8>, AllocError>
-    ensures { IfOk result (λ text. (why : Refusal) → FailsByRules {Y = FileGame} fault.now (Err (broken_rule why)) → text.items ≡ text_of_rule why) }
+    ensures { IfOk result (λ text. text.items ≡ text_of_rule (refusal_of fault.now)) }
 {
     let text = match fault {
         GameFault::Rounds { count } => counted_text(alloc, "rounds: ", u128::from(*count)),
@@ -135,7 +104,6 @@ fn rule_text(alloc: Global, fault: &GameFault) -> Result<Vec<u8>, AllocError>
             counted_text(alloc, "too many signals: round ", u128::from(*round))
         }
         GameFault::TooManyDeals => String::from_str(alloc, "too many deals"),
-        GameFault::Memory => String::from_str(alloc, "out of memory"),
     };
     Ok(text?.into_bytes())
 }
@@ -149,8 +117,7 @@ fn version_text(alloc: Global, version: i64) -> Result<String, AllocError>
 
 /// Returns why a game file is refused, without a line feed.
 pub fn file_fault_text(alloc: Global, fault: &FileFault) -> Result<Vec<u8>, AllocError>
-    requires told { fault.now ≢ file.Memory }
-    ensures { IfOk result (λ text. (why : Fault) → IsFault fault.now why → text.items ≡ fault_text why) }
+    ensures { IfOk result (λ text. text.items ≡ fault_text (fault_of fault.now)) }
 {
     let text = match fault {
         FileFault::NotText => String::from_str(alloc, "not UTF-8"),
@@ -160,10 +127,9 @@ pub fn file_fault_text(alloc: Global, fault: &FileFault) -> Result<Vec<u8>, Allo
         FileFault::WrongType(place) => place_text(alloc, "wrong type", *place),
         FileFault::BadVersion(version) => version_text(alloc, *version),
         FileFault::Range(place) => place_text(alloc, "out of range", *place),
-        FileFault::Deck(fault) => String::from_str(alloc, deck_text(*fault)),
+        FileFault::Deck(fault) => String::from_str(alloc, fault.text()),
         FileFault::TreeText { round, fault } => round_tree_text(alloc, *round, *fault),
         FileFault::Game(fault) => return rule_text(alloc, fault),
-        FileFault::Memory => String::from_str(alloc, "out of memory"),
     };
     Ok(text?.into_bytes())
 }
