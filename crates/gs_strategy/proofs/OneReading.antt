@@ -66,22 +66,17 @@ apart_one parents lists r a b s c d h k =
 unseen_or_apart : (parents : List (List ℕ)) (lists : ClassLists) (r at : ℕ) → AllNumbered lists → IsFirstUnseen lists r at → ⊥
 unseen_or_apart parents lists r at h k = numbered_or_unseen (list_of lists r) at (h r k.some k.top) k.here
 
-pub class_fault_one : (parents : List (List ℕ)) (lists : ClassLists) (v w : ClassFault) → v ≢ class.Memory → w ≢ class.Memory
-    → IsClassFaultOf parents lists v → IsClassFaultOf parents lists w → v ≡ w
-class_fault_one parents lists class.Memory w m n h k = absurd (m refl)
-class_fault_one parents lists (class.Length r) class.Memory m n h k = absurd (n refl)
-class_fault_one parents lists (class.NotFirstSeen r at) class.Memory m n h k = absurd (n refl)
-class_fault_one parents lists (class.ParentsApart r a b) class.Memory m n h k = absurd (n refl)
-class_fault_one parents lists (class.Length r) (class.Length s) m n h k = ap (λ (i : ℕ). class.Length i) (lengths_one parents lists r s h k)
-class_fault_one parents lists (class.Length r) (class.NotFirstSeen s at) m n h k = absurd (agree_or_length parents lists r k.0 h)
-class_fault_one parents lists (class.Length r) (class.ParentsApart s a b) m n h k = absurd (agree_or_length parents lists r k.0 h)
-class_fault_one parents lists (class.NotFirstSeen r at) (class.Length s) m n h k = absurd (agree_or_length parents lists s h.0 k)
-class_fault_one parents lists (class.NotFirstSeen r at) (class.NotFirstSeen s to) m n h k = let e = unseen_one lists r at s to h.1 k.1 in
+pub class_fault_one : (parents : List (List ℕ)) (lists : ClassLists) (v w : ClassFault) → IsClassFaultOf parents lists v → IsClassFaultOf parents lists w → v ≡ w
+class_fault_one parents lists (class.Length r) (class.Length s) h k = ap (λ (i : ℕ). class.Length i) (lengths_one parents lists r s h k)
+class_fault_one parents lists (class.Length r) (class.NotFirstSeen s at) h k = absurd (agree_or_length parents lists r k.0 h)
+class_fault_one parents lists (class.Length r) (class.ParentsApart s a b) h k = absurd (agree_or_length parents lists r k.0 h)
+class_fault_one parents lists (class.NotFirstSeen r at) (class.Length s) h k = absurd (agree_or_length parents lists s h.0 k)
+class_fault_one parents lists (class.NotFirstSeen r at) (class.NotFirstSeen s to) h k = let e = unseen_one lists r at s to h.1 k.1 in
     let a = e.0 in let b = e.1 in cc
-class_fault_one parents lists (class.NotFirstSeen r at) (class.ParentsApart s a b) m n h k = absurd (unseen_or_apart parents lists r at k.1 h.1)
-class_fault_one parents lists (class.ParentsApart r a b) (class.Length s) m n h k = absurd (agree_or_length parents lists s h.0 k)
-class_fault_one parents lists (class.ParentsApart r a b) (class.NotFirstSeen s at) m n h k = absurd (unseen_or_apart parents lists s at h.1 k.1)
-class_fault_one parents lists (class.ParentsApart r a b) (class.ParentsApart s c d) m n h k =
+class_fault_one parents lists (class.NotFirstSeen r at) (class.ParentsApart s a b) h k = absurd (unseen_or_apart parents lists r at k.1 h.1)
+class_fault_one parents lists (class.ParentsApart r a b) (class.Length s) h k = absurd (agree_or_length parents lists s h.0 k)
+class_fault_one parents lists (class.ParentsApart r a b) (class.NotFirstSeen s at) h k = absurd (unseen_or_apart parents lists s at h.1 k.1)
+class_fault_one parents lists (class.ParentsApart r a b) (class.ParentsApart s c d) h k =
     let e = apart_one parents lists r a b s c d h.2 k.2 in let x = e.0 in let y = e.1 in let z = e.2 in cc
 
 -- ---- plans
@@ -148,7 +143,7 @@ classes_one : (g : FileGame) (d : Data) (x y : Result ClassLists Fault) → Read
 classes_one g d x y = then_one (class_lists_at d) (Checked (AreClasses g) (IsClassFault g) classes) x y
     (λ lists. checked_one (AreClasses g) (IsClassFault g) classes lists x y
     (λ why p f. classes_kept (file_frame g).parents lists why p f.0 f.1)
-    (λ v w p q. class_fault_one (file_frame g).parents lists v w p.0 q.0 p.1 q.1))
+    (λ v w p q. class_fault_one (file_frame g).parents lists v w p q))
 
 plan_one : (g : FileGame) (lists : ClassLists) (player : ℕ) (of_player : FilePart) (d : Data) (x y : Result Weights Fault)
     → ReadsPlan g lists player of_player d x → ReadsPlan g lists player of_player d y → x ≡ y

@@ -3,7 +3,7 @@
 //! The lists need not be those of the bytes: the caller compares the text of the strategy with them. So the functions here have no clauses. A fault means
 //! only that the bytes were not read this way.
 
-use crate::fault::StoreFault;
+use crate::fault::{StoreError, StoreFault};
 use std::alloc::Global;
 
 /// The long lists of a file, and its bytes without their numbers.
@@ -24,7 +24,7 @@ fn behind<'b>(bytes: &'b [u8], front: &[u8]) -> Result<&'b [u8], StoreFault> {
 }
 
 /// Returns numbers with commas between them, or none before a closing bracket, and the bytes from the first other byte on.
-fn numbers_in(alloc: Global, bytes: &[u8]) -> Result<(Vec<u64>, &[u8]), StoreFault> {
+fn numbers_in(alloc: Global, bytes: &[u8]) -> Result<(Vec<u64>, &[u8]), StoreError> {
     let mut numbers = Vec::new(alloc);
     if bytes.starts_with(b"]") {
         return Ok((numbers, bytes));
@@ -44,23 +44,23 @@ fn numbers_in(alloc: Global, bytes: &[u8]) -> Result<(Vec<u64>, &[u8]), StoreFau
             }
         }
     }
-    Err(StoreFault::NotJson)
+    Err(StoreError::Fault(StoreFault::NotJson))
 }
 
 /// Returns the numbers as class numbers.
-fn narrowed(alloc: Global, numbers: &[u64]) -> Result<Vec<u32>, StoreFault> {
+fn narrowed(alloc: Global, numbers: &[u64]) -> Result<Vec<u32>, StoreError> {
     let mut list = Vec::with_capacity(alloc, numbers.len())?;
     for number in numbers {
         match u32::try_from(*number) {
             Ok(number) => list.push(number)?,
-            Err(_) => return Err(StoreFault::NotJson),
+            Err(_) => return Err(StoreError::Fault(StoreFault::NotJson)),
         }
     }
     Ok(list)
 }
 
 /// Returns the lists of class numbers, from the bytes after the first two brackets, and the bytes from the last two brackets on.
-fn classes_in(alloc: Global, bytes: &[u8]) -> Result<(Vec<Vec<u32>>, &[u8]), StoreFault> {
+fn classes_in(alloc: Global, bytes: &[u8]) -> Result<(Vec<Vec<u32>>, &[u8]), StoreError> {
     let mut lists = Vec::new(alloc);
     let mut left = bytes;
     for _ in 0..bytes.len() {
@@ -72,11 +72,11 @@ fn classes_in(alloc: Global, bytes: &[u8]) -> Result<(Vec<Vec<u32>>, &[u8]), Sto
             Err(_) => return Ok((lists, rest)),
         }
     }
-    Err(StoreFault::NotJson)
+    Err(StoreError::Fault(StoreFault::NotJson))
 }
 
 /// Appends the bytes before the next weights, with their key and bracket, and returns the bytes after these.
-fn pass_to_weights<'b>(others: &mut Vec<u8>, bytes: &'b [u8]) -> Result<&'b [u8], StoreFault> {
+fn pass_to_weights<'b>(others: &mut Vec<u8>, bytes: &'b [u8]) -> Result<&'b [u8], StoreError> {
     let front = b"\"weights\":[";
     for i in 0..bytes.len() {
         if let Some(rest) = bytes[i..].strip_prefix(front) {
@@ -85,11 +85,11 @@ fn pass_to_weights<'b>(others: &mut Vec<u8>, bytes: &'b [u8]) -> Result<&'b [u8]
             return Ok(rest);
         }
     }
-    Err(StoreFault::NotJson)
+    Err(StoreError::Fault(StoreFault::NotJson))
 }
 
 /// Returns the class numbers, the weights, and the bytes without them.
-pub fn lists_in(alloc: Global, bytes: &[u8]) -> Result<Lists, StoreFault> {
+pub fn lists_in(alloc: Global, bytes: &[u8]) -> Result<Lists, StoreError> {
     let front = b"{\"classes\":[[";
     let mut others = Vec::from_slice(alloc, front)?;
     let rest = behind(bytes, front)?;

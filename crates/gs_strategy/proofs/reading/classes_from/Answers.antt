@@ -1,11 +1,9 @@
 use Rattle.std.proofs.Common.{◌≡◌, Ok, ap, inl, inr, refl, subst, sym, ◌∙◌}
-use Rattle.gs_file.specs.Views.{valid_view}
 use Rattle.gs_filter.specs.{Faults.{IsFaultOf}, Filter.{AreParents}}
 use Rattle.gs_model.specs.{Classes.{ClassLists}, Rows.{rows}}
 use Rattle.gs_lossless.proofs.Descent.{valid_parents}
 use Rattle.gs_seq.specs.Games.{frame_in}
-use Rattle.gs_strategy.specs.Checks.{ChecksClasses}
-use Rattle.gs_strategy.proofs.{Refused.{classes_fail, same_classes}, reading.classes_from.Goals.{After-deref}}
+use Rattle.gs_strategy.proofs.{Refused.{same_classes}, reading.classes_from.Goals.{After-deref}}
 use Rattle.gs_strategy.proofs.reading.classes_from.Goals as goal
 
 -- the parents of the signals are those of the game
@@ -27,9 +25,10 @@ returns-in-Ok-clause-checked c =
       ap (λ (l : ClassLists). Ok l) c.in-Ok.ensures.lists,
     )
 
-pub returns-clause-checked : goal.returns-clause-checked
-returns-clause-checked c =
+pub returns-in-Err-Fault-clause-checked : goal.returns-in-Err-Fault-clause-checked
+returns-in-Err-Fault-clause-checked c =
     let lists = rows c.args.lists.items in
-    let why = c.in-Err.fault in
-    let broken = subst (λ p. IsFaultOf p lists why) (parents (goal.at.returns-clause-checked c).After-deref) c.in-Err.ensures.refused in
-    rw c.from.ensures (classes_fail why (ChecksClasses (valid_view c.args.game.now) lists) (λ some. inr (why, (some, broken), refl)))
+    let why = c.in-Err-Fault.fault in
+    let broken = subst (λ p. IsFaultOf p lists why) (parents (goal.at.returns-in-Err-Fault-clause-checked c).After-deref)
+    (rw c.in-Err-Fault.field-0-is at c.in-Err-Fault.ensures.refused) in
+    inr (why, broken, refl)

@@ -1,7 +1,6 @@
 use Rattle.std.proofs.Common.{inl, inr, refl, sym, ◌∙◌, subst}
 use Rattle.std.specs.Cmp.Lexicographic.{other_text, same_text}
 use Rattle.gs_json.specs.Differences.{IsFirstDifference}
-use Rattle.gs_strategy.specs.Faults.{not_canonical}
 use Rattle.gs_strategy.proofs.reading.confirmed.Goals as goal
 
 pub returns-then-eq : goal.returns-then-eq
@@ -13,4 +12,4 @@ pub returns-else-eq : goal.returns-else-eq
 returns-else-eq c =
     let at = c.first_difference-at.result in
     let first = subst (λ text. IsFirstDifference c.args.bytes.now text at) (c.deref.ensures.value ∙ c.in_ok-text.ensures) c.first_difference-at.ensures in
-    (not_canonical at, refl, inr (at, ((λ same. other_text _ _ c.if-eq.ensures (c.as_slice.ensures.value ∙ c.in_ok-text.ensures ∙ sym same)), first), refl))
+    inr (at, ((λ same. other_text _ _ c.if-eq.ensures (c.as_slice.ensures.value ∙ c.in_ok-text.ensures ∙ sym same)), first), refl)

@@ -17,4 +17,4 @@ pub returns-in-None : goal.returns-in-None
 returns-in-None c =
     let none = none_read whole_in c.args.items.now c.loop-item.item-index c.item-item.result c.item-item.is (omega (arith, c.loop-item-test.true))
     c.loop-item.numbers.items c.loop-item.invariant (sym c.as_u64.ensures ∙ c.in-None.is) in
-    (shape c.args.part, refl, ap (λ o. ok_or o (shape c.args.part)) none)
+    ap (λ o. ok_or o (shape c.args.part)) none
