@@ -1,30 +1,16 @@
 -- What is said of the strategy that a file holds is said of the file; one that holds none is refused for its first fault.
-use Rattle.std.proofs.Common.{◌≢◌, ℕ, List, Result, Ok, Err, Vec, refl}
+use Rattle.std.proofs.Common.{ℕ, List, Result, Ok, Err, Vec, refl}
 use Rattle.std.specs.declared.alloc.Global.{Global}
 use Rattle.gs_reply.specs.{Refusals.{Bad_strategy}, Replies.{Answers, IsBadStrategy, OfFile, Reply, StopsFor, Tells}}
 use Rattle.gs_reply.specs.{declared.refusals.Stop.{Stop}, declared.refusals.Which.{Which}}
 use Rattle.gs_reply.specs.declared.refusals.Refusal.TheVariants as told
-use Rattle.gs_strategy.specs.{Checks.{ReadResult, Reads}, Faults.{FailsSo, Fault, IsFault}, Values.{Strategy}, declared.fault.StoreFault.{StoreFault}}
-use Rattle.gs_strategy.specs.declared.fault.StoreFault.TheVariants as fault
+use Rattle.gs_strategy.specs.{Checks.{Reads}, Faults.{fault_of}, Values.{Strategy}, declared.fault.StoreFault.{StoreFault}}
 use Rattle.gs_reply.proofs.Refused.{answers_more, stops_more}
 
--- the fault that reading meets, where memory did not run out
-fault_is : (told : StoreFault) (says : ReadResult → Type 0) → told ≢ fault.Memory → FailsSo told says → (why : Fault) × IsFault told why × says (Err why)
-fault_is fault.NotJson says some h = h
-fault_is (fault.Shape part) says some h = h
-fault_is (fault.Version number) says some h = h
-fault_is (fault.Game why) says some h = h
-fault_is (fault.Classes why) says some h = h
-fault_is (fault.Plan player why) says some h = h
-fault_is (fault.Fraction part why) says some h = h
-fault_is (fault.NotCanonical at) says some h = h
-fault_is fault.Memory says some h = absurd (some refl)
-
 -- a fault of the file is its refusal
-pub strategy_refused : (which : Which) (bytes : List ℕ) (f : StoreFault) → f ≢ fault.Memory → FailsSo f (Reads bytes)
+pub strategy_refused : (which : Which) (bytes : List ℕ) (f : StoreFault) → Reads bytes (Err (fault_of f))
     → Tells (IsBadStrategy which bytes) (told.BadStrategy which f)
-strategy_refused which bytes f some h =
-    let is = fault_is f (Reads bytes) some h in (Bad_strategy which is.0, (is.0, is.2, refl), (is.0, is.1, refl))
+strategy_refused which bytes f h = (Bad_strategy which (fault_of f), (fault_of f, h, refl), refl)
 
 -- what is said of the strategy is said of the file that holds it
 pub held : (which : Which) (says : Strategy → Reply → Type 0) (bytes : List ℕ) (s : Strategy) (a : Result (Vec ℕ Global) Stop) → Reads bytes (Ok s)

@@ -1,10 +1,7 @@
 -- A fault of the program is the one that reading meets first; and more is said of what a command returns.
-use Rattle.std.proofs.{Common.{◌≡◌, ◌≢◌, ℕ, Result, Ok, Err, Vec, IfErr, IsErrAnd, refl, sym, subst}, lemmas.Result.{err_from_is_err_and}}
+use Rattle.std.proofs.{Common.{◌≡◌, ℕ, Result, Ok, Err, Vec, IfErr, IsErrAnd, refl, sym, subst}, lemmas.Result.{err_from_is_err_and}}
 use Rattle.std.specs.declared.alloc.Global.{Global}
-use Rattle.gs_file.specs.{Answers.{Fails}, Faults.{Fault}, Reading.{FileGame}, declared.fault.FileFault.{FileFault}, Answers.{FailsByRules}}
-use Rattle.gs_file.specs.declared.fault.FileFault.TheVariants as fault
-use Rattle.gs_game.specs.declared.faults.GameFault.{GameFault}
-use Rattle.gs_game.specs.declared.faults.GameFault.TheVariants as rules
+use Rattle.gs_file.specs.{Answers.{Fails, fault_of}, Faults.{Fault}, Reading.{FileGame}, declared.fault.FileFault.{FileFault}}
 use Rattle.gs_model.specs.Classes.{ClassLists}
 use Rattle.gs_reply.specs.{Refusals.{Bad_game, Too_large}, Replies.{Answers, IsBadGame, OfReading, Reply, Prints, Refuses, StopsFor, Tells, of_seq_stop}}
 use Rattle.gs_reply.specs.{Troubles.{SaysLarge}, declared.refusals.Stop.{Stop}, declared.refusals.Limit.TheVariants.{Sequences, Cells}}
@@ -12,34 +9,6 @@ use Rattle.gs_reply.specs.declared.refusals.Refusal.TheVariants as told
 use Rattle.gs_reply.specs.declared.refusals.Stop.TheVariants as stop
 use Rattle.gs_seq.specs.{Stops.{IsUsualStop}, declared.stop.SeqStop.{SeqStop}, declared.stop.SeqStop.TheVariants.{TooManySequences, TooManyCells, Memory}}
 use Rattle.gs_strategy.specs.Values.{file_frame}
-
-by_rules : (f : GameFault) (g : FileGame) → FailsByRules f (Ok g) → ⊥
-by_rules (rules.Rounds count) g h = cc
-by_rules rules.NoPrivate g h = cc
-by_rules (rules.RankingCards own all) g h = cc
-by_rules (rules.NotEnoughCards need have) g h = cc
-by_rules (rules.NoEven round) g h = cc
-by_rules (rules.Uneven round path) g h = cc
-by_rules (rules.PutTooLarge chips) g h = cc
-by_rules (rules.TooManyLines count) g h = cc
-by_rules (rules.TooHeavy weight) g h = cc
-by_rules (rules.TooManySignals round) g h = cc
-by_rules rules.TooManyDeals g h = cc
-by_rules rules.Memory g h = h
-
--- a game that is read has no fault
-no_fault : (f : FileFault) (g : FileGame) → f ≢ fault.Memory → Fails f (Ok g) → ⊥
-no_fault fault.NotText g told h = cc
-no_fault fault.NotToml g told h = cc
-no_fault (fault.MissingKey place) g told h = cc
-no_fault (fault.UnknownKey round) g told h = cc
-no_fault (fault.WrongType place) g told h = cc
-no_fault (fault.BadVersion version) g told h = cc
-no_fault (fault.Range place) g told h = cc
-no_fault (fault.Deck why) g told h = cc
-no_fault (fault.TreeText round why) g told h = cc
-no_fault (fault.Game why) g told h = by_rules why g h
-no_fault fault.Memory g told h = told refl
 
 -- what follows of each reply follows of each stop, and of what a command returns
 pub stops_more : (P Q : Reply → Type 0) → ((r : Reply) → P r → Q r) → (e : Stop) → StopsFor P e → StopsFor Q e
@@ -51,9 +20,8 @@ answers_more P Q more (Ok text) h = more (Prints text.items) h
 answers_more P Q more (Err e) h = stops_more P Q more e h
 
 -- a fault of the file is its refusal
-pub game_refused : (read : Result FileGame Fault) (f : FileFault) → f ≢ fault.Memory → Fails f read → Tells (IsBadGame read) (told.BadGame f)
-game_refused (Ok g) f told h = absurd (no_fault f g told h)
-game_refused (Err why) f told h = (Bad_game why, (why, refl, refl), (told, why, h, refl))
+pub game_refused : (read : Result FileGame Fault) (f : FileFault) → Fails f read → Tells (IsBadGame read) (told.BadGame f)
+game_refused read f h = (Bad_game (fault_of f), (fault_of f, h, refl), refl)
 
 -- what is said of a game is said of the file that states it
 pub stated : (says : FileGame → Reply → Type 0) (read : Result FileGame Fault) (g : FileGame) (a : Result (Vec ℕ Global) Stop) → read ≡ Ok g

@@ -1,10 +1,8 @@
 -- What is printed for an input, or why it is refused.
-use Rattle.std.specs.{Prelude.{◌≡◌, ◌≢◌, ℕ, List, Result, Ok, Err, Vec, string_bytes}, declared.alloc.Global.{Global}}
-use Rattle.gs_file.specs.{Faults.{Fault}, Reading.{FileGame}}
-use Rattle.gs_file.specs.declared.fault.FileFault.TheVariants as file
+use Rattle.std.specs.{Prelude.{◌≡◌, ℕ, List, Result, Ok, Err, Vec, string_bytes}, declared.alloc.Global.{Global}}
+use Rattle.gs_file.specs.{Answers.{fault_of as game_fault_of}, Faults.{Fault}, Reading.{FileGame}}
 use Rattle.gs_seq.specs.{declared.stop.SeqStop.{SeqStop}, declared.stop.SeqStop.TheVariants.{TooManySequences, TooManyCells, Memory}}
-use Rattle.gs_strategy.specs.{Checks.{ReadResult, Reads}, Faults.{Fault as StrategyFault, IsFault as IsStoreFault}, Values.{Strategy}, Views.{parts_of}}
-use Rattle.gs_text.specs.FaultText.{IsFault}
+use Rattle.gs_strategy.specs.{Checks.{ReadResult, Reads}, Faults.{Fault as StrategyFault, fault_of as store_fault_of}, Values.{Strategy}, Views.{parts_of}}
 use Rattle.gs_reply.specs.Refusals.{Refusal, Bad_game, Unlike_pair, Overflows, Many_pivots, Too_large, Bad_strategy, Wrong_number, Bad_query, Other_game}
 use Rattle.gs_reply.specs.{Refusals.{Bad_certificate}, declared.refusals.Refusal.{Refusal as Told}, declared.refusals.Limit.TheVariants.{Sequences, Cells}}
 use Rattle.gs_reply.specs.declared.refusals.Refusal.TheVariants as told
@@ -42,18 +40,22 @@ IsBadStrategy which bytes reply = (why : StrategyFault) × Reads bytes (Err why)
 
 -- ---- what the program returns
 
+-- the refusal that a refusal of the program is
+abbrev pub refusal_of : Told → Refusal
+refusal_of (told.BadGame fault) = Bad_game (game_fault_of fault)
+refusal_of (told.Unlike round first second) = Unlike_pair round (string_bytes first) (string_bytes second)
+refusal_of (told.Overflows at) = Overflows at
+refusal_of told.ManyPivots = Many_pivots
+refusal_of (told.TooLarge limit) = Too_large limit
+refusal_of (told.BadStrategy which fault) = Bad_strategy which (store_fault_of fault)
+refusal_of (told.WrongNumber wrong) = Wrong_number wrong.name.now (parts_of wrong.stated) (parts_of wrong.found)
+refusal_of (told.BadQuery fault) = Bad_query fault
+refusal_of told.OtherGame = Other_game
+refusal_of (told.BadCertificate text) = Bad_certificate text.items
+
 -- the program's refusal is this one
 abbrev pub IsRefusal : Told → Refusal → Type 0
-IsRefusal (told.BadGame fault) why = (fault ≢ file.Memory) × (rule : Fault) × IsFault fault rule × (why ≡ Bad_game rule)
-IsRefusal (told.Unlike round first second) why = why ≡ Unlike_pair round (string_bytes first) (string_bytes second)
-IsRefusal (told.Overflows at) why = why ≡ Overflows at
-IsRefusal told.ManyPivots why = why ≡ Many_pivots
-IsRefusal (told.TooLarge limit) why = why ≡ Too_large limit
-IsRefusal (told.BadStrategy which fault) why = (rule : StrategyFault) × IsStoreFault fault rule × (why ≡ Bad_strategy which rule)
-IsRefusal (told.WrongNumber wrong) why = why ≡ Wrong_number wrong.name.now (parts_of wrong.stated) (parts_of wrong.found)
-IsRefusal (told.BadQuery fault) why = why ≡ Bad_query fault
-IsRefusal told.OtherGame why = why ≡ Other_game
-IsRefusal (told.BadCertificate text) why = why ≡ Bad_certificate text.items
+IsRefusal told why = why ≡ refusal_of told
 
 -- the program's refusal is one of which `says` holds
 abbrev pub Tells : (Reply → Type 0) → Told → Type 0

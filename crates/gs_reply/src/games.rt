@@ -5,7 +5,7 @@ ghost use Rattle.gs_file.specs.{Reading.{read_at}, Views.{valid_view}};
 ghost use Rattle.gs_reply.specs.Replies.{IsBadGame, StopsFor};
 
 use crate::refusals::{Refusal, Stop};
-use gs_file::{FileFault, read_game};
+use gs_file::{FileError, read_game};
 use gs_game::ValidGame;
 use std::alloc::Global;
 
@@ -16,7 +16,7 @@ pub fn stated_game(alloc: Global, bytes: &[u8]) -> Result<ValidGame, Stop>
 {
     match read_game(alloc, bytes) {
         Ok(game) => Ok(game),
-        Err(FileFault::Memory) => Err(Stop::Memory),
-        Err(fault) => Err(Stop::Refused(Refusal::BadGame(fault))),
+        Err(FileError::Memory) => Err(Stop::Memory),
+        Err(FileError::Fault(fault)) => Err(Stop::Refused(Refusal::BadGame(fault))),
     }
 }

@@ -44,7 +44,6 @@ fn line_with(alloc: Global, kind: &str, place: &str, text: &[u8]) -> Result<Vec<
 
 /// Returns the line of a refusal.
 pub fn refusal_line(alloc: Global, refusal: &Refusal) -> Result<Vec<u8>, AllocError>
-    requires { (why : Why) × IsRefusal refusal.now why }
     ensures { IfOk result (λ line. (why : Why) → IsRefusal refusal.now why → line.items ≡ line_of why) }
 {
     let line = match refusal {

@@ -1,12 +1,11 @@
 //! Writing the texts of the faults of a strategy file.
 
-ghost use Rattle.std.specs.{Prelude.{◌≡◌, ◌≢◌, ◌++◌, IfOk, codes, string_bytes}, Fmt.{decimal}};
-ghost use Rattle.gs_file.specs.Faults.{Fault as GameRule};
-ghost use Rattle.gs_file.specs.declared.fault.FileFault.TheVariants as file;
+ghost use Rattle.std.specs.{Prelude.{◌≡◌, ◌++◌, IfOk, codes, string_bytes}, Fmt.{decimal}};
+ghost use Rattle.gs_file.specs.Answers.{fault_of as game_fault_of};
 ghost use Rattle.gs_filter.specs.FaultText.{fault_text as class_fault_text};
 ghost use Rattle.gs_frac.specs.FaultText.{fault_text as fraction_fault_text};
-ghost use Rattle.gs_strategy.specs.Faults.{Fault, IsFault as IsStoreFault};
-ghost use Rattle.gs_text.specs.FaultText.{IsFault, fault_text};
+ghost use Rattle.gs_strategy.specs.Faults.{fault_of};
+ghost use Rattle.gs_text.specs.FaultText.{fault_text};
 ghost use Rattle.gs_reply.specs.StoreText.{part_text as text_of_part, plan_text as text_of_plan, store_text as text_of_store};
 
 use gs_file::FileFault;
@@ -43,8 +42,7 @@ fn shape_text(alloc: Global, part: FilePart) -> Result<String, AllocError>
 
 /// Returns the text for a value that states no game.
 fn game_text(alloc: Global, fault: &FileFault) -> Result<Vec<u8>, AllocError>
-    requires { fault.now ≢ file.Memory }
-    ensures { IfOk result (λ v. (why : GameRule) → IsFault fault.now why → v.items ≡ codes "game: " ++ fault_text why) }
+    ensures { IfOk result (λ v. v.items ≡ codes "game: " ++ fault_text (game_fault_of fault.now)) }
 {
     let mut text = String::from_str(alloc, "game: ")?.into_bytes();
     let wrong = file_fault_text(alloc, fault)?;
@@ -102,8 +100,7 @@ fn counted_text(alloc: Global, wrong: &str, number: u64) -> Result<String, Alloc
 
 /// Returns why a strategy file is refused, without a line feed.
 pub fn store_fault_text(alloc: Global, fault: &StoreFault) -> Result<Vec<u8>, AllocError>
-    requires { (why : Fault) × IsStoreFault fault.now why }
-    ensures { IfOk result (λ text. (why : Fault) → IsStoreFault fault.now why → text.items ≡ text_of_store why) }
+    ensures { IfOk result (λ text. text.items ≡ text_of_store (fault_of fault.now)) }
 {
     let text = match fault {
         StoreFault::NotJson => String::from_str(alloc, "not JSON"),
@@ -114,7 +111,6 @@ pub fn store_fault_text(alloc: Global, fault: &StoreFault) -> Result<Vec<u8>, Al
         StoreFault::Plan { player, fault } => plan_text(alloc, *player, *fault),
         StoreFault::Fraction { part, fault } => fraction_fault(alloc, *part, fault),
         StoreFault::NotCanonical { at } => counted_text(alloc, "not canonical at ", *at),
-        StoreFault::Memory => String::from_str(alloc, "out of memory"),
     };
     Ok(text?.into_bytes())
 }

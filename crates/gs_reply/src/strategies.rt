@@ -5,7 +5,7 @@ ghost use Rattle.gs_reply.specs.Replies.{IsBadStrategy, StopsFor};
 ghost use Rattle.gs_strategy.specs.{Checks.{Reads}, Views.{stored_view}};
 
 use crate::refusals::{Refusal, Stop, Which};
-use gs_strategy::{StoreFault, Stored, read_strategy};
+use gs_strategy::{StoreError, Stored, read_strategy};
 use std::alloc::Global;
 
 /// Returns the strategy that the bytes of a strategy file hold, or the refusal of bytes that hold none.
@@ -15,7 +15,9 @@ pub fn stored_strategy(alloc: Global, which: Which, bytes: &[u8]) -> Result<Stor
 {
     match read_strategy(alloc, bytes) {
         Ok(stored) => Ok(stored),
-        Err(StoreFault::Memory) => Err(Stop::Memory),
-        Err(fault) => Err(Stop::Refused(Refusal::BadStrategy { which, fault })),
+        Err(StoreError::Memory) => Err(Stop::Memory),
+        Err(StoreError::Fault(fault)) => {
+            Err(Stop::Refused(Refusal::BadStrategy { which, fault }))
+        }
     }
 }

@@ -88,12 +88,12 @@ returns-in-BadStrategy c =
     c.line_with-in-BadStrategy.ensures (λ why h.
     ap (λ (w : List ℕ). codes "bad strategy: " ++ w ++ c.deref-in-BadStrategy.result.now ++ codes "\n") c.which_text.ensures
     ∙ ap (λ (t : List ℕ). codes "bad strategy: " ++ which_text which ++ t ++ codes "\n")
-    (c.deref-in-BadStrategy.ensures.value ∙ c.in_ok-text-in-BadStrategy.ensures h.0 h.1) ∙ ap line_of (sym h.2))
+    (c.deref-in-BadStrategy.ensures.value ∙ c.in_ok-text-in-BadStrategy.ensures) ∙ ap line_of (sym h))
 
 pub returns-in-BadGame : goal.returns-in-BadGame
 returns-in-BadGame c =
     filed c.line_with.result c.args.refusal.now (told.BadGame c.in-BadGame.fault) _ c.in-BadGame.is c.line_with.ensures (λ why h.
-    ap (λ (t : List ℕ). codes "bad game: " ++ t ++ codes "\n") (c.deref.ensures.value ∙ c.in_ok-text-in-BadGame.ensures h.1 h.2) ∙ ap line_of (sym h.3))
+    ap (λ (t : List ℕ). codes "bad game: " ++ t ++ codes "\n") (c.deref.ensures.value ∙ c.in_ok-text-in-BadGame.ensures) ∙ ap line_of (sym h))
 
 pub fact_in-format-in-WrongNumber-2 : goal.fact_in-format-in-WrongNumber-2
 fact_in-format-in-WrongNumber-2 c = search rules
@@ -103,7 +103,3 @@ returns-in-BadCertificate c =
     filed c.line_with-in-BadCertificate.result c.args.refusal.now (told.BadCertificate c.in-BadCertificate.text) _ c.in-BadCertificate.is
     c.line_with-in-BadCertificate.ensures (λ why h.
     ap (λ (t : List ℕ). codes "bad certificate: " ++ t ++ codes "\n") c.deref-in-BadCertificate.ensures.value ∙ ap line_of (sym h))
-
-pub store_fault_text-requires : goal.store_fault_text-requires
-store_fault_text-requires c =
-    let h = subst (λ r. IsRefusal r c.requires.0) c.in-BadStrategy.is c.requires.1 in (h.0, h.1)
