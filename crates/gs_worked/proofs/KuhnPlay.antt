@@ -1,10 +1,10 @@
 -- One turn of fictitious play in Kuhn's game: both players' first best plans against the first moves, added to the first moves.
-use Rattle.std.proofs.{Common.{◌≡◌, ◌≢◌, ℕ, zero, suc, ◌+◌, ◌-◌, ◌<◌, [], ◌∷◌, ◌==◌, List, get_or, refl, arith}, lemmas.Bool.{ne_eqb}, lemmas.Int.{ints}}
-use Rattle.std.specs.Prelude.{ℤ, pos, ◌≤ℤ◌, ◌<ℤ◌, sum_by, if◌then◌else◌}
-use Rattle.gs_model.specs.{BestAnswers.{IsBestValues, Values, class_worth, end_worth}, Classes.{IsClass, first_member}}
-use Rattle.gs_model.specs.Frame.{ancestor, choices_at, frame_of, last_step, leads_to, move_count, payoff_to, player_at, point_count, round_of}
-use Rattle.gs_model.specs.{Plans.{Plan, lift, number_before}, Play.{IsFirstMoves}, Positions.{at_end, at_point}, Sums.{sum_z}}
-use Rattle.gs_worked.proofs.Kuhn.{firsts, kuhn_best, kuhn_move, kuhn_values}
+use Rattle.std.proofs.{Common.{◌≡◌, ℕ, zero, suc, ◌+◌, ◌-◌, ◌<◌, [], ◌∷◌, ◌==◌, List, get_or, refl, true, arith}, lemmas.Bool.{ne_eqb}}
+use Rattle.std.specs.Prelude.{pos, sum_by, if◌then◌else◌}
+use Rattle.gs_model.specs.{BestAnswers.{Values}, Classes.{first_member}, Plans.{Plan, lift, number_before}}
+use Rattle.gs_model.specs.Frame.{ancestor, choices_at, frame_of, last_step, leads_to, move_count, payoff_to, player_at, round_of}
+use Rattle.gs_model.specs.{Play.{IsFirstMoves}, Positions.{at_point}}
+use Rattle.gs_worked.proofs.{Kuhn.{firsts, kuhn_best, kuhn_move, kuhn_values, moves_by, values_by}, Tested.{are_same, best_at, same_at}}
 use Rattle.gs_worked.specs.Kuhn.{KuhnPlay, apart, kuhn, turn_one, turn_two}
 
 abbrev answer_by : List (List (List ℕ)) → Plan
@@ -21,313 +21,66 @@ no_other : (m : ℕ) → 0 < m → firsts.number 0 0 m ≡ 0
 no_other zero some = absurd (omega arith)
 no_other (suc m) some = rw (ne_eqb (suc m) 0 (λ e. omega arith)) refl
 
--- ---- best values of player 2 against the first moves of player 1
+-- the number of a player's last step before a point, at a card
+abbrev before : ℕ → Plan → ℕ → ℕ → ℕ
+before player x q c =
+    let round = round_of (frame_of kuhn) (at_point q) in
+    number_before (frame_of kuhn) (lift (frame_of kuhn) apart x) (last_step (frame_of kuhn) player (at_point q)) round (first_member apart round c)
 
-abbrev reply_rows : List (List ℤ)
-reply_rows = (pos 2 ∷ pos 2 ∷ pos 2 ∷ []) ∷ (pos 2 ∷ pos 2 ∷ pos 2 ∷ []) ∷ (pos 2 ∷ pos 2 ∷ pos 2 ∷ []) ∷ (pos 0 ∷ pos 0 ∷ pos 0 ∷ []) ∷ []
+abbrev firsts_flow : ℕ → ℕ → ℕ → ℕ
+firsts_flow q c m = sum_by (λ k. firsts.number q c k) (choices_at (frame_of kuhn) q)
 
-abbrev pub reply_values : Values
-reply_values (at_end z) c = end_worth (frame_of kuhn) 2 (lift (frame_of kuhn) apart firsts) z (first_member apart (round_of (frame_of kuhn) (at_end z)) c)
-reply_values (at_point q) c = get_or (get_or reply_rows q []) (c - 1) (pos 0)
-
-abbrev reply_firsts : List (List ℕ)
-reply_firsts = [] ∷ (1 ∷ 1 ∷ 0 ∷ []) ∷ [] ∷ (0 ∷ 0 ∷ 0 ∷ []) ∷ []
-
-abbrev pub reply_move : ℕ → ℕ → ℕ
-reply_move q c = get_or (get_or reply_firsts q []) (c - 1) 0
-
-reply_in_range : (q c : ℕ) → q < point_count (frame_of kuhn) → player_at (frame_of kuhn) q ≡ 2 → IsClass apart (round_of (frame_of kuhn) (at_point q)) c
-    → reply_move q c < move_count (frame_of kuhn) q
-unfolding ancestor round_of last_step payoff_to player_at move_count leads_to
-reply_in_range zero c l h m = absurd (omega (arith, h))
-reply_in_range (suc zero) zero l h m = absurd (omega (arith, m.0))
-reply_in_range (suc zero) (suc zero) l h m = omega arith
-reply_in_range (suc zero) (suc (suc zero)) l h m = omega arith
-reply_in_range (suc zero) (suc (suc (suc zero))) l h m = omega arith
-reply_in_range (suc zero) (suc (suc (suc (suc c)))) l h m = absurd (omega (arith, m.1))
-reply_in_range (suc (suc zero)) c l h m = absurd (omega (arith, h))
-reply_in_range (suc (suc (suc zero))) zero l h m = absurd (omega (arith, m.0))
-reply_in_range (suc (suc (suc zero))) (suc zero) l h m = omega arith
-reply_in_range (suc (suc (suc zero))) (suc (suc zero)) l h m = omega arith
-reply_in_range (suc (suc (suc zero))) (suc (suc (suc zero))) l h m = omega arith
-reply_in_range (suc (suc (suc zero))) (suc (suc (suc (suc c)))) l h m = absurd (omega (arith, m.1))
-reply_in_range (suc (suc (suc (suc q)))) c l h m = absurd (omega arith)
-
-reply_reached : (q c : ℕ) → q < point_count (frame_of kuhn) → player_at (frame_of kuhn) q ≡ 2 → IsClass apart (round_of (frame_of kuhn) (at_point q)) c
-    → reply_values (at_point q) c ≡ class_worth (frame_of kuhn) apart reply_values q (reply_move q c) c
-unfolding ancestor round_of last_step payoff_to player_at move_count leads_to
-reply_reached zero c l h m = absurd (omega (arith, h))
-reply_reached (suc zero) zero l h m = absurd (omega (arith, m.0))
-reply_reached (suc zero) (suc zero) l h m = refl
-reply_reached (suc zero) (suc (suc zero)) l h m = refl
-reply_reached (suc zero) (suc (suc (suc zero))) l h m = refl
-reply_reached (suc zero) (suc (suc (suc (suc c)))) l h m = absurd (omega (arith, m.1))
-reply_reached (suc (suc zero)) c l h m = absurd (omega (arith, h))
-reply_reached (suc (suc (suc zero))) zero l h m = absurd (omega (arith, m.0))
-reply_reached (suc (suc (suc zero))) (suc zero) l h m = refl
-reply_reached (suc (suc (suc zero))) (suc (suc zero)) l h m = refl
-reply_reached (suc (suc (suc zero))) (suc (suc (suc zero))) l h m = refl
-reply_reached (suc (suc (suc zero))) (suc (suc (suc (suc c)))) l h m = absurd (omega (arith, m.1))
-reply_reached (suc (suc (suc (suc q)))) c l h m = absurd (omega arith)
-
-reply_most : (q k c : ℕ) → q < point_count (frame_of kuhn) → player_at (frame_of kuhn) q ≡ 2 → k < move_count (frame_of kuhn) q
-    → IsClass apart (round_of (frame_of kuhn) (at_point q)) c
-    → class_worth (frame_of kuhn) apart reply_values q k c ≤ℤ reply_values (at_point q) c
-unfolding ancestor round_of last_step payoff_to player_at move_count leads_to
-reply_most zero k c l h i m = absurd (omega (arith, h))
-reply_most (suc zero) zero zero l h i m = absurd (omega (arith, m.0))
-reply_most (suc zero) zero (suc zero) l h i m = omega (arith, ints)
-reply_most (suc zero) zero (suc (suc zero)) l h i m = omega (arith, ints)
-reply_most (suc zero) zero (suc (suc (suc zero))) l h i m = omega (arith, ints)
-reply_most (suc zero) zero (suc (suc (suc (suc c)))) l h i m = absurd (omega (arith, m.1))
-reply_most (suc zero) (suc zero) zero l h i m = absurd (omega (arith, m.0))
-reply_most (suc zero) (suc zero) (suc zero) l h i m = omega (arith, ints)
-reply_most (suc zero) (suc zero) (suc (suc zero)) l h i m = omega (arith, ints)
-reply_most (suc zero) (suc zero) (suc (suc (suc zero))) l h i m = omega (arith, ints)
-reply_most (suc zero) (suc zero) (suc (suc (suc (suc c)))) l h i m = absurd (omega (arith, m.1))
-reply_most (suc zero) (suc (suc k)) c l h i m = absurd (omega arith)
-reply_most (suc (suc zero)) k c l h i m = absurd (omega (arith, h))
-reply_most (suc (suc (suc zero))) zero zero l h i m = absurd (omega (arith, m.0))
-reply_most (suc (suc (suc zero))) zero (suc zero) l h i m = omega (arith, ints)
-reply_most (suc (suc (suc zero))) zero (suc (suc zero)) l h i m = omega (arith, ints)
-reply_most (suc (suc (suc zero))) zero (suc (suc (suc zero))) l h i m = omega (arith, ints)
-reply_most (suc (suc (suc zero))) zero (suc (suc (suc (suc c)))) l h i m = absurd (omega (arith, m.1))
-reply_most (suc (suc (suc zero))) (suc zero) zero l h i m = absurd (omega (arith, m.0))
-reply_most (suc (suc (suc zero))) (suc zero) (suc zero) l h i m = omega (arith, ints)
-reply_most (suc (suc (suc zero))) (suc zero) (suc (suc zero)) l h i m = omega (arith, ints)
-reply_most (suc (suc (suc zero))) (suc zero) (suc (suc (suc zero))) l h i m = omega (arith, ints)
-reply_most (suc (suc (suc zero))) (suc zero) (suc (suc (suc (suc c)))) l h i m = absurd (omega (arith, m.1))
-reply_most (suc (suc (suc zero))) (suc (suc k)) c l h i m = absurd (omega arith)
-reply_most (suc (suc (suc (suc q)))) k c l h i m = absurd (omega arith)
-
-reply_first : (q k c : ℕ) → q < point_count (frame_of kuhn) → player_at (frame_of kuhn) q ≡ 2 → IsClass apart (round_of (frame_of kuhn) (at_point q)) c
-    → k < reply_move q c
-    → class_worth (frame_of kuhn) apart reply_values q k c <ℤ reply_values (at_point q) c
-unfolding ancestor round_of last_step payoff_to player_at move_count leads_to
-reply_first zero k c l h m i = absurd (omega (arith, h))
-reply_first (suc zero) k zero l h m i = absurd (omega (arith, m.0))
-reply_first (suc zero) zero (suc zero) l h m i = omega (arith, ints)
-reply_first (suc zero) (suc k) (suc zero) l h m i = absurd (omega arith)
-reply_first (suc zero) zero (suc (suc zero)) l h m i = omega (arith, ints)
-reply_first (suc zero) (suc k) (suc (suc zero)) l h m i = absurd (omega arith)
-reply_first (suc zero) k (suc (suc (suc zero))) l h m i = absurd (omega arith)
-reply_first (suc zero) k (suc (suc (suc (suc c)))) l h m i = absurd (omega (arith, m.1))
-reply_first (suc (suc zero)) k c l h m i = absurd (omega (arith, h))
-reply_first (suc (suc (suc zero))) k zero l h m i = absurd (omega (arith, m.0))
-reply_first (suc (suc (suc zero))) k (suc zero) l h m i = absurd (omega arith)
-reply_first (suc (suc (suc zero))) k (suc (suc zero)) l h m i = absurd (omega arith)
-reply_first (suc (suc (suc zero))) k (suc (suc (suc zero))) l h m i = absurd (omega arith)
-reply_first (suc (suc (suc zero))) k (suc (suc (suc (suc c)))) l h m i = absurd (omega (arith, m.1))
-reply_first (suc (suc (suc (suc q)))) k c l h m i = absurd (omega arith)
-
-reply_others : (q c : ℕ) → q < point_count (frame_of kuhn) → player_at (frame_of kuhn) q ≢ 2 → IsClass apart (round_of (frame_of kuhn) (at_point q)) c
-    → reply_values (at_point q) c ≡ sum_z (λ k. class_worth (frame_of kuhn) apart reply_values q k c) (choices_at (frame_of kuhn) q)
-unfolding ancestor round_of last_step payoff_to player_at move_count leads_to
-reply_others zero zero l h m = absurd (omega (arith, m.0))
-reply_others zero (suc zero) l h m = refl
-reply_others zero (suc (suc zero)) l h m = refl
-reply_others zero (suc (suc (suc zero))) l h m = refl
-reply_others zero (suc (suc (suc (suc c)))) l h m = absurd (omega (arith, m.1))
-reply_others (suc zero) c l h m = absurd (h refl)
-reply_others (suc (suc zero)) zero l h m = absurd (omega (arith, m.0))
-reply_others (suc (suc zero)) (suc zero) l h m = refl
-reply_others (suc (suc zero)) (suc (suc zero)) l h m = refl
-reply_others (suc (suc zero)) (suc (suc (suc zero))) l h m = refl
-reply_others (suc (suc zero)) (suc (suc (suc (suc c)))) l h m = absurd (omega (arith, m.1))
-reply_others (suc (suc (suc zero))) c l h m = absurd (h refl)
-reply_others (suc (suc (suc (suc q)))) c l h m = absurd (omega arith)
-
-pub reply_best : IsBestValues (frame_of kuhn) apart 2 (lift (frame_of kuhn) apart firsts) reply_values reply_move
-reply_best = record {
-  at_ends = λ z c l m. refl;
-  in_range = reply_in_range;
-  reached = reply_reached;
-  none_more = reply_most;
-  none_before = reply_first;
-  at_others = reply_others;
+firsts_by : (player : ℕ) → are_same (frame_of kuhn) apart player (λ q. 1) firsts_flow (λ q c m. before player firsts q c) ≡ true
+    → IsFirstMoves (frame_of kuhn) apart player firsts
+firsts_by player tested = record {
+  plan = record {
+    total_in = (omega arith, omega arith);
+    flow = λ q c l h i. same_at (frame_of kuhn) apart player (λ q. 1) firsts_flow (λ q c m. before player firsts q c) tested q c 0 l h i (omega arith);
+  };
+  one = refl;
+  first = λ q c m l h i some less. no_other m some;
 }
 
--- ---- both players
+-- all on the moves of a table
+abbrev on_moves : ℕ → Plan → (ℕ → ℕ → ℕ) → ℕ → ℕ → ℕ → ℕ
+on_moves player x move q c m = if m == move q c then before player x q c else 0
 
-one_flow : (q c : ℕ) → q < point_count (frame_of kuhn) → player_at (frame_of kuhn) q ≡ 1 → IsClass apart (round_of (frame_of kuhn) (at_point q)) c
-    → let round = round_of (frame_of kuhn) (at_point q) in
-    sum_by (λ m. firsts.number q c m) (choices_at (frame_of kuhn) q)
-    ≡ number_before (frame_of kuhn) (lift (frame_of kuhn) apart firsts) (last_step (frame_of kuhn) 1 (at_point q)) round (first_member apart round c)
-unfolding ancestor round_of last_step payoff_to player_at move_count leads_to
-one_flow zero zero l h i = absurd (omega (arith, i.0))
-one_flow zero (suc zero) l h i = refl
-one_flow zero (suc (suc zero)) l h i = refl
-one_flow zero (suc (suc (suc zero))) l h i = refl
-one_flow zero (suc (suc (suc (suc c)))) l h i = absurd (omega (arith, i.1))
-one_flow (suc zero) c l h i = absurd (omega (arith, h))
-one_flow (suc (suc zero)) zero l h i = absurd (omega (arith, i.0))
-one_flow (suc (suc zero)) (suc zero) l h i = refl
-one_flow (suc (suc zero)) (suc (suc zero)) l h i = refl
-one_flow (suc (suc zero)) (suc (suc (suc zero))) l h i = refl
-one_flow (suc (suc zero)) (suc (suc (suc (suc c)))) l h i = absurd (omega (arith, i.1))
-one_flow (suc (suc (suc zero))) c l h i = absurd (omega (arith, h))
-one_flow (suc (suc (suc (suc q)))) c l h i = absurd (omega arith)
+abbrev moves : ℕ → ℕ
+moves = move_count (frame_of kuhn)
 
-one_firsts : IsFirstMoves (frame_of kuhn) apart 1 firsts
-one_firsts = record { plan = record { total_in = (omega arith, omega arith); flow = one_flow }; one = refl; first = λ q c m l h i some less. no_other m some }
+-- best values of player 2 against the first moves of player 1
+abbrev reply_values : Values
+reply_values = values_by 2 firsts ((pos 2 ∷ pos 2 ∷ pos 2 ∷ []) ∷ (pos 2 ∷ pos 2 ∷ pos 2 ∷ []) ∷ (pos 2 ∷ pos 2 ∷ pos 2 ∷ []) ∷ (pos 0 ∷ pos 0 ∷ pos 0 ∷ []) ∷ [])
 
-one_puts : (q c m : ℕ) → q < point_count (frame_of kuhn) → player_at (frame_of kuhn) q ≡ 1 → IsClass apart (round_of (frame_of kuhn) (at_point q)) c
-    → m < move_count (frame_of kuhn) q
-    → let round = round_of (frame_of kuhn) (at_point q) in
-    one_answer.number q c m ≡ (if m == kuhn_move q c
-    then number_before (frame_of kuhn) (lift (frame_of kuhn) apart one_answer) (last_step (frame_of kuhn) 1 (at_point q)) round
-    (first_member apart round c) else 0)
-unfolding ancestor round_of last_step payoff_to player_at move_count leads_to
-one_puts zero zero m l h i b = absurd (omega (arith, i.0))
-one_puts zero (suc zero) zero l h i b = refl
-one_puts zero (suc zero) (suc zero) l h i b = refl
-one_puts zero (suc zero) (suc (suc m)) l h i b = absurd (omega arith)
-one_puts zero (suc (suc zero)) zero l h i b = refl
-one_puts zero (suc (suc zero)) (suc zero) l h i b = refl
-one_puts zero (suc (suc zero)) (suc (suc m)) l h i b = absurd (omega arith)
-one_puts zero (suc (suc (suc zero))) zero l h i b = refl
-one_puts zero (suc (suc (suc zero))) (suc zero) l h i b = refl
-one_puts zero (suc (suc (suc zero))) (suc (suc m)) l h i b = absurd (omega arith)
-one_puts zero (suc (suc (suc (suc c)))) m l h i b = absurd (omega (arith, i.1))
-one_puts (suc zero) c m l h i b = absurd (omega (arith, h))
-one_puts (suc (suc zero)) zero m l h i b = absurd (omega (arith, i.0))
-one_puts (suc (suc zero)) (suc zero) zero l h i b = refl
-one_puts (suc (suc zero)) (suc zero) (suc zero) l h i b = refl
-one_puts (suc (suc zero)) (suc zero) (suc (suc m)) l h i b = absurd (omega arith)
-one_puts (suc (suc zero)) (suc (suc zero)) zero l h i b = refl
-one_puts (suc (suc zero)) (suc (suc zero)) (suc zero) l h i b = refl
-one_puts (suc (suc zero)) (suc (suc zero)) (suc (suc m)) l h i b = absurd (omega arith)
-one_puts (suc (suc zero)) (suc (suc (suc zero))) zero l h i b = refl
-one_puts (suc (suc zero)) (suc (suc (suc zero))) (suc zero) l h i b = refl
-one_puts (suc (suc zero)) (suc (suc (suc zero))) (suc (suc m)) l h i b = absurd (omega arith)
-one_puts (suc (suc zero)) (suc (suc (suc (suc c)))) m l h i b = absurd (omega (arith, i.1))
-one_puts (suc (suc (suc zero))) c m l h i b = absurd (omega (arith, h))
-one_puts (suc (suc (suc (suc q)))) c m l h i b = absurd (omega arith)
+abbrev reply_move : ℕ → ℕ → ℕ
+reply_move = moves_by ([] ∷ (1 ∷ 1 ∷ 0 ∷ []) ∷ [] ∷ (0 ∷ 0 ∷ 0 ∷ []) ∷ [])
 
-one_sum : (q c m : ℕ) → q < point_count (frame_of kuhn) → player_at (frame_of kuhn) q ≡ 1 → IsClass apart (round_of (frame_of kuhn) (at_point q)) c
-    → m < move_count (frame_of kuhn) q
-    → turn_one.number q c m ≡ firsts.number q c m + one_answer.number q c m
-unfolding ancestor round_of last_step payoff_to player_at move_count leads_to
-one_sum zero zero m l h i b = absurd (omega (arith, i.0))
-one_sum zero (suc zero) zero l h i b = refl
-one_sum zero (suc zero) (suc zero) l h i b = refl
-one_sum zero (suc zero) (suc (suc m)) l h i b = absurd (omega arith)
-one_sum zero (suc (suc zero)) zero l h i b = refl
-one_sum zero (suc (suc zero)) (suc zero) l h i b = refl
-one_sum zero (suc (suc zero)) (suc (suc m)) l h i b = absurd (omega arith)
-one_sum zero (suc (suc (suc zero))) zero l h i b = refl
-one_sum zero (suc (suc (suc zero))) (suc zero) l h i b = refl
-one_sum zero (suc (suc (suc zero))) (suc (suc m)) l h i b = absurd (omega arith)
-one_sum zero (suc (suc (suc (suc c)))) m l h i b = absurd (omega (arith, i.1))
-one_sum (suc zero) c m l h i b = absurd (omega (arith, h))
-one_sum (suc (suc zero)) zero m l h i b = absurd (omega (arith, i.0))
-one_sum (suc (suc zero)) (suc zero) zero l h i b = refl
-one_sum (suc (suc zero)) (suc zero) (suc zero) l h i b = refl
-one_sum (suc (suc zero)) (suc zero) (suc (suc m)) l h i b = absurd (omega arith)
-one_sum (suc (suc zero)) (suc (suc zero)) zero l h i b = refl
-one_sum (suc (suc zero)) (suc (suc zero)) (suc zero) l h i b = refl
-one_sum (suc (suc zero)) (suc (suc zero)) (suc (suc m)) l h i b = absurd (omega arith)
-one_sum (suc (suc zero)) (suc (suc (suc zero))) zero l h i b = refl
-one_sum (suc (suc zero)) (suc (suc (suc zero))) (suc zero) l h i b = refl
-one_sum (suc (suc zero)) (suc (suc (suc zero))) (suc (suc m)) l h i b = absurd (omega arith)
-one_sum (suc (suc zero)) (suc (suc (suc (suc c)))) m l h i b = absurd (omega (arith, i.1))
-one_sum (suc (suc (suc zero))) c m l h i b = absurd (omega (arith, h))
-one_sum (suc (suc (suc (suc q)))) c m l h i b = absurd (omega arith)
-
-two_flow : (q c : ℕ) → q < point_count (frame_of kuhn) → player_at (frame_of kuhn) q ≡ 2 → IsClass apart (round_of (frame_of kuhn) (at_point q)) c
-    → let round = round_of (frame_of kuhn) (at_point q) in
-    sum_by (λ m. firsts.number q c m) (choices_at (frame_of kuhn) q)
-    ≡ number_before (frame_of kuhn) (lift (frame_of kuhn) apart firsts) (last_step (frame_of kuhn) 2 (at_point q)) round (first_member apart round c)
-unfolding ancestor round_of last_step payoff_to player_at move_count leads_to
-two_flow zero c l h i = absurd (omega (arith, h))
-two_flow (suc zero) zero l h i = absurd (omega (arith, i.0))
-two_flow (suc zero) (suc zero) l h i = refl
-two_flow (suc zero) (suc (suc zero)) l h i = refl
-two_flow (suc zero) (suc (suc (suc zero))) l h i = refl
-two_flow (suc zero) (suc (suc (suc (suc c)))) l h i = absurd (omega (arith, i.1))
-two_flow (suc (suc zero)) c l h i = absurd (omega (arith, h))
-two_flow (suc (suc (suc zero))) zero l h i = absurd (omega (arith, i.0))
-two_flow (suc (suc (suc zero))) (suc zero) l h i = refl
-two_flow (suc (suc (suc zero))) (suc (suc zero)) l h i = refl
-two_flow (suc (suc (suc zero))) (suc (suc (suc zero))) l h i = refl
-two_flow (suc (suc (suc zero))) (suc (suc (suc (suc c)))) l h i = absurd (omega (arith, i.1))
-two_flow (suc (suc (suc (suc q)))) c l h i = absurd (omega arith)
-
-two_firsts : IsFirstMoves (frame_of kuhn) apart 2 firsts
-two_firsts = record { plan = record { total_in = (omega arith, omega arith); flow = two_flow }; one = refl; first = λ q c m l h i some less. no_other m some }
-
-two_puts : (q c m : ℕ) → q < point_count (frame_of kuhn) → player_at (frame_of kuhn) q ≡ 2 → IsClass apart (round_of (frame_of kuhn) (at_point q)) c
-    → m < move_count (frame_of kuhn) q
-    → let round = round_of (frame_of kuhn) (at_point q) in
-    two_answer.number q c m ≡ (if m == reply_move q c
-    then number_before (frame_of kuhn) (lift (frame_of kuhn) apart two_answer) (last_step (frame_of kuhn) 2 (at_point q)) round
-    (first_member apart round c) else 0)
-unfolding ancestor round_of last_step payoff_to player_at move_count leads_to
-two_puts zero c m l h i b = absurd (omega (arith, h))
-two_puts (suc zero) zero m l h i b = absurd (omega (arith, i.0))
-two_puts (suc zero) (suc zero) zero l h i b = refl
-two_puts (suc zero) (suc zero) (suc zero) l h i b = refl
-two_puts (suc zero) (suc zero) (suc (suc m)) l h i b = absurd (omega arith)
-two_puts (suc zero) (suc (suc zero)) zero l h i b = refl
-two_puts (suc zero) (suc (suc zero)) (suc zero) l h i b = refl
-two_puts (suc zero) (suc (suc zero)) (suc (suc m)) l h i b = absurd (omega arith)
-two_puts (suc zero) (suc (suc (suc zero))) zero l h i b = refl
-two_puts (suc zero) (suc (suc (suc zero))) (suc zero) l h i b = refl
-two_puts (suc zero) (suc (suc (suc zero))) (suc (suc m)) l h i b = absurd (omega arith)
-two_puts (suc zero) (suc (suc (suc (suc c)))) m l h i b = absurd (omega (arith, i.1))
-two_puts (suc (suc zero)) c m l h i b = absurd (omega (arith, h))
-two_puts (suc (suc (suc zero))) zero m l h i b = absurd (omega (arith, i.0))
-two_puts (suc (suc (suc zero))) (suc zero) zero l h i b = refl
-two_puts (suc (suc (suc zero))) (suc zero) (suc zero) l h i b = refl
-two_puts (suc (suc (suc zero))) (suc zero) (suc (suc m)) l h i b = absurd (omega arith)
-two_puts (suc (suc (suc zero))) (suc (suc zero)) zero l h i b = refl
-two_puts (suc (suc (suc zero))) (suc (suc zero)) (suc zero) l h i b = refl
-two_puts (suc (suc (suc zero))) (suc (suc zero)) (suc (suc m)) l h i b = absurd (omega arith)
-two_puts (suc (suc (suc zero))) (suc (suc (suc zero))) zero l h i b = refl
-two_puts (suc (suc (suc zero))) (suc (suc (suc zero))) (suc zero) l h i b = refl
-two_puts (suc (suc (suc zero))) (suc (suc (suc zero))) (suc (suc m)) l h i b = absurd (omega arith)
-two_puts (suc (suc (suc zero))) (suc (suc (suc (suc c)))) m l h i b = absurd (omega (arith, i.1))
-two_puts (suc (suc (suc (suc q)))) c m l h i b = absurd (omega arith)
-
-two_sum : (q c m : ℕ) → q < point_count (frame_of kuhn) → player_at (frame_of kuhn) q ≡ 2 → IsClass apart (round_of (frame_of kuhn) (at_point q)) c
-    → m < move_count (frame_of kuhn) q
-    → turn_two.number q c m ≡ firsts.number q c m + two_answer.number q c m
-unfolding ancestor round_of last_step payoff_to player_at move_count leads_to
-two_sum zero c m l h i b = absurd (omega (arith, h))
-two_sum (suc zero) zero m l h i b = absurd (omega (arith, i.0))
-two_sum (suc zero) (suc zero) zero l h i b = refl
-two_sum (suc zero) (suc zero) (suc zero) l h i b = refl
-two_sum (suc zero) (suc zero) (suc (suc m)) l h i b = absurd (omega arith)
-two_sum (suc zero) (suc (suc zero)) zero l h i b = refl
-two_sum (suc zero) (suc (suc zero)) (suc zero) l h i b = refl
-two_sum (suc zero) (suc (suc zero)) (suc (suc m)) l h i b = absurd (omega arith)
-two_sum (suc zero) (suc (suc (suc zero))) zero l h i b = refl
-two_sum (suc zero) (suc (suc (suc zero))) (suc zero) l h i b = refl
-two_sum (suc zero) (suc (suc (suc zero))) (suc (suc m)) l h i b = absurd (omega arith)
-two_sum (suc zero) (suc (suc (suc (suc c)))) m l h i b = absurd (omega (arith, i.1))
-two_sum (suc (suc zero)) c m l h i b = absurd (omega (arith, h))
-two_sum (suc (suc (suc zero))) zero m l h i b = absurd (omega (arith, i.0))
-two_sum (suc (suc (suc zero))) (suc zero) zero l h i b = refl
-two_sum (suc (suc (suc zero))) (suc zero) (suc zero) l h i b = refl
-two_sum (suc (suc (suc zero))) (suc zero) (suc (suc m)) l h i b = absurd (omega arith)
-two_sum (suc (suc (suc zero))) (suc (suc zero)) zero l h i b = refl
-two_sum (suc (suc (suc zero))) (suc (suc zero)) (suc zero) l h i b = refl
-two_sum (suc (suc (suc zero))) (suc (suc zero)) (suc (suc m)) l h i b = absurd (omega arith)
-two_sum (suc (suc (suc zero))) (suc (suc (suc zero))) zero l h i b = refl
-two_sum (suc (suc (suc zero))) (suc (suc (suc zero))) (suc zero) l h i b = refl
-two_sum (suc (suc (suc zero))) (suc (suc (suc zero))) (suc (suc m)) l h i b = absurd (omega arith)
-two_sum (suc (suc (suc zero))) (suc (suc (suc (suc c)))) m l h i b = absurd (omega (arith, i.1))
-two_sum (suc (suc (suc (suc q)))) c m l h i b = absurd (omega arith)
+-- a best plan, and its sum with the first moves
+abbrev firsts_and : Plan → ℕ → ℕ → ℕ → ℕ
+firsts_and x q c m = firsts.number q c m + x.number q c m
 
 pub kuhn_play : KuhnPlay
+unfolding ancestor round_of last_step payoff_to player_at move_count leads_to
 kuhn_play = (
   firsts,
   firsts,
   one_answer,
   two_answer,
-  (one_firsts, two_firsts),
-  record { values = kuhn_values; move = kuhn_move; best = kuhn_best; one = refl; puts = one_puts },
-  record { values = reply_values; move = reply_move; best = reply_best; one = refl; puts = two_puts },
-  record { total = refl; numbers = one_sum },
-  record { total = refl; numbers = two_sum },
+  (firsts_by 1 refl, firsts_by 2 refl),
+  record {
+    values = kuhn_values;
+    move = kuhn_move;
+    best = kuhn_best;
+    one = refl;
+    puts = same_at (frame_of kuhn) apart 1 moves one_answer.number (on_moves 1 one_answer kuhn_move) refl;
+  },
+  record {
+    values = reply_values;
+    move = reply_move;
+    best = best_at (frame_of kuhn) apart 2 (lift (frame_of kuhn) apart firsts) reply_values reply_move refl (λ z c l m. refl);
+    one = refl;
+    puts = same_at (frame_of kuhn) apart 2 moves two_answer.number (on_moves 2 two_answer reply_move) refl;
+  },
+  record { total = refl; numbers = same_at (frame_of kuhn) apart 1 moves turn_one.number (firsts_and one_answer) refl },
+  record { total = refl; numbers = same_at (frame_of kuhn) apart 2 moves turn_two.number (firsts_and two_answer) refl },
 )
