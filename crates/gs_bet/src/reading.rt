@@ -200,6 +200,9 @@ pub fn parse_tree(alloc: Global, text: &str) -> Result<BetTree, TreeError>
     match whole_of(alloc, bytes) {
         Ok(tree) => Ok(BetTree { tree }),
         Err(ReadError::Memory) => Err(TreeError::Memory),
-        Err(ReadError::Fault(mistake, left)) => Err(TreeError::Fault(fault_at(mistake, bytes.len() - left))),
+        Err(ReadError::Fault(mistake, left)) => Err(TreeError::Fault(fault_at(
+            mistake,
+            bytes.len() - left,
+        ))),
     }
 }

@@ -1,5 +1,5 @@
 -- Where lists keep the rules of classes, no fault tells that one is broken.
-use Rattle.std.proofs.{Common.{◌≡◌, ◌≢◌, ℕ, ◌+◌, ◌-◌, ◌<◌, ◌≤◌, ◌==◌, List, length, get_or, inl, inr, refl, subst, arith}, lemmas.Bool.{eqb-true}}
+use Rattle.std.proofs.{Common.{◌≡◌, ℕ, ◌+◌, ◌-◌, ◌<◌, ◌≤◌, ◌==◌, List, length, get_or, inl, inr, subst, arith}, lemmas.Bool.{eqb-true}}
 use Rattle.std.proofs.lemmas.List.Sums.{passes_at_first}
 use Rattle.gs_filter.proofs.TallyLaws.{first_before}
 use Rattle.gs_filter.specs.{Faults.{IsFaultOf, first_beside, StaysTogether}, declared.fault.ClassFault.{ClassFault}}

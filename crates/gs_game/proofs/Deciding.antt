@@ -1,7 +1,7 @@
 -- Which refusal comes first.
 use Rattle.std.proofs.Common.{◌≡◌, ℕ, ◌-◌, ◌*◌, ◌^◌, ◌<◌, ◌≤◌, ◌≢◌, ◌⊎◌, min, true, false, List, [], ◌∷◌, map, length, refl, sym, ap, arith}
 use Rattle.std.proofs.lemmas.Bool.{lt-ltb, le-ltb}
-use Rattle.std.specs.Prelude.{◌==◌, ◌&&◌, Option, Some, None, nat_le, nat_lt, Result, Ok, Err, MatchResult}
+use Rattle.std.specs.Prelude.{◌==◌, ◌&&◌, Option, Some, None, nat_le, nat_lt}
 use Rattle.gs_model.specs.{Betting.{Bet}, Frame.{trees_of}, Walk.{walk, walk_start}, Numbering.{greatest}}
 use Rattle.gs_model.specs.Game.{Game as Rules, Round as RoundRules, round_at, round_count}
 use Rattle.gs_game.specs.{declared.faults.GameError.{GameError}, declared.faults.GameFault.{GameFault}, declared.game.Game.{Game}, declared.game.Round.{Round}, FaultOf.{IsErrorOf, IsFaultOf}, Counts.{ends_in}}

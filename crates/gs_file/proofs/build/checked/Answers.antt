@@ -1,4 +1,4 @@
-use Rattle.gs_game.specs.{FaultOf.{IsErrorOf}, Games.{game_of}, Refusals.{first_refusal}}
+use Rattle.gs_game.specs.{Games.{game_of}, Refusals.{first_refusal}}
 use Rattle.gs_file.specs.Views.{game_view}
 use Rattle.gs_file.proofs.Accepted.{accepted_as_is, refused_by}
 use Rattle.gs_file.proofs.build.checked.Goals as goal

@@ -1,4 +1,4 @@
-use Rattle.std.proofs.{Common.{arith, ap, refl, sym, ◌∙◌}, lemmas.Grind.{common_steps}}
+use Rattle.std.proofs.{Common.{arith, ap, sym, ◌∙◌}, lemmas.Grind.{common_steps}}
 use Rattle.std.specs.Option.{ok_or}
 use Rattle.gs_json.specs.Shapes.{whole_in}
 use Rattle.gs_strategy.specs.Faults.{shape}
