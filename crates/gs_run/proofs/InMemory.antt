@@ -2,6 +2,8 @@
 use Rattle.std.proofs.Common.{◌≡◌, ◌≢◌, inl, inr, ℕ, ◌<◌, ◌≤◌, [], List, Bool, length, Some, None, true, refl, sym, ap, ◌∙◌, subst, arith}
 use Rattle.gs_reply.specs.Refusals.{Refusal, Bad_game, Unlike_pair, Overflows, Many_pivots, Too_large, Bad_strategy, Wrong_number, Bad_query, Other_game}
 use Rattle.gs_reply.specs.{Refusals.{Bad_certificate, line_of}, Replies.{Reply, Prints, Refuses}}
+use Rattle.std.specs.{List.{All}, Str.{IsUtf8}}
+use Rattle.gs_words.proofs.Asked.{read_is_asked}
 use Rattle.gs_words.specs.{Requests.{request_of}, Tasks.{Task, Solve}}
 use Rattle.gs_run.proofs.{Answering.{answers_one}, Answered.{one_task}, Concluded.{concludes}, Meant.{means_of, solution_of}, Theorem.{asked_for}}
 use Rattle.gs_run.specs.{Asking.{Asks, reads}, InMemory.{DoesInMemory, FitsLimit, GivesReply, GivesOutcome}, Running.{long_line, most_bytes, usage_line}}
@@ -42,6 +44,8 @@ is_refusal (Bad_certificate why) = record { not_ok = λ e. cc; not_usage = λ e.
 usage : (words : List (List ℕ)) (input : List ℕ) → request_of words ≡ None → DoesInMemory words input status.Usage [] usage_line
 usage words input none = record {
   takes_words = λ task a e. asks_none words task (asked_for words task a) none;
+  asked = λ apart. absurd (apart refl);
+  outcome = inl (none, refl, refl, refl);
   no_request = λ e. (refl, refl, refl);
   prints = λ task a e. absurd (asks_none words task (asked_for words task a) none);
   path = λ grouping a e. absurd (asks_none words (Solve grouping) (asked_for words (Solve grouping) a) none);
@@ -51,10 +55,12 @@ usage words input none = record {
   decided = λ task reply asked fits says. absurd (asks_none words task asked none);
 }
 
-too_long : (words : List (List ℕ)) (input : List ℕ) (task : Task) → request_of words ≡ Some task → reads task ≡ true → most_bytes < length input
-    → DoesInMemory words input status.TooLong [] long_line
-too_long words input task is r long = record {
+too_long : (words : List (List ℕ)) (input : List ℕ) (task : Task) → All IsUtf8 words → request_of words ≡ Some task → reads task ≡ true
+    → most_bytes < length input → DoesInMemory words input status.TooLong [] long_line
+too_long words input task texts is r long = record {
   takes_words = λ other a e. cc;
+  asked = λ apart. (task, read_is_asked words task texts is);
+  outcome = inr (task, is, inl (r, long, refl, refl, refl));
   no_request = λ none. absurd (asks_none words task is none);
   prints = λ other a e. let bad : status.TooLong ≡ status.Ok = e in cc;
   path = λ grouping a e. let bad : status.TooLong ≡ status.Ok = e in cc;
@@ -68,10 +74,12 @@ says_of : (words : List (List ℕ)) (task other : Task) (input : List ℕ) (repl
     → Asks task input reply → Asks other input reply
 says_of words task other input reply is asked says = subst (λ (t : Task). Asks t input reply) (one_task words task other is asked) says
 
-printed : (words : List (List ℕ)) (input : List ℕ) (task : Task) (text : List ℕ) → request_of words ≡ Some task → FitsLimit (reads task) input
-    → Asks task input (Prints text) → DoesInMemory words input status.Ok text []
-printed words input task text is few says = record {
+printed : (words : List (List ℕ)) (input : List ℕ) (task : Task) (text : List ℕ) → All IsUtf8 words → request_of words ≡ Some task
+    → FitsLimit (reads task) input → Asks task input (Prints text) → DoesInMemory words input status.Ok text []
+printed words input task text texts is few says = record {
   takes_words = λ other a e. cc;
+  asked = λ apart. (task, read_is_asked words task texts is);
+  outcome = inr (task, is, inr (few, (Prints text, says, (refl, refl, refl))));
   no_request = λ none. absurd (asks_none words task is none);
   prints = λ other a e. (means_of other input text (says_of words task other input (Prints text) is (asked_for words other a) says), refl);
   path = λ grouping a e.
@@ -87,12 +95,14 @@ printed words input task text is few says = record {
       (answers_one other input (Prints text) reply (says_of words task other input (Prints text) is asked says) said) (refl, refl, refl);
 }
 
-refused : (words : List (List ℕ)) (input : List ℕ) (task : Task) (why : Refusal) → request_of words ≡ Some task → FitsLimit (reads task) input
-    → Asks task input (Refuses why) → DoesInMemory words input (status_of why) [] (line_of why)
-refused words input task why is few says =
+refused : (words : List (List ℕ)) (input : List ℕ) (task : Task) (why : Refusal) → All IsUtf8 words → request_of words ≡ Some task
+    → FitsLimit (reads task) input → Asks task input (Refuses why) → DoesInMemory words input (status_of why) [] (line_of why)
+refused words input task why texts is few says =
     let apart = is_refusal why in
     record {
       takes_words = λ other a e. apart.not_usage e;
+      asked = λ other. (task, read_is_asked words task texts is);
+      outcome = inr (task, is, inr (few, (Refuses why, says, (refl, refl, refl))));
       no_request = λ none. absurd (asks_none words task is none);
       prints = λ other a e. absurd (apart.not_ok e);
       path = λ grouping a e. absurd (apart.not_ok e);
@@ -115,16 +125,18 @@ given_as words input s t printed text told line a b c h =
     subst (λ (x : Status). DoesInMemory words input x printed told) (sym a)
     (subst (λ (x : List ℕ). DoesInMemory words input t x told) (sym b) (subst (λ (x : List ℕ). DoesInMemory words input t text x) (sym c) h))
 
-replied : (words : List (List ℕ)) (input : List ℕ) (s : Status) (printed_text told : List ℕ) (task : Task) (reply : Reply) → request_of words ≡ Some task
-    → FitsLimit (reads task) input → Asks task input reply → GivesReply reply s printed_text told → DoesInMemory words input s printed_text told
-replied words input s out told task (Prints text) is few says gives =
-    given_as words input s status.Ok out text told [] gives.0 gives.1 gives.2 (printed words input task text is few says)
-replied words input s out told task (Refuses why) is few says gives =
-    given_as words input s (status_of why) out [] told (line_of why) gives.0 gives.1 gives.2 (refused words input task why is few says)
+replied : (words : List (List ℕ)) (input : List ℕ) (s : Status) (printed_text told : List ℕ) (task : Task) (reply : Reply) → All IsUtf8 words
+    → request_of words ≡ Some task → FitsLimit (reads task) input → Asks task input reply → GivesReply reply s printed_text told
+    → DoesInMemory words input s printed_text told
+replied words input s out told task (Prints text) texts is few says gives =
+    given_as words input s status.Ok out text told [] gives.0 gives.1 gives.2 (printed words input task text texts is few says)
+replied words input s out told task (Refuses why) texts is few says gives =
+    given_as words input s (status_of why) out [] told (line_of why) gives.0 gives.1 gives.2 (refused words input task why texts is few says)
 
-pub does_in_memory : (words : List (List ℕ)) (input : List ℕ) (s : Status) (printed told : List ℕ) → GivesOutcome words input s printed told
-    → DoesInMemory words input s printed told
-does_in_memory words input s out told (inl h) = given_as words input s status.Usage out [] told usage_line h.1 h.2 h.3 (usage words input h.0)
-does_in_memory words input s out told (inr (task, is, inl h)) =
-    given_as words input s status.TooLong out [] told long_line h.2 h.3 h.4 (too_long words input task is h.0 h.1)
-does_in_memory words input s out told (inr (task, is, inr (few, (reply, says, gives)))) = replied words input s out told task reply is few says gives
+pub does_in_memory : (words : List (List ℕ)) (input : List ℕ) (s : Status) (printed told : List ℕ) → All IsUtf8 words
+    → GivesOutcome words input s printed told → DoesInMemory words input s printed told
+does_in_memory words input s out told texts (inl h) = given_as words input s status.Usage out [] told usage_line h.1 h.2 h.3 (usage words input h.0)
+does_in_memory words input s out told texts (inr (task, is, inl h)) =
+    given_as words input s status.TooLong out [] told long_line h.2 h.3 h.4 (too_long words input task texts is h.0 h.1)
+does_in_memory words input s out told texts (inr (task, is, inr (few, (reply, says, gives)))) =
+    replied words input s out told task reply texts is few says gives

@@ -1,16 +1,28 @@
 -- What a run does, from what each status says.
-use Rattle.std.proofs.Common.{◌≡◌, ◌≢◌, ℕ, List, Some, refl, ap, ◌∙◌, subst}
+use Rattle.std.proofs.Common.{◌≡◌, ◌≢◌, ℕ, List, Some, refl, subst}
 use Rattle.gs_reply.specs.Replies.{Prints}
-use Rattle.gs_words.proofs.Plain.{plain_meant}
-use Rattle.gs_words.specs.{Requests.{request_of}, Tasks.{Task, Solve}}
+use Rattle.std.specs.{List.{All}, Str.{IsUtf8}}
+use Rattle.gs_words.proofs.{Asked.{read_is_asked}, Plain.{asked_is_read}}
+use Rattle.gs_words.specs.{Plain.{AskFor}, Requests.{request_of}, Tasks.{Task, Solve}}
 use Rattle.gs_run.proofs.{Answered.{answer_of, replied}, Concluded.{concludes}, Decided.{decided}, Meant.{means_of, solution_of}}
-use Rattle.gs_run.specs.{Asking.{Asks, reads}, Meanings.{AskFor, Means, ShowsSolution}, Running.{Ends, Quiet, RunsTo}, Theorem.{CutShort, Does, Printed, Run}}
+use Rattle.gs_run.specs.{Asking.{Asks, reads}, Meanings.{Means, ShowsSolution}, Running.{Ends, Quiet, RunsTo}, Theorem.{CutShort, Does, Printed, Run}}
 use Rattle.gs_run.specs.declared.status.Status.{Status}
 use Rattle.gs_run.specs.declared.status.Status.TheVariants as status
 
--- plain words are the request that they ask for
+-- words that ask for a task are read as it
 pub asked_for : (words : List (List ℕ)) (task : Task) → AskFor words task → request_of words ≡ Some task
-asked_for words task a = ap request_of a.are ∙ plain_meant a.command a.options a.plain ∙ a.task_is
+asked_for words task a = asked_is_read words task a
+
+-- a run that is not refused for its words, and has memory, has a task
+task_there : (words : List (List ℕ)) (old new : Ends) (s : Status) → RunsTo words old new s → s ≢ status.Usage → s ≢ status.Memory
+    → (task : Task) × (request_of words ≡ Some task)
+task_there words old new status.Usage runs a b = absurd (a refl)
+task_there words old new status.Memory runs a b = absurd (b refl)
+task_there words old new status.Ok runs a b = (runs.0, runs.1)
+task_there words old new status.ReadFault runs a b = (runs.0, runs.1)
+task_there words old new status.TooLong runs a b = (runs.0, runs.1)
+task_there words old new status.WriteFault runs a b = (runs.0, runs.1)
+task_there words old new s runs a b = (runs.0, runs.1)
 
 printed : (r : Run) (task : Task) (says : List ℕ → List ℕ → Type 0) → ((bytes text : List ℕ) → Asks task bytes (Prints text) → says bytes text)
     → request_of r.words ≡ Some task → RunsTo r.words r.old r.new status.Ok → Printed (reads task) says r
@@ -39,12 +51,15 @@ takes_words words s old new task runs asked e =
     let refused : RunsTo words old new status.Usage = subst (RunsTo words old new) e runs in
     let bad = refused.0 in cc
 
-pub does : (words : List (List ℕ)) (old new : Ends) (s : Status) → RunsTo words old new s
+pub does : (words : List (List ℕ)) (old new : Ends) (s : Status) → All IsUtf8 words → RunsTo words old new s
     → Does (record { words = words; old = old; new = new; status = s })
-does words old new s runs =
+does words old new s texts runs =
     let r : Run = record { words = words; old = old; new = new; status = s } in
     record {
       takes_words = λ task a. takes_words words s old new task runs (asked_for words task a);
+      asked = λ a b.
+          let t = task_there words old new s runs a b in
+          (t.0, read_is_asked words t.0 texts t.1);
       prints = λ task a e. printed r task (Means task) (means_of task) (asked_for words task a) (subst (RunsTo words old new) e runs);
       path = λ grouping a e. printed r (Solve grouping) (ShowsSolution grouping) (solution_of grouping) (asked_for words (Solve grouping) a)
           (subst (RunsTo words old new) e runs);

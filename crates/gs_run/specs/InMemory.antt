@@ -1,8 +1,8 @@
 -- What the program does with words and bytes in memory. This is what `Does` says of a run, without a source and sinks.
 use Rattle.std.specs.Prelude.{◌≡◌, ◌≢◌, ◌⊎◌, ℕ, ◌<◌, ◌≤◌, List, [], Bool, length, Some, None, true, false}
 use Rattle.gs_reply.specs.{Refusals.{line_of}, Replies.{Reply, Prints, Refuses}}
-use Rattle.gs_words.specs.{Requests.{request_of}, Tasks.{Task, Solve}, declared.request.Grouping.{Grouping}}
-use Rattle.gs_run.specs.{Asking.{Asks, reads}, Endings.{Concludes}, Meanings.{AskFor, Means, ShowsSolution}, Running.{Asked, long_line, most_bytes, usage_line}}
+use Rattle.gs_words.specs.{Plain.{AskFor}, Requests.{request_of}, Tasks.{Task, Solve}, declared.request.Grouping.{Grouping}}
+use Rattle.gs_run.specs.{Asking.{Asks, reads}, Endings.{Concludes}, Meanings.{Means, ShowsSolution}, Running.{Asked, long_line, most_bytes, usage_line}}
 use Rattle.gs_run.specs.{Statuses.{status_of}, declared.status.Status.{Status}}
 use Rattle.gs_run.specs.declared.status.Status.TheVariants as status
 
@@ -32,6 +32,10 @@ GivesOutcome words input s printed told =
 pub record DoesInMemory (words : List (List ℕ)) (input : List ℕ) (s : Status) (printed told : List ℕ) : Type 0 where
   -- a command with its options is never refused for its words
   pub takes_words : (task : Task) → AskFor words task → s ≢ status.Usage
+  -- and what is not refused for its words was asked for a task
+  pub asked : s ≢ status.Usage → (task : Task) × AskFor words task
+  -- every outcome is one of three: the usage line for words that are no request, the line that refuses a too long input, or a reply of the task's definition
+  pub outcome : GivesOutcome words input s printed told
   -- words that are no request get the usage line
   pub no_request : request_of words ≡ None → (s ≡ status.Usage) × (printed ≡ []) × (told ≡ usage_line)
   -- at status 0 it prints what the command means, and tells nothing

@@ -1,31 +1,20 @@
 -- What each command prints for the bytes that it reads, in terms of games and strategies. No order of checks is fixed here.
-use Rattle.std.specs.Prelude.{◌≡◌, ℕ, ◌<◌, ◌≤◌, ◌++◌, ◌∷◌, List, pos, Some, false, true, IsTrue}
+use Rattle.std.specs.Prelude.{◌≡◌, ℕ, ◌<◌, ◌≤◌, ◌++◌, List, pos, false, true}
 use Rattle.gs_certificate.specs.{Texts.{certificate_text}, Views.{certificate_view}, declared.certificate.Certificate.{Certificate}}
 use Rattle.gs_strategy_commands.specs.{Certificates.{IsCertified}, Verifying.{IsVerified}, Queries.{IsQueried}}
 use Rattle.gs_raw_commands.specs.Judging.{AreHandValues, hands_text}
 use Rattle.gs_file.specs.{Reading.{FileGame, file_rules}, States.{FileStates}, declared.version.Version.{Version}, declared.version.Version.TheVariants.{Two}}
 use Rattle.gs_game_commands.specs.{Checking.{IsChecked, IsGrouping}, Shrinking.{IsShrunk}, Paths.{IsPathShown}, Solving.{IsSolved}}
 use Rattle.gs_strategy.specs.{RawPlans.{AreRawPlans}, Confirmed.{IsConfirmed, over, raw_plan}, Values.{AreFractions}, Laws.{IsStrategy}, Texts.{strategy_text}}
-use Rattle.gs_words.specs.{Made.{made_game}, Commands.{entry_of}, Plain.{Given, are_plain, given_for, option_words}, Requests.{task_for}}
+use Rattle.gs_words.specs.Made.{made_game}
 use Rattle.gs_words.specs.Tasks.{Task, Shrink, Check, Make, Evaluate, Query, Upgrade, Judge, Duel, Certify, Verify, Solve, Play, Path}
-use Rattle.gs_words.specs.{declared.names.CommandName.{CommandName}, declared.request.Grouping.{Grouping}}
+use Rattle.gs_words.specs.declared.request.Grouping.{Grouping}
 use Rattle.gs_model.specs.{Classes.{ClassLists}, Frame.{signal_count}, Lossless.{IsLossless}, Payoff.{hand_weight}, Play.{IsFictitiousPlay}}
 use Rattle.gs_model.specs.Verdict.{IsVerdict}
 use Rattle.gs_raw.specs.Cells.{raw_cell_count}
 use Rattle.gs_seq.specs.{Slots.{plan_of}, Stops.{IsSmall}}
 use Rattle.gs_strategy.specs.Values.{FractionParts, Numbers, Strategy, file_frame}
 use Rattle.gs_reply.specs.VerdictText.{verdict_text}
-
--- ---- words
-
--- The words are a command and options of it, in any order. Each option is given at most once, and each required one is given. Together they ask for the
--- task.
-pub record AskFor (words : List (List ℕ)) (task : Task) : Type 0 where
-  pub command : CommandName
-  pub options : List Given
-  pub plain : IsTrue (are_plain command options)
-  pub are : words ≡ (entry_of command).word ∷ option_words options
-  pub task_is : task_for command (given_for options) ≡ Some task
 
 -- ---- game files
 

@@ -1,7 +1,7 @@
 -- What a run of the program does, over any source and any two sinks.
 use Rattle.std.specs.{Prelude.{◌≡◌, ◌≢◌, ℕ, ◌<◌, List, Bool, length, take, true}, Io.KnownBytes.{Appends}}
-use Rattle.gs_words.specs.{Tasks.{Task, Solve}, declared.request.Grouping.{Grouping}}
-use Rattle.gs_run.specs.{Asking.{reads}, Deciding.{Holds, IsDecided}, Endings.{Concludes}, Meanings.{AskFor, Means, ShowsSolution}}
+use Rattle.gs_words.specs.{Plain.{AskFor}, Tasks.{Task, Solve}, declared.request.Grouping.{Grouping}}
+use Rattle.gs_run.specs.{Asking.{reads}, Deciding.{Holds, IsDecided}, Endings.{Concludes}, Meanings.{Means, ShowsSolution}}
 use Rattle.gs_run.specs.{Running.{Ends, Inputs, NothingFailed, Quiet, Silent}, declared.status.Status.{Status}}
 use Rattle.gs_run.specs.declared.status.Status.TheVariants as status
 
@@ -36,6 +36,8 @@ pub record CutShort (reads_source : Bool) (says : List ℕ → List ℕ → Type
 pub record Does (r : Run) : Type 0 where
   -- a command with its options is never refused for its words
   pub takes_words : (task : Task) → AskFor r.words task → r.status ≢ status.Usage
+  -- and a run that is not refused for its words, and has memory, was asked for a task
+  pub asked : r.status ≢ status.Usage → r.status ≢ status.Memory → (task : Task) × AskFor r.words task
   -- at status 0 the run printed what the command means
   pub prints : (task : Task) → AskFor r.words task → r.status ≡ status.Ok → Printed (reads task) (Means task) r
   -- and the plans that `solve` prints are read off its path

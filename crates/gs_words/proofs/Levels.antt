@@ -9,10 +9,10 @@ use Rattle.clap.specs.{Faults.{built_fault, check_fault, defaults_fault, level_f
 use Rattle.clap.specs.{declared.builder.ArgAction.{ArgAction}, declared.builder.range.ValueRange.{ValueRange}}
 use Rattle.clap.specs.declared.builder.ArgAction.TheVariants.{Set, SetTrue}
 use Rattle.clap.proofs.{FaultLemmas.{past, stopped_fault}, OnLiterals.{clap_on_literals}}
-use Rattle.gs_words.specs.{Commands.{command_of, command_word, options_of}, Program.{program}, Requests.{request_of, task_in}, Plain.{long_word}}
+use Rattle.gs_words.specs.{Commands.{command_of, command_word, options_of}, Program.{program}, Requests.{request_of, task_in}, Plain.{joined_word, long_word}}
 use Rattle.gs_words.specs.{declared.names.CommandName.{CommandName}, declared.names.CommandName.TheVariants.{Path}}
 use Rattle.gs_words.specs.declared.names.CommandName.TheVariants.{Shrink, Check, Solve, Play, Evaluate, Query, Make, Upgrade, Judge, Duel, Certify, Verify}
-use Rattle.gs_words.proofs.{AnyOrder.{has_good_default}, Obeyed.{AreKnown}, Options.{IsFlag, IsNamed, IsValued}}
+use Rattle.gs_words.proofs.{AnyOrder.{has_good_default}, Every.{first_none}, Obeyed.{AreKnown}, Options.{IsFlag, IsNamed, IsValued}}
 
 -- words after a command's name are kept for it
 stop_more : (R : List Rule) (names : Names) (h : Held) (name : Text) (ws rest : List Text)
@@ -49,13 +49,20 @@ is_met a word s ws at =
     past _ _ at.clean ∙ (ap (λ (w : Walk). walk_fault a.top (names_of a) w ws) at.step
     ∙ stopped_fault a.top (names_of a) (walk_from nothing_held) (word, []) ws)
 
+-- words that are taken are taken by the level
+pub taken_by : (a : App) (word : Text) (s : Shape) (ws : List Text) → LeadsTo a word s → built_fault a nothing_held (word ∷ ws) ≡ []
+    → level_fault s [] nothing_held ws false [] ≡ []
+taken_by a word s ws at h =
+    let f = rw (is_met a word s ws at, enters a word s ws at, at.found) at h in
+    first_none (level_fault s [] nothing_held ws false []) _ f
+
 -- words that the level takes are taken
 pub taken : (a : App) (word : Text) (s : Shape) (ws : List Text) → Opens a → LeadsTo a word s → level_fault s [] nothing_held ws false [] ≡ []
     → built_fault a nothing_held (word ∷ ws) ≡ []
 taken a word s ws opens at h = rw (is_met a word s ws at, enters a word s ws at, at.found, h, opens.defaults, opens.checks) refl
 
 pub rows : (a : App) (word : Text) (s : Shape) (ws : List Text) (end : Held) → LeadsTo a word s
-    → fold (walked s.rules []) (walk_from nothing_held) ws ≡ walk_from end
+    → (fold (walked s.rules []) (walk_from nothing_held) ws).held ≡ end
     → entered a (stop_after a.top.rules (names_of a) (word ∷ ws)) ≡ Some (word, finished s.rules end)
 rows a word s ws end at e = ap (λ (w : Walk). entered a w.stopped) (enters a word s ws at) ∙ rw (at.found, at.name, e) refl
 
@@ -110,8 +117,9 @@ named e = record { long = ap (λ p. p.0) e; dashes = ap (λ p. p.1) e; by_long =
 
 -- so an option with a value is known, and a flag
 valued : {R : List Rule} {n : Text} → option_read R n ≡ read_as R n true 1 Set → ((v : Text) → values_fault (rule_of R n) (v ∷ []) ≡ [])
+    → ((v : Text) → long_of (joined_word n v) ≡ Some (n, Some v)) → ((v : Text) → bytes_eq (joined_word n v) (45 ∷ 45 ∷ []) ≡ false)
     → (a : Rule) × IsValued R n a
-valued {R} {n} e passes = (
+valued {R} {n} e passes joined dashes = (
   rule_of R n,
   record {
     named = named e;
@@ -122,6 +130,8 @@ valued {R} {n} e passes = (
     set = ap (λ p. p.8) e;
     range = ap (λ p. p.9) e;
     passes = passes;
+    joined = joined;
+    joined_dashes = dashes;
   },
 )
 
@@ -160,19 +170,19 @@ command {c} e name defaults known =
 pub is_command : (c : CommandName) → IsCommand c
 unfolding clap_on_literals
 is_command Shrink = command refl refl refl (flag refl refl refl, tt)
-is_command Check = command refl refl refl (valued refl (λ v. refl), (flag refl refl refl, tt))
-is_command Solve = command refl refl refl (valued refl (λ v. refl), tt)
-is_command Play = command refl refl refl (valued refl (λ v. refl), (valued refl (λ v. refl), tt))
+is_command Check = command refl refl refl (valued refl (λ v. refl) (λ v. refl) (λ v. refl), (flag refl refl refl, tt))
+is_command Solve = command refl refl refl (valued refl (λ v. refl) (λ v. refl) (λ v. refl), tt)
+is_command Play = command refl refl refl (valued refl (λ v. refl) (λ v. refl) (λ v. refl), (valued refl (λ v. refl) (λ v. refl) (λ v. refl), tt))
 is_command Evaluate = command refl refl refl tt
-is_command Query = command refl refl refl (valued refl (λ v. refl), (valued refl (λ v. refl), (valued refl (λ v. refl), tt)))
+is_command Query = command refl refl refl (valued refl (λ v. refl) (λ v. refl) (λ v. refl), (valued refl (λ v. refl) (λ v. refl) (λ v. refl), (valued refl (λ v. refl) (λ v. refl) (λ v. refl), tt)))
 is_command Make = command refl refl refl
-    (valued refl (λ v. refl), (valued refl (λ v. refl), (valued refl (λ v. refl), (valued refl (λ v. refl), (flag refl refl refl, tt)))))
+    (valued refl (λ v. refl) (λ v. refl) (λ v. refl), (valued refl (λ v. refl) (λ v. refl) (λ v. refl), (valued refl (λ v. refl) (λ v. refl) (λ v. refl), (valued refl (λ v. refl) (λ v. refl) (λ v. refl), (flag refl refl refl, tt)))))
 is_command Upgrade = command refl refl refl tt
 is_command Judge = command refl refl refl tt
 is_command Duel = command refl refl refl tt
 is_command Certify = command refl refl refl tt
 is_command Verify = command refl refl refl tt
-is_command Path = command refl refl refl (valued refl (λ v. refl), tt)
+is_command Path = command refl refl refl (valued refl (λ v. refl) (λ v. refl) (λ v. refl), tt)
 
 pub asked : (words : List Text) (name : Text) (found : List Row) → fault_of program words ≡ [] → subcommand_of program words ≡ Some (name, found)
     → request_of words ≡ task_in (name, found)

@@ -9,3 +9,7 @@ pub mod Obeyed
 pub mod Levels
 pub mod Making
 pub mod Plain
+pub mod Lexed
+pub mod Every
+pub mod Heard
+pub mod Asked

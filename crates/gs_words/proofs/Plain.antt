@@ -1,30 +1,17 @@
--- Plain words are a request.
-use Rattle.std.proofs.Common.{◌≡◌, ◌&&◌, ◌||◌, not, ℕ, Bool, true, false, refl, List, [], ◌∷◌, Option, Some, None, is_some, IsTrue, IsSome, codes, ap, ◌∙◌, inl}
-use Rattle.std.proofs.{Common.{inr}, lemmas.Bool.{and_parts, cases_Bool, false≢true}}
-use Rattle.std.specs.{Prelude.{option_and_then, option_map}, List.{list_all, list_any}, Str.{bytes_eq}}
+-- Words that ask for a task are read as that task.
+use Rattle.std.proofs.Common.{◌≡◌, ◌++◌, ◌&&◌, ◌||◌, not, ℕ, Bool, true, false, refl, List, [], ◌∷◌, Option, Some, None, codes, ap, ◌∙◌, inl, inr}
+use Rattle.std.proofs.lemmas.Bool.{and_parts, cases_Bool}
+use Rattle.std.specs.{Prelude.{option_and_then}, List.{list_all, list_any}, Str.{bytes_eq}}
 use Rattle.clap.specs.{Words.{Row, Text, built, first_of}, Takes.{is_given}, Walk.{finished}, Faults.{check_fault}}
-use Rattle.gs_words.specs.{Commands.{OptionOf, command_word, options_of}, Plain.{Given, are_plain, given_for, name_of, option_words, stand_once}}
+use Rattle.gs_words.specs.{Commands.{OptionOf, command_word, options_of}, Plain.{AskFor, Given, are_plain, end_words, given_for, name_of, option_words, stand_once}}
 use Rattle.gs_words.specs.{Program.{program}, Requests.{grouping_in, is_set, make_with, play_with, query_with, request_of, task_for, task_in}, Tasks.{Task}}
-use Rattle.gs_words.specs.{Values.{grouping_of, kind_of, number_in}, declared.names.CommandName.{CommandName}}
+use Rattle.gs_words.specs.{Values.{kind_of, number_in}, declared.names.CommandName.{CommandName}}
 use Rattle.gs_words.specs.declared.names.CommandName.TheVariants.{Shrink, Check, Solve, Play, Evaluate, Query, Make, Upgrade, Judge, Duel, Certify, Verify}
 use Rattle.gs_words.specs.{declared.names.CommandName.TheVariants.{Path}, declared.request.Grouping.{Grouping}, declared.kind.Kind.{Kind}}
 use Rattle.gs_words.proofs.{AnyOrder.{AreGiven, all_rows, taken_in_any_order}, Rows.{is_there, same_flag, same_value}}
-use Rattle.gs_words.proofs.{Obeyed.{RuleIs, absent, all_given, are_given_as, passed}, Levels.{asked, is_command, opens, rows, shape_of, taken}}
+use Rattle.gs_words.proofs.{Obeyed.{absent, all_given, are_given_as}, Levels.{asked, is_command, opens, rows, shape_of, taken}}
 
 -- ---- what is given
-
--- plain words, as their three parts
-record ArePlain (c : CommandName) (gs : List Given) : Type 0 where
-  forms : are_given_as (options_of c) gs ≡ true
-  once : stand_once gs ≡ true
-  complete : list_all (λ o. not o.is_required || list_any (λ g. bytes_eq (name_of g) o.name) gs) (options_of c) ≡ true
-
-parts : (c : CommandName) (gs : List Given) → are_plain c gs ≡ true → ArePlain c gs
-parts c gs plain =
-    let complete = list_all (λ o. not o.is_required || list_any (λ g. bytes_eq (name_of g) o.name) gs) (options_of c) in
-    let p = and_parts (are_given_as (options_of c) gs) (stand_once gs && complete) plain in
-    let q = and_parts (stand_once gs) complete p.1 in
-    record { forms = p.0; once = q.0; complete = q.1 }
 
 -- what has to be given is given
 abbrev has_required : (Text → Bool) → List OptionOf → Bool
@@ -89,17 +76,89 @@ checked Certify found h = refl
 checked Verify found h = refl
 checked Path found h = refl
 
-checks : (c : CommandName) (gs : List Given) (given : AreGiven (shape_of c).rules gs) → ArePlain c gs
+-- ---- what makes a task is given
+
+there : (gs : List Given) (name : Text) → (given_for gs name ≡ None → ⊥) → is_there_of gs name ≡ true
+there gs name h =
+    elim (cases_Bool (is_there_of gs name)) [
+      | inl t ↦ t
+      | inr f ↦ absurd (h (absent gs name f))
+    ]
+
+no_turns : (grouping : Option Grouping) (task : Task) → play_with grouping None ≡ Some task → ⊥
+no_turns (Some g) task h = cc
+no_turns None task h = cc
+
+no_line : (player : Option ℕ) (signal : Option Text) (task : Task) → query_with player None signal ≡ Some task → ⊥
+no_line (Some p) s task h = cc
+no_line None s task h = cc
+
+no_signal : (player : Option ℕ) (line : Option Text) (task : Task) → query_with player line None ≡ Some task → ⊥
+no_signal (Some p) (Some l) task h = cc
+no_signal (Some p) None task h = cc
+no_signal None l task h = cc
+
+no_ranks : (kind : Option Kind) (suits cap : Option ℕ) (summary : Bool) (task : Task) → make_with kind None suits cap summary ≡ Some task → ⊥
+no_ranks (Some k) s c u task h = cc
+no_ranks None s c u task h = cc
+
+no_suits : (kind : Option Kind) (ranks cap : Option ℕ) (summary : Bool) (task : Task) → make_with kind ranks None cap summary ≡ Some task → ⊥
+no_suits (Some k) (Some r) c u task h = cc
+no_suits (Some k) None c u task h = cc
+no_suits None r c u task h = cc
+
+no_cap : (kind : Option Kind) (ranks suits : Option ℕ) (summary : Bool) (task : Task) → make_with kind ranks suits None summary ≡ Some task → ⊥
+no_cap (Some k) (Some r) (Some s) u task h = cc
+no_cap (Some k) (Some r) None u task h = cc
+no_cap (Some k) None s u task h = cc
+no_cap None r s u task h = cc
+
+-- what is required is given where what is given makes a task
+complete : (c : CommandName) (gs : List Given) (task : Task) → task_for c (given_for gs) ≡ Some task → has_required (is_there_of gs) (options_of c) ≡ true
+complete Play gs task h =
+    let t = there gs (codes "turns") (λ e. no_turns (grouping_in (given_for gs (codes "classes"))) task (rw e at h)) in
+    rw t refl
+complete Query gs task h =
+    let line = given_for gs (codes "line") in
+    let signal = given_for gs (codes "signal") in
+    let player = option_and_then (number_in 1 2) (given_for gs (codes "player")) in
+    let p = there gs (codes "player") (λ e. let bad : query_with None line signal ≡ Some task = rw e at h in cc) in
+    let l = there gs (codes "line") (λ e. no_line player signal task (rw e at h)) in
+    let s = there gs (codes "signal") (λ e. no_signal player line task (rw e at h)) in
+    rw (p, l, s) refl
+complete Make gs task h =
+    let kind = option_and_then kind_of (given_for gs (codes "kind")) in
+    let ranks = option_and_then (number_in 1 13) (given_for gs (codes "ranks")) in
+    let suits = option_and_then (number_in 1 4) (given_for gs (codes "suits")) in
+    let cap = option_and_then (number_in 0 8) (given_for gs (codes "cap")) in
+    let u = is_set (given_for gs (codes "summary")) in
+    let k = there gs (codes "kind") (λ e. let bad : make_with None ranks suits cap u ≡ Some task = rw e at h in cc) in
+    let r = there gs (codes "ranks") (λ e. no_ranks kind suits cap u task (rw e at h)) in
+    let s = there gs (codes "suits") (λ e. no_suits kind ranks cap u task (rw e at h)) in
+    let c = there gs (codes "cap") (λ e. no_cap kind ranks suits u task (rw e at h)) in
+    rw (k, r, s, c) refl
+complete Shrink gs task h = refl
+complete Check gs task h = refl
+complete Solve gs task h = refl
+complete Evaluate gs task h = refl
+complete Upgrade gs task h = refl
+complete Judge gs task h = refl
+complete Duel gs task h = refl
+complete Certify gs task h = refl
+complete Verify gs task h = refl
+complete Path gs task h = refl
+
+checks : (c : CommandName) (gs : List Given) (given : AreGiven (shape_of c).rules gs) (task : Task) → task_for c (given_for gs) ≡ Some task
     → check_fault (shape_of c) (all_rows (shape_of c).rules gs given) false ≡ []
-checks c gs given p =
+checks c gs given task h =
     let R = (shape_of c).rules in
     checked c (all_rows R gs given) (still_required (is_there_of gs) (λ name. is_given name (all_rows R gs given)) (options_of c)
-    (λ name. is_there R gs given name) p.complete)
+    (λ name. is_there R gs given name) (complete c gs task h))
 
 -- ---- what they ask for
 
 -- what a command that is entered asks for
-entered_for : (c : CommandName) (found : List Row) → task_in (command_word c, found) ≡ task_for c (λ option. first_of option found)
+pub entered_for : (c : CommandName) (found : List Row) → task_in (command_word c, found) ≡ task_for c (λ option. first_of option found)
 entered_for c found = ap (λ (o : Option CommandName). option_and_then (λ command. task_for command (λ option. first_of option found)) o) (is_command c).named
 
 shrink_meant : (found : List Row) (gs : List Given) → is_set (first_of (codes "summary") found) ≡ is_set (given_for gs (codes "summary"))
@@ -135,7 +194,7 @@ path_meant : (found : List Row) (gs : List Given) → first_of (codes "classes")
     → task_for Path (λ option. first_of option found) ≡ task_for Path (given_for gs)
 path_meant found gs c = rw c refl
 
-same_task : (c : CommandName) (gs : List Given) (given : AreGiven (shape_of c).rules gs)
+pub same_task : (c : CommandName) (gs : List Given) (given : AreGiven (shape_of c).rules gs)
     → task_for c (λ option. first_of option (all_rows (shape_of c).rules gs given)) ≡ task_for c (given_for gs)
 same_task Shrink gs given = shrink_meant (all_rows (shape_of Shrink).rules gs given) gs (same_flag (shape_of Shrink).rules gs given (codes "summary") refl)
 same_task Check gs given = check_meant (all_rows (shape_of Check).rules gs given) gs (same_value (shape_of Check).rules gs given (codes "classes") refl)
@@ -156,121 +215,19 @@ same_task Certify gs given = refl
 same_task Verify gs given = refl
 same_task Path gs given = path_meant (all_rows (shape_of Path).rules gs given) gs (same_value (shape_of Path).rules gs given (codes "classes") refl)
 
--- plain words ask for what their options say
-pub plain_meant : (c : CommandName) (gs : List Given) → IsTrue (are_plain c gs) → request_of (command_word c ∷ option_words gs) ≡ task_for c (given_for gs)
-plain_meant c gs plain =
-    let p = parts c gs plain in
+-- words that ask for a task are read as it
+pub plain_meant : (c : CommandName) (gs : List Given) (ended : Bool) (task : Task) → are_plain c gs ≡ true → task_for c (given_for gs) ≡ Some task
+    → request_of (command_word c ∷ (option_words gs ++ end_words ended)) ≡ Some task
+plain_meant c gs ended task plain is =
+    let p = and_parts (are_given_as (options_of c) gs) (stand_once gs) plain in
     let s = shape_of c in
-    let ws = option_words gs in
-    let given = all_given s.rules (options_of c) gs (is_command c).known p.forms in
-    let t = taken_in_any_order s gs given p.once (is_command c).defaults (checks c gs given p) in
-    asked (command_word c ∷ ws) (command_word c) (finished s.rules t.end) (taken (built program) (command_word c) s ws opens (is_command c).leads t.takes)
+    let ws = option_words gs ++ end_words ended in
+    let given = all_given s.rules (options_of c) gs (is_command c).known p.0 in
+    let t = taken_in_any_order s ended gs given p.1 (is_command c).defaults in
+    asked (command_word c ∷ ws) (command_word c) (finished s.rules t.end)
+    (taken (built program) (command_word c) s ws opens (is_command c).leads (t.takes (checks c gs given task is)))
     (rows (built program) (command_word c) s ws t.end (is_command c).leads t.walks)
-    ∙ (ap (λ l. task_in (command_word c, l)) t.found ∙ (entered_for c (all_rows s.rules gs given) ∙ same_task c gs given))
+    ∙ (ap (λ l. task_in (command_word c, l)) t.found ∙ (entered_for c (all_rows s.rules gs given) ∙ (same_task c gs given ∙ is)))
 
--- ---- they ask for something
-
-some_mapped : (f : Grouping → Task) (o : Option Grouping) → is_some o ≡ true → is_some (option_map f o) ≡ true
-some_mapped f None h = h
-some_mapped f (Some x) h = refl
-
-some_made : (kind : Option Kind) (ranks suits cap : Option ℕ) (summary : Bool) → is_some kind ≡ true → is_some ranks ≡ true → is_some suits ≡ true
-    → is_some cap ≡ true → is_some (make_with kind ranks suits cap summary) ≡ true
-some_made (Some k) (Some r) (Some s) (Some c) u hk hr hs hc = refl
-some_made (Some k) (Some r) (Some s) None u hk hr hs hc = hc
-some_made (Some k) (Some r) None c u hk hr hs hc = hs
-some_made (Some k) None s c u hk hr hs hc = hr
-some_made None r s c u hk hr hs hc = hk
-
-some_played : (grouping : Option Grouping) (turns : Option ℕ) → is_some grouping ≡ true → is_some turns ≡ true → is_some (play_with grouping turns) ≡ true
-some_played (Some g) (Some n) hg hn = refl
-some_played (Some g) None hg hn = hn
-some_played None n hg hn = hg
-
-some_query : (player : Option ℕ) (line signal : Option Text) → is_some player ≡ true → is_some line ≡ true → is_some signal ≡ true
-    → is_some (query_with player line signal) ≡ true
-some_query (Some p) (Some l) (Some s) hp hl hs = refl
-some_query (Some p) (Some l) None hp hl hs = hs
-some_query (Some p) None s hp hl hs = hl
-some_query None l s hp hl hs = hp
-
--- classes that are given in their form, or not at all, are a grouping
-some_grouping : (c : CommandName) (gs : List Given) → RuleIs (options_of c) (codes "classes") (λ word. is_some (grouping_of word)) → ArePlain c gs
-    → is_some (grouping_in (given_for gs (codes "classes"))) ≡ true
-some_grouping c gs rules p =
-    elim (cases_Bool (list_any (λ g. bytes_eq (name_of g) (codes "classes")) gs)) [
-      | inl t ↦
-          let v = passed (options_of c) (codes "classes") (λ word. is_some (grouping_of word)) gs rules p.forms t in
-          rw v.1 v.2
-      | inr f ↦ rw (absent gs (codes "classes") f) refl
-    ]
-
-some_make : (gs : List Given) → ArePlain Make gs → is_some (task_for Make (given_for gs)) ≡ true
-some_make gs p =
-    let all = has_all (is_there_of gs) p.complete in
-    let os = options_of Make in
-    let k = passed os (codes "kind") (λ word. is_some (kind_of word)) gs (
-      λ _. (refl, λ _ h. h),
-      (λ e. absurd (false≢true e), (λ e. absurd (false≢true e), (λ e. absurd (false≢true e), (λ e. absurd (false≢true e), tt)))),
-    ) p.forms all.kind in
-    let r = passed os (codes "ranks") (λ word. is_some (number_in 1 13 word)) gs (
-      λ e. absurd (false≢true e),
-      (λ _. (refl, λ _ h. h), (λ e. absurd (false≢true e), (λ e. absurd (false≢true e), (λ e. absurd (false≢true e), tt)))),
-    ) p.forms all.ranks in
-    let s = passed os (codes "suits") (λ word. is_some (number_in 1 4 word)) gs (
-      λ e. absurd (false≢true e),
-      (λ e. absurd (false≢true e), (λ _. (refl, λ _ h. h), (λ e. absurd (false≢true e), (λ e. absurd (false≢true e), tt)))),
-    ) p.forms all.suits in
-    let c = passed os (codes "cap") (λ word. is_some (number_in 0 8 word)) gs (
-      λ e. absurd (false≢true e),
-      (λ e. absurd (false≢true e), (λ e. absurd (false≢true e), (λ _. (refl, λ _ h. h), (λ e. absurd (false≢true e), tt)))),
-    ) p.forms all.cap in
-    rw (k.1, r.1, s.1, c.1) (some_made (kind_of k.0) (number_in 1 13 r.0) (number_in 1 4 s.0) (number_in 0 8 c.0)
-    (is_set (given_for gs (codes "summary"))) k.2 r.2 s.2 c.2)
-
-some_play : (gs : List Given) → ArePlain Play gs → is_some (task_for Play (given_for gs)) ≡ true
-some_play gs p =
-    let t = passed (options_of Play) (codes "turns") (λ word. is_some (number_in 0 1000000 word)) gs (
-      λ e. absurd (false≢true e),
-      (λ _. (refl, λ _ h. h), tt),
-    ) p.forms (has_turns (is_there_of gs) p.complete) in
-    rw t.1 (some_played (grouping_in (given_for gs (codes "classes"))) (number_in 0 1000000 t.0)
-    (some_grouping Play gs (λ _. (refl, λ _ h. h), (λ e. absurd (false≢true e), tt)) p) t.2)
-
-some_queried : (gs : List Given) → ArePlain Query gs → is_some (task_for Query (given_for gs)) ≡ true
-some_queried gs p =
-    let all = has_query (is_there_of gs) p.complete in
-    let os = options_of Query in
-    let n = passed os (codes "player") (λ word. is_some (number_in 1 2 word)) gs (
-      λ _. (refl, λ _ h. h),
-      (λ e. absurd (false≢true e), (λ e. absurd (false≢true e), tt)),
-    ) p.forms all.player in
-    let l = passed os (codes "line") (λ word. true) gs (
-      λ e. absurd (false≢true e),
-      (λ _. (refl, λ _ h. h), (λ e. absurd (false≢true e), tt)),
-    ) p.forms all.line in
-    let s = passed os (codes "signal") (λ word. true) gs (
-      λ e. absurd (false≢true e),
-      (λ e. absurd (false≢true e), (λ _. (refl, λ _ h. h), tt)),
-    ) p.forms all.signal in
-    rw (n.1, l.1, s.1) (some_query (number_in 1 2 n.0) (Some l.0) (Some s.0) n.2 refl refl)
-
-some_task : (c : CommandName) (gs : List Given) → ArePlain c gs → is_some (task_for c (given_for gs)) ≡ true
-some_task Shrink gs p = refl
-some_task Check gs p = some_mapped _ (grouping_in (given_for gs (codes "classes")))
-    (some_grouping Check gs (λ _. (refl, λ _ h. h), (λ e. absurd (false≢true e), tt)) p)
-some_task Solve gs p = some_mapped _ (grouping_in (given_for gs (codes "classes"))) (some_grouping Solve gs (λ _. (refl, λ _ h. h), tt) p)
-some_task Play gs p = some_play gs p
-some_task Evaluate gs p = refl
-some_task Query gs p = some_queried gs p
-some_task Make gs p = some_make gs p
-some_task Upgrade gs p = refl
-some_task Judge gs p = refl
-some_task Duel gs p = refl
-some_task Certify gs p = refl
-some_task Verify gs p = refl
-some_task Path gs p = some_mapped _ (grouping_in (given_for gs (codes "classes"))) (some_grouping Path gs (λ _. (refl, λ _ h. h), tt) p)
-
--- plain words are a request
-pub plain_read : (c : CommandName) (gs : List Given) → IsTrue (are_plain c gs) → IsSome (request_of (command_word c ∷ option_words gs))
-plain_read c gs plain = rw (plain_meant c gs plain) (some_task c gs (parts c gs plain))
+pub asked_is_read : (words : List Text) (task : Task) → AskFor words task → request_of words ≡ Some task
+asked_is_read words task a = ap request_of a.are ∙ plain_meant a.command a.options a.is_ended task a.plain a.task_is

@@ -4,7 +4,7 @@ use Rattle.std.proofs.{lemmas.Bool.{and_parts, cases_Bool}, lemmas.Bool.Decides.
 use Rattle.std.specs.{Prelude.{slice_get}, List.{list_all, list_any}, Str.{bytes_eq}}
 use Rattle.clap.specs.{Walk.{Row, Rule, Text, default_rows, first_of, has_row, is_empty, more_values, reading_by, with_default}, Takes.{is_given}}
 use Rattle.clap.specs.declared.parser.matches.ValueSource.TheVariants.{DefaultValue}
-use Rattle.gs_words.specs.{Plain.{Given, valued, flagged, given_for, name_of}, Requests.{is_set}}
+use Rattle.gs_words.specs.{Plain.{Given, valued, joined, flagged, given_for, name_of}, Requests.{is_set}}
 use Rattle.gs_words.proofs.{Options.{absent_row}, AnyOrder.{AreGiven, all_rows, not_true, rows_for}}
 
 -- ---- the options alone
@@ -12,6 +12,11 @@ use Rattle.gs_words.proofs.{Options.{absent_row}, AnyOrder.{AreGiven, all_rows, 
 first_of-rows_for : (R : List Rule) (gs : List Given) (given : AreGiven R gs) (id : Text) → first_of id (rows_for R gs given) ≡ given_for gs id
 first_of-rows_for R [] given id = refl
 first_of-rows_for R (valued n v ∷ gs) given id =
+    elim (cases_Bool (bytes_eq n id)) [
+      | inl t ↦ rw (given.0.1.named.id, t) refl
+      | inr f ↦ rw (given.0.1.named.id, f) (first_of-rows_for R gs given.1 id)
+    ]
+first_of-rows_for R (joined n v ∷ gs) given id =
     elim (cases_Bool (bytes_eq n id)) [
       | inl t ↦ rw (given.0.1.named.id, t) refl
       | inr f ↦ rw (given.0.1.named.id, f) (first_of-rows_for R gs given.1 id)
@@ -26,6 +31,11 @@ is_given-rows_for : (R : List Rule) (gs : List Given) (given : AreGiven R gs) (i
     → is_given id (rows_for R gs given) ≡ true
 is_given-rows_for R [] given id h = cc
 is_given-rows_for R (valued n v ∷ gs) given id h =
+    elim (cases_Bool (bytes_eq n id)) [
+      | inl t ↦ rw (given.0.1.named.id, t) refl
+      | inr f ↦ rw (given.0.1.named.id, f) (is_given-rows_for R gs given.1 id (rw f at h))
+    ]
+is_given-rows_for R (joined n v ∷ gs) given id h =
     elim (cases_Bool (bytes_eq n id)) [
       | inl t ↦ rw (given.0.1.named.id, t) refl
       | inr f ↦ rw (given.0.1.named.id, f) (is_given-rows_for R gs given.1 id (rw f at h))

@@ -1,29 +1,25 @@
 -- The commands of the program and the options of each.
-use Rattle.std.specs.{Prelude.{ℕ, Bool, true, false, List, [], ◌∷◌, find, Option, Some, None, is_some, codes}, Str.{bytes_eq}}
-use Rattle.gs_words.specs.{Values.{grouping_of, kind_of, number_in}, declared.names.CommandName.{CommandName}, declared.names.CommandName.TheVariants.{Path}}
+use Rattle.std.specs.{Prelude.{ℕ, Bool, true, false, List, [], ◌∷◌, find, Option, codes}, Str.{bytes_eq}}
+use Rattle.gs_words.specs.{declared.names.CommandName.{CommandName}, declared.names.CommandName.TheVariants.{Path}}
 use Rattle.gs_words.specs.declared.names.CommandName.TheVariants.{Shrink, Check, Solve, Play, Evaluate, Query, Make, Upgrade, Judge, Duel, Certify, Verify}
 
--- an option of a command: a flag, or an option whose value obeys a rule
+-- an option of a command: a flag, or an option with a value
 pub record OptionOf : Type 0 where
   pub name : List ℕ
   pub is_required : Bool
-  pub rule : Option (List ℕ → Bool)
+  pub takes_value : Bool
 
 -- the flag `--summary`
 abbrev pub summary : OptionOf
-summary = record { name = codes "summary"; is_required = false; rule = None }
+summary = record { name = codes "summary"; is_required = false; takes_value = false }
 
--- `--classes` with the name of a grouping
+-- `--classes` with a value
 abbrev pub classes : OptionOf
-classes = record { name = codes "classes"; is_required = false; rule = Some (λ word. is_some (grouping_of word)) }
+classes = record { name = codes "classes"; is_required = false; takes_value = true }
 
--- a required option with a value that obeys a rule
-abbrev pub required_option : List ℕ → (List ℕ → Bool) → OptionOf
-required_option name obeys = record { name = name; is_required = true; rule = Some obeys }
-
--- a required option with a number from `least` to `most`
-abbrev pub numbered : List ℕ → ℕ → ℕ → OptionOf
-numbered name least most = required_option name (λ word. is_some (number_in least most word))
+-- a required option with a value
+abbrev pub required_option : List ℕ → OptionOf
+required_option name = record { name = name; is_required = true; takes_value = true }
 
 -- a command of the program: the word that names it, and its options
 pub record CommandEntry : Type 0 where
@@ -35,18 +31,16 @@ abbrev pub entry_of : CommandName → CommandEntry
 entry_of Shrink = record { word = codes "shrink"; options = summary ∷ [] }
 entry_of Check = record { word = codes "check"; options = classes ∷ summary ∷ [] }
 entry_of Solve = record { word = codes "solve"; options = classes ∷ [] }
-entry_of Play = record { word = codes "play"; options = classes ∷ numbered (codes "turns") 0 1000000 ∷ [] }
+entry_of Play = record { word = codes "play"; options = classes ∷ required_option (codes "turns") ∷ [] }
 entry_of Evaluate = record { word = codes "evaluate"; options = [] }
 entry_of Query = record {
   word = codes "query";
-  options = numbered (codes "player") 1 2 ∷ required_option (codes "line") (λ word. true) ∷ required_option (codes "signal") (λ word. true) ∷ [];
+  options = required_option (codes "player") ∷ required_option (codes "line") ∷ required_option (codes "signal") ∷ [];
 }
 entry_of Make = record {
   word = codes "make";
   options =
-      required_option (codes "kind") (λ word. is_some (kind_of word)) ∷ numbered (codes "ranks") 1 13 ∷ numbered (codes "suits") 1 4
-      ∷ numbered (codes "cap") 0 8
-      ∷ summary ∷ [];
+      required_option (codes "kind") ∷ required_option (codes "ranks") ∷ required_option (codes "suits") ∷ required_option (codes "cap") ∷ summary ∷ [];
 }
 entry_of Upgrade = record { word = codes "upgrade"; options = [] }
 entry_of Judge = record { word = codes "judge"; options = [] }

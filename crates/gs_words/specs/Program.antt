@@ -11,19 +11,19 @@ abbrev pub Is : App → Command → Type 0
 Is app c = (app_of c ≡ app) × ((out-Command c).has_globals ≡ false)
 
 -- the action of an option: a flag is set; an option with a value has the default action
-abbrev pub action_by : Option (List ℕ → Bool) → Option ArgAction
-action_by None = Some SetTrue
-action_by (Some rule) = None
+abbrev pub action_by : Bool → Option ArgAction
+action_by false = Some SetTrue
+action_by true = None
 
 -- `--name`, with one value or as a flag
 abbrev pub rule_for : OptionOf → Rule
-rule_for o = record (new_rule o.name) { long = Some o.name; required = o.is_required; action = action_by o.rule }
+rule_for o = record (new_rule o.name) { long = Some o.name; required = o.is_required; action = action_by o.takes_value }
 
 -- what `clap` makes of an option of the table in code
 abbrev pub rule_by : Choice → Rule
 rule_by Summary = rule_for summary
 rule_by Classes = rule_for classes
-rule_by (Value name) = rule_for (required_option name.now (λ word. true))
+rule_by (Value name) = rule_for (required_option name.now)
 
 -- a command with options
 abbrev pub with_options : List ℕ → List OptionOf → App

@@ -1,18 +1,16 @@
-//! A law of plain words.
+//! The law of words that ask for a task.
 
-ghost use Rattle.std.specs.Prelude.{◌≡◌, [], ◌∷◌, List, Some, true, codes, IsTrue, IsSome};
-ghost use Rattle.gs_words.specs.{Commands.{command_word}, Plain.{Given, are_plain, given_for, option_words}, Requests.{request_of, task_for}};
-ghost use Rattle.gs_words.specs.{Tasks.{Check}, declared.names.CommandName.{CommandName}, declared.request.Grouping.TheVariants.{Single}};
+ghost use Rattle.std.specs.{Prelude.{◌≡◌, ℕ, [], ◌∷◌, List, Some, true, false, codes}, List.{All}, Str.{IsUtf8}};
+ghost use Rattle.gs_words.specs.{Plain.{AskFor}, Requests.{request_of}};
+ghost use Rattle.gs_words.specs.{Tasks.{Task, Check}, declared.request.Grouping.TheVariants.{Single}};
 
-/// Plain words are never refused, and ask for what their options say.
+/// Words are a request exactly if they are a command and options of it, as `AskFor` says.
 ///
-/// Plain words are a command and then options of it in any order. No option stands twice, and each
-/// required one is there. An option is a flag, or `--name` and a value. The value is not empty,
-/// does not begin with `-` and obeys the option's rule.
+/// The options stand in any order, each at most once: a flag, `--name value` or `--name=value`. A
+/// last word `--` may follow.
 pub fn plain_words_are_read()
-    ensures read { (command : CommandName) (options : List Given) → IsTrue (are_plain command options)
-        → IsSome (request_of (command_word command ∷ option_words options)) }
-    ensures meant { (command : CommandName) (options : List Given) → IsTrue (are_plain command options)
-        → request_of (command_word command ∷ option_words options) ≡ task_for command (given_for options) }
+    ensures read { (words : List (List ℕ)) (task : Task) → AskFor words task → request_of words ≡ Some task }
+    ensures every { (words : List (List ℕ)) (task : Task) → All IsUtf8 words → request_of words ≡ Some task → AskFor words task }
     ensures example { request_of (codes "check" ∷ codes "--summary" ∷ codes "--classes" ∷ codes "raw" ∷ []) ≡ Some (Check Single true) }
+    ensures joined_example { request_of (codes "check" ∷ codes "--classes=raw" ∷ codes "--" ∷ []) ≡ Some (Check Single false) }
 {}
