@@ -1,0 +1,5 @@
+mod Bytes
+mod TreeLength
+mod Parts
+mod Length
+mod Printed
