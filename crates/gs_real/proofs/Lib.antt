@@ -1,0 +1,7 @@
+mod Group
+mod Sums
+mod Bound
+mod Behaviour
+mod Moves
+mod Gaps
+mod Told

@@ -1,0 +1,16 @@
+//! Laws that nothing stands on: no strategy gains more than a gap, whatever kind of numbers its probabilities are; and behaviour strategies are plans.
+//!
+//! The crate runs nothing: a function here is a law, and its contract is the statement.
+#![tactic(auto)]
+
+ghost use Rattle.gs_real.specs.{Behaviour.{BehaviourIsAPlan}, Laws.{NoPlanGainsMore}, Numbers.{OrderedGroup}};
+
+/// No plan of either player gains more than the gap of two plans' verdict, whatever ordered group its numbers are of: the real numbers are one.
+pub fn no_plan_gains_more<A, P>()
+    ensures { (g : OrderedGroup A P) → NoPlanGainsMore g }
+{}
+
+/// A behaviour strategy whose probabilities are fractions is a raw plan.
+pub fn behaviour_is_a_plan()
+    ensures { BehaviourIsAPlan }
+{}
