@@ -5,3 +5,4 @@ mod Behaviour
 mod Moves
 mod Gaps
 mod Told
+mod Wholes
