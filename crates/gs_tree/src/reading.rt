@@ -27,8 +27,6 @@ fn after_card<'t>(text: &'t [u8], deck: &Deck, card: Card) -> Option<&'t [u8]>
     requires { card < kinds deck.now }
     ensures { IsRest text.now (card_text deck.now card) result }
 {
-    // called only for what its contract says
-    let _deck = deck.kinds();
     let [rank, suit] = deck.card_text(card);
     let rest = after_byte(text, rank)?;
     after_byte(rest, suit)

@@ -13,8 +13,6 @@ pub(crate) fn push_card(text: &mut String, deck: &Deck, card: Card) -> Result<()
     requires { card < kinds deck.now }
     ensures { OnOk result (string_bytes text.new ≡ string_bytes text.old ++ card_text deck.now card) }
 {
-    // called only for what its contract says
-    let _deck = deck.kinds();
     let [rank, suit] = deck.card_text(card);
     text.push(char::from(rank))?;
     text.push(char::from(suit))

@@ -10,7 +10,7 @@ returns-in_err-rest c =
     let P : List ℕ → Type 0 = λ l. IsRest text (get_or l 0 0 ∷ get_or l 1 0 ∷ []) None in
     let none = rest_none text (get_or c.card_text.result 0 0 ∷ []) (get_or c.card_text.result 1 0 ∷ []) c.in_err-rest.ensures in
     let Q : Option (Bor (List ℕ)) → Type 0 = λ o. IsRest text (card_text c.args.deck.now c.args.card) o in
-    subst Q (sym c.from_residual.ensures) (subst P c.card_text.ensures none)
+    subst Q (sym c.from_residual.ensures) (subst P c.card_text.ensures.letters none)
 
 pub returns : goal.returns
 returns c =
@@ -18,4 +18,4 @@ returns c =
     let P : List ℕ → Type 0 = λ l. IsRest text (get_or l 0 0 ∷ get_or l 1 0 ∷ []) c.after_byte-2.result in
     let both = rest_both text (get_or c.card_text.result 0 0 ∷ []) (get_or c.card_text.result 1 0 ∷ []) c.in_ok-rest.rest.now c.after_byte-2.result
     c.in_ok-rest.ensures c.after_byte-2.ensures in
-    subst P c.card_text.ensures both
+    subst P c.card_text.ensures.letters both
