@@ -1,8 +1,9 @@
 -- What `solve`, `play` and `upgrade` print is the text of a confirmed strategy: it fits into an input, and `evaluate` takes it.
 use Rattle.std.proofs.Common.{◌≡◌, ℕ, ◌≤◌, List, ap, arith, inl, inr, length}
-use Rattle.gs_file.specs.{JsonLaws.{IsTold}, Reading.{FileGame}, declared.version.Version.{Version}, declared.version.Version.TheVariants.{Two}}
+use Rattle.gs_file.specs.declared.version.Version.TheVariants.{Two}
 use Rattle.gs_length.proofs.Length.{text_fits}
 use Rattle.gs_length.specs.Length.{EvaluatesWell, OfPrinted}
+use Rattle.gs_run.proofs.Concluded.{told_in_two}
 use Rattle.gs_run.specs.{Endings.{EndsWell}, Meanings.{IsStrategyFile, Means, OfGameFile}, Running.{most_bytes}, declared.status.Status.{Status}}
 use Rattle.gs_run.specs.declared.status.Status.TheVariants as status
 use Rattle.gs_strategy.specs.{Confirmed.{IsConfirmed}, Laws.{IsStrategy}, Texts.{strategy_text}, Values.{Strategy}}
@@ -21,35 +22,9 @@ file_text grouping says bytes text h =
     let f = h.said in
     record { strategy = f.strategy; is = f.is; confirmed = f.confirmed; text_is = f.text_is }
 
--- a game that some version tells is told by version 2
-told_in_two : (version : Version) (g : FileGame) → IsTold version g → IsTold Two g
-told_in_two version g t = record {
-  deck = t.deck;
-  bonus = t.bonus;
-  tells = tt;
-  some_ante = t.some_ante;
-  ante = t.ante;
-  rounds = t.rounds;
-  lawful = t.lawful;
-}
-
-in_two : (version : Version) (s : Strategy) → IsStrategy version s → IsStrategy Two s
-in_two version s i = record {
-  written = record {
-    game = told_in_two version s.game i.written.game;
-    classes = i.written.classes;
-    one = i.written.one;
-    two = i.written.two;
-    numbers = i.written.numbers;
-  };
-  classes = i.classes;
-  first = i.first;
-  second = i.second;
-}
-
 upgraded_text : (bytes text : List ℕ) → Means Upgrade bytes text → IsConfirmedText text
 upgraded_text bytes text h =
-    record { strategy = h.strategy; is = in_two h.version h.strategy h.is; confirmed = h.said.0; text_is = h.said.1 }
+    record { strategy = h.strategy; is = told_in_two h.version h.strategy h.is; confirmed = h.said.0; text_is = h.said.1 }
 
 of_printed : (says : List ℕ → Type 0) → ((text : List ℕ) → IsConfirmedText text → says text) → OfPrinted says
 of_printed says all = record {

@@ -113,7 +113,7 @@ of_lines version t c reply is is_stated h =
     of_certificate t c reply is_stated (of_text Only (SaysVerified rest) version t reply is here)
 
 -- version 2 tells each strategy that a version tells
-told_in_two : (version : Version) (t : Strategy) → IsStrategy version t → IsStrategy Two t
+pub told_in_two : (version : Version) (t : Strategy) → IsStrategy version t → IsStrategy Two t
 told_in_two version t is = record {
   written = record {
     game = record {

@@ -1,7 +1,7 @@
 mod Ends
 mod Answered
 mod Meant
-mod Concluded
+pub mod Concluded
 mod Decided
 mod Theorem
 mod InMemory
