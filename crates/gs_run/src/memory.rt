@@ -37,7 +37,6 @@ fn refusal(alloc: Global, status: Status, line: &str) -> Result<Outcome, AllocEr
 
 // Returns the outcome of a refusal: its status, nothing for stdout and its line for stderr.
 fn refused(alloc: Global, refusal: &Refusal) -> Result<Outcome, AllocError>
-    requires { (why : Why) × IsRefusal refusal.now why }
     ensures { IfOk result (λ o. (why : Why) → IsRefusal refusal.now why → GivesReply (Refuses why) o.status o.printed.items o.told.items) }
 {
     let told = refusal_line(alloc, refusal)?;

@@ -69,7 +69,6 @@ fn input<S: Source>(alloc: Global, source: &mut S, request: Request) -> Result<V
 
 // Writes the line of a refusal to `err`, and returns the status for it; or the status for out of memory.
 fn tell_refusal<E: Sink>(alloc: Global, refusal: &Refusal, err: &mut E) -> Status
-    requires { (why : Why) × IsRefusal refusal.now why }
     ensures { (why : Why) → IsRefusal refusal.now why
         → ((result ≡ status_of why) × TellsTo (E.given err.old) (E.faults err.old) (E.given err.new) (E.faults err.new) (line_of why))
         ⊎ ((result ≡ status.Memory) × TellsTo (E.given err.old) (E.faults err.old) (E.given err.new) (E.faults err.new) memory_line) }

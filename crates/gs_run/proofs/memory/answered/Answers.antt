@@ -9,8 +9,3 @@ pub returns-in-Err-Refused : goal.returns-in-Err-Refused
 returns-in-Err-Refused c =
     let said = rw c.in-Err-Refused.field-0-is at c.in-Err-Refused.ensures in
     IfOk-weaker c.refused.result _ _ (λ o given. (Refuses said.0, said.1, given said.0 said.2)) c.refused.ensures
-
-pub refused-requires : goal.refused-requires
-refused-requires c =
-    let said = rw c.in-Err-Refused.field-0-is at c.in-Err-Refused.ensures in
-    (said.0, said.2)

@@ -37,8 +37,3 @@ returns g c =
     let new : Ends = sinks (g.O.Sink.given c.args.out.now) (g.O.Sink.faults c.args.out.now) (g.E.Sink.given c.out_of_memory.new.err)
     (g.E.Sink.faults c.out_of_memory.new.err) in
     no_memory says old new c.out_of_memory.result c.out_of_memory.ensures.status (refl, refl) c.out_of_memory.ensures.told
-
-pub tell_refusal-requires : goal.tell_refusal-requires
-tell_refusal-requires g c =
-    let said = rw c.in-Err-Refused.field-0-is at c.in-Err-Refused.ensures in
-    (said.0, said.2)
