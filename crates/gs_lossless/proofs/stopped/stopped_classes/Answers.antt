@@ -15,7 +15,7 @@ pub returns-in-Err-Fault-clause-whenever : goal.returns-in-Err-Fault-clause-when
 returns-in-Err-Fault-clause-whenever c = λ classes.
     let parents = (frame_of (rules_of c.args.stopped.now)).parents in
     let lists = stopped_lists c.args.classes.now.lists c.args.round in
-    let why = c.in-Err-Fault.field-0 in
+    let why = c.in-Err-Fault.field-0-0 in
     let fault = subst (λ (ls : ClassLists). IsFaultOf (rows c.parents.result.now) ls why) c.in_ok-lists.ensures
     (rw c.in-Err-Fault.field-0-is at c.in-Err-Fault.ensures.refused) in
     classes_kept parents lists why classes (subst (λ (ps : List (List ℕ)). IsFaultOf ps lists why) c.parents.ensures fault)
