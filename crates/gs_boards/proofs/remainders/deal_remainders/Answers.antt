@@ -48,19 +48,18 @@ loop-signal-preserved c =
           (none_more_done g firsts nexts c.boards.ensures numbers n old other c.loop-signal.invariant)
     ]
 
-pub returns-clause-each : goal.returns-clause-each
-returns-clause-each c =
-    all_done (rules_of c.args.signals.now) c.boards.result.0.now c.boards.result.1.now c.boards.ensures c.args.numbers.now c.loop-signal.signal
-    c.loop-signal.sums.items (omega (arith, c.loop-signal-test.false, c.boards.ensures.firsts_long)) c.loop-signal.invariant
-
 pub board_remainders-requires-clause-plain : goal.board_remainders-requires-clause-plain
 board_remainders-requires-clause-plain c = c.requires.plain
 
 pub board_remainders-requires-clause-sums : goal.board_remainders-requires-clause-sums
 board_remainders-requires-clause-sums c = ap (λ (sums : List ℕ). length sums) c.deref_mut.ensures.value ∙ c.loop-signal.invariant.long
 
-pub returns-clause-long : goal.returns-clause-long
-returns-clause-long c = c.loop-signal.invariant.long
+pub returns : goal.returns
+returns c = record {
+  long = c.loop-signal.invariant.long;
+  each = all_done (rules_of c.args.signals.now) c.boards.result.0.now c.boards.result.1.now c.boards.ensures c.args.numbers.now c.loop-signal.signal
+      c.loop-signal.sums.items (omega (arith, c.loop-signal-test.false, c.boards.ensures.firsts_long)) c.loop-signal.invariant;
+}
 
 pub returns-in_err-sums : goal.returns-in_err-sums
 returns-in_err-sums c = let failed = c.from_residual.ensures.0 in record {

@@ -11,17 +11,15 @@ overflow_mul-result c =
     let h : SFits w32 c.in-Fixed.stake = search rules in
     stake_fits c.in-Fixed.stake c.from.result c.args.behind.on_board h c.requires.few c.from.ensures
 
-pub returns-in-Fixed-clause-value : goal.returns-in-Fixed-clause-value
-returns-in-Fixed-clause-value c =
-    let h : SFits w32 c.in-Fixed.stake = search rules in
-    stake_is c.in-Fixed.stake c.from.result c.args.behind.on_board h c.requires.few c.from.ensures
-    ∙ sym (ap (λ x. lost_by x c.args.behind) c.in-Fixed.is)
-
-pub returns-in-Fixed-clause-small : goal.returns-in-Fixed-clause-small
-returns-in-Fixed-clause-small c =
-    let h : SFits w32 c.in-Fixed.stake = search rules in let s = c.in-Fixed.stake in let n = c.args.behind.on_board in
-    let P : ℤ → Type 0 = λ t. unsigned_abs t < 2 ^ 122 in
-    subst P (sym (stake_is s c.from.result n h c.requires.few c.from.ensures)) (omega (arith, stake_small s n (2 ^ 90) h (omega (arith, c.requires.few))))
+pub returns-in-Fixed : goal.returns-in-Fixed
+returns-in-Fixed c = record {
+  value = let h : SFits w32 c.in-Fixed.stake = search rules in
+      stake_is c.in-Fixed.stake c.from.result c.args.behind.on_board h c.requires.few c.from.ensures
+      ∙ sym (ap (λ x. lost_by x c.args.behind) c.in-Fixed.is);
+  small = let h : SFits w32 c.in-Fixed.stake = search rules in let s = c.in-Fixed.stake in let n = c.args.behind.on_board in
+      let P : ℤ → Type 0 = λ t. unsigned_abs t < 2 ^ 122 in
+      subst P (sym (stake_is s c.from.result n h c.requires.few c.from.ensures)) (omega (arith, stake_small s n (2 ^ 90) h (omega (arith, c.requires.few))));
+}
 
 lost : (c : After-from-in-Showdown) → c.from-in-Showdown.result * c.args.behind.off_level ≤ 2 ^ 106
 lost c =
@@ -37,16 +35,14 @@ overflow_cast-result-in-Showdown c = let w = goal.at.overflow_cast-result-in-Sho
 pub overflow_sub-result : goal.overflow_sub-result
 overflow_sub-result c = let w = goal.at.overflow_sub-result c in loss_fits _ (lost w.After-from-in-Showdown)
 
-pub returns-in-Showdown-clause-value : goal.returns-in-Showdown-clause-value
-returns-in-Showdown-clause-value c =
-    let w = goal.at.returns-in-Showdown-clause-value c in
-    let a = c.from-in-Showdown in let k = c.args.behind.off_level in
-    loss_is (a.result * k) (lost w.After-from-in-Showdown) ∙ ap (λ x. neg_ℤ (pos (x * k))) a.ensures
-    ∙ sym (ap (λ x. lost_by x c.args.behind) c.in-Showdown.is)
-
-pub returns-in-Showdown-clause-small : goal.returns-in-Showdown-clause-small
-returns-in-Showdown-clause-small c =
-    let w = goal.at.returns-in-Showdown-clause-small c in
-    let n = c.from-in-Showdown.result * c.args.behind.off_level in
-    let P : ℤ → Type 0 = λ t. unsigned_abs t < 2 ^ 122 in
-    subst P (sym (loss_is n (lost w.After-from-in-Showdown))) (omega (arith, lost w.After-from-in-Showdown, loss_size n))
+pub returns-in-Showdown : goal.returns-in-Showdown
+returns-in-Showdown c = record {
+  value = let w = goal.at.returns-in-Showdown c in
+      let a = c.from-in-Showdown in let k = c.args.behind.off_level in
+      loss_is (a.result * k) (lost w.After-from-in-Showdown) ∙ ap (λ x. neg_ℤ (pos (x * k))) a.ensures
+      ∙ sym (ap (λ x. lost_by x c.args.behind) c.in-Showdown.is);
+  small = let w = goal.at.returns-in-Showdown c in
+      let n = c.from-in-Showdown.result * c.args.behind.off_level in
+      let P : ℤ → Type 0 = λ t. unsigned_abs t < 2 ^ 122 in
+      subst P (sym (loss_is n (lost w.After-from-in-Showdown))) (omega (arith, lost w.After-from-in-Showdown, loss_size n));
+}

@@ -10,18 +10,16 @@ overflow_mul-result c =
     let h : SFits w32 c.in-Fixed.stake = search rules in
     stake_fits c.in-Fixed.stake c.from.result c.args.before.on_board h (omega (arith, c.requires.few)) c.from.ensures
 
-pub returns-in-Fixed-clause-value : goal.returns-in-Fixed-clause-value
-returns-in-Fixed-clause-value c =
-    let h : SFits w32 c.in-Fixed.stake = search rules in
-    stake_is c.in-Fixed.stake c.from.result c.args.before.on_board h (omega (arith, c.requires.few)) c.from.ensures
-    ∙ sym (ap (λ x. won_by x c.args.place c.args.before) c.in-Fixed.is)
-
-pub returns-in-Fixed-clause-small : goal.returns-in-Fixed-clause-small
-returns-in-Fixed-clause-small c =
-    let h : SFits w32 c.in-Fixed.stake = search rules in let s = c.in-Fixed.stake in let n = c.args.before.on_board in
-    let P : ℤ → Type 0 = λ t. unsigned_abs t < 2 ^ 120 in
-    subst P (sym (stake_is s c.from.result n h (omega (arith, c.requires.few)) c.from.ensures))
-    (omega (arith, stake_small s n (2 ^ 82) h (omega (arith, c.requires.few))))
+pub returns-in-Fixed : goal.returns-in-Fixed
+returns-in-Fixed c = record {
+  value = let h : SFits w32 c.in-Fixed.stake = search rules in
+      stake_is c.in-Fixed.stake c.from.result c.args.before.on_board h (omega (arith, c.requires.few)) c.from.ensures
+      ∙ sym (ap (λ x. won_by x c.args.place c.args.before) c.in-Fixed.is);
+  small = let h : SFits w32 c.in-Fixed.stake = search rules in let s = c.in-Fixed.stake in let n = c.args.before.on_board in
+      let P : ℤ → Type 0 = λ t. unsigned_abs t < 2 ^ 120 in
+      subst P (sym (stake_is s c.from.result n h (omega (arith, c.requires.few)) c.from.ensures))
+      (omega (arith, stake_small s n (2 ^ 82) h (omega (arith, c.requires.few))));
+}
 
 won : (c : After-from-in-Showdown-2) → c.from-in-Showdown.result * c.from-in-Showdown-2.result * c.args.before.off_level ≤ 2 ^ 106
 won c =
@@ -35,17 +33,15 @@ overflow_mul-result-in-Showdown-2 c = let w = goal.at.overflow_mul-result-in-Sho
 pub overflow_cast-result-in-Showdown : goal.overflow_cast-result-in-Showdown
 overflow_cast-result-in-Showdown c = let w = goal.at.overflow_cast-result-in-Showdown c in counts_fit _ (won w.After-from-in-Showdown-2)
 
-pub returns-in-Showdown-clause-value : goal.returns-in-Showdown-clause-value
-returns-in-Showdown-clause-value c =
-    let w = goal.at.returns-in-Showdown-clause-value c in
-    let a = c.from-in-Showdown in let b = c.from-in-Showdown-2 in let k = c.args.before.off_level in
-    counts (a.result * b.result * k) (won w.After-from-in-Showdown-2)
-    ∙ ap (λ x. pos (x * b.result * k)) a.ensures ∙ ap (λ x. pos (c.in-Showdown.chips * x * k)) b.ensures
-    ∙ sym (ap (λ x. won_by x c.args.place c.args.before) c.in-Showdown.is)
-
-pub returns-in-Showdown-clause-small : goal.returns-in-Showdown-clause-small
-returns-in-Showdown-clause-small c =
-    let w = goal.at.returns-in-Showdown-clause-small c in
-    let n = c.from-in-Showdown.result * c.from-in-Showdown-2.result * c.args.before.off_level in
-    let P : ℤ → Type 0 = λ t. unsigned_abs t < 2 ^ 120 in
-    subst P (sym (counts n (won w.After-from-in-Showdown-2))) (omega (arith, won w.After-from-in-Showdown-2))
+pub returns-in-Showdown : goal.returns-in-Showdown
+returns-in-Showdown c = record {
+  value = let w = goal.at.returns-in-Showdown c in
+      let a = c.from-in-Showdown in let b = c.from-in-Showdown-2 in let k = c.args.before.off_level in
+      counts (a.result * b.result * k) (won w.After-from-in-Showdown-2)
+      ∙ ap (λ x. pos (x * b.result * k)) a.ensures ∙ ap (λ x. pos (c.in-Showdown.chips * x * k)) b.ensures
+      ∙ sym (ap (λ x. won_by x c.args.place c.args.before) c.in-Showdown.is);
+  small = let w = goal.at.returns-in-Showdown c in
+      let n = c.from-in-Showdown.result * c.from-in-Showdown-2.result * c.args.before.off_level in
+      let P : ℤ → Type 0 = λ t. unsigned_abs t < 2 ^ 120 in
+      subst P (sym (counts n (won w.After-from-in-Showdown-2))) (omega (arith, won w.After-from-in-Showdown-2));
+}

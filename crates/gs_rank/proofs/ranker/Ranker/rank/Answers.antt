@@ -10,16 +10,14 @@ index-requires c =
     let long = kept_long (rank_of (length r.deck.now.suits)) (kinds r.deck.now) r.ranks.items r.ranked in
     omega (arith, long, r.ranks.ok.0, c.from.ensures, c.number.ensures, c.requires)
 
-pub returns-clause-rank : goal.returns-clause-rank
-returns-clause-rank c =
-    let r = c.args.self.now in
-    let v = c.index.result.now in
-    let at : c.from.result ≡ c.args.card = c.from.ensures ∙ c.number.ensures in
-    c.index.ensures ∙ ap (λ (k : ℕ). get_or r.ranks.items k v) at
-    ∙ kept (rank_of (length r.deck.now.suits)) (kinds r.deck.now) r.ranks.items c.args.card v r.ranked c.requires
-
-pub returns-clause-low : goal.returns-clause-low
-returns-clause-low c =
-    let r = c.args.self.now in
-    let long = kept_long (rank_of (length r.deck.now.suits)) (kinds r.deck.now) r.ranks.items r.ranked in
-    subst (λ (x : ℕ). x < 64) (sym c.index.ensures) (r.low c.from.result c.index.result.now (omega (arith, long, c.from.ensures, c.number.ensures, c.requires)))
+pub returns : goal.returns
+returns c = record {
+  rank = let r = c.args.self.now in
+      let v = c.index.result.now in
+      let at : c.from.result ≡ c.args.card = c.from.ensures ∙ c.number.ensures in
+      c.index.ensures ∙ ap (λ (k : ℕ). get_or r.ranks.items k v) at
+      ∙ kept (rank_of (length r.deck.now.suits)) (kinds r.deck.now) r.ranks.items c.args.card v r.ranked c.requires;
+  low = let r = c.args.self.now in
+      let long = kept_long (rank_of (length r.deck.now.suits)) (kinds r.deck.now) r.ranks.items r.ranked in
+      subst (λ (x : ℕ). x < 64) (sym c.index.ensures) (r.low c.from.result c.index.result.now (omega (arith, long, c.from.ensures, c.number.ensures, c.requires)));
+}
