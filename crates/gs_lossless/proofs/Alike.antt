@@ -1,4 +1,4 @@
--- Signals that see the same deals agree on the side of deals.
+-- Signals that see the same deals agree on the aspect of deals.
 use Rattle.std.proofs.Common.{◌≡◌, ◌+◌, ◌-◌, ◌<◌, ◌==◌, ◌∷◌, [], ℕ, ℤ, true, List, map, get_or, refl, sym, ap, ◌∙◌, subst, arith}
 use Rattle.std.proofs.{lemmas.Bool.Decides.{Decides-eqb}, lemmas.List.{append-nil}, lemmas.List.FromFn.{get_or-map-range_with_len}}
 use Rattle.std.proofs.lemmas.List.Sorted.{IsPermutation-map, sum_by-IsPermutation}
@@ -8,8 +8,8 @@ use Rattle.gs_model.specs.Game.{Game, IsPlayable, round_count}
 use Rattle.gs_model.proofs.Walked.{last_round_of}
 use Rattle.gs_tree.specs.Walk.{last_count}
 use Rattle.gs_lossless.specs.Alike.{AreAlike, AreStandIns, seen, seen_by}
-use Rattle.gs_lossless.specs.{Amounts.{HaveEqualAmounts, AreSideFirsts, HasSide, amount, deal_part, key_count, keys_of}, Sums.{sum_at, weight_at}}
-use Rattle.gs_lossless.specs.{declared.parts.Part.{Part}, declared.sides.Side.{Side}, declared.sides.Side.TheVariants.{Deals, Children}}
+use Rattle.gs_lossless.specs.{Amounts.{HaveEqualAmounts, AreAspectFirsts, HasAspect, amount, deal_part, key_count, keys_of}, Sums.{sum_at, weight_at}}
+use Rattle.gs_lossless.specs.{declared.parts.Part.{Part}, declared.aspects.Aspect.{Aspect}, declared.aspects.Aspect.TheVariants.{Deals, Children}}
 use Rattle.gs_lossless.proofs.{Descent.{count_last, run_start, tabled}, Weighed.{deals_amount}}
 
 -- the part that a deal is, from how it is seen
@@ -49,8 +49,8 @@ module _ (g : Game) (p : IsPlayable g) (lists : ClassLists) where
       get_or-map-range_with_len (λ x. class_of lists (last_round f) (at_round f (last_round f) x)) 0 (signal_count f (last_round f)) s s 0 l (omega arith)
       ∙ ap (class_of lists (last_round f)) ((tabled g p).itself (last_round f) s)
 
-  -- signals that stand for others in the last round stand for them on the side of deals
-  deal_firsts : (firsts : List ℕ) → AreStandIns g keys firsts → AreSideFirsts (frame_of g) lists Deals (last_round (frame_of g)) firsts
+  -- signals that stand for others in the last round stand for them on the aspect of deals
+  deal_firsts : (firsts : List ℕ) → AreStandIns g keys firsts → AreAspectFirsts (frame_of g) lists Deals (last_round (frame_of g)) firsts
   deal_firsts firsts h =
       let f = frame_of g in
       let n = count_last g p in
@@ -67,18 +67,18 @@ module _ (g : Game) (p : IsPlayable g) (lists : ClassLists) where
             agree_alike s (get_or firsts s 0) ls (omega (arith, b, ls)) (h.alike s (omega (arith, l, h.long)));
       }
 
-pub firsts_of_deals : (g : Game) → IsPlayable g → (side : Side) (round : ℕ) → HasSide (frame_of g) side round → round ≡ round_count g
+pub firsts_of_deals : (g : Game) → IsPlayable g → (aspect : Aspect) (round : ℕ) → HasAspect (frame_of g) aspect round → round ≡ round_count g
     → (lists : ClassLists) (keys firsts : List ℕ)
-    → keys ≡ keys_of (frame_of g) lists side round → AreStandIns g keys firsts → AreSideFirsts (frame_of g) lists side round firsts
-firsts_of_deals g p Children round side e lists keys firsts is h = absurd (omega (arith, side.1, e, last_round_of g))
-firsts_of_deals g p Deals round side e lists keys firsts is h =
+    → keys ≡ keys_of (frame_of g) lists aspect round → AreStandIns g keys firsts → AreAspectFirsts (frame_of g) lists aspect round firsts
+firsts_of_deals g p Children round aspect e lists keys firsts is h = absurd (omega (arith, aspect.1, e, last_round_of g))
+firsts_of_deals g p Deals round aspect e lists keys firsts is h =
     let f = frame_of g in
     let top : round ≡ last_round f = omega (arith, e, last_round_of g) in
     let is' : keys ≡ keys_of f lists Deals (last_round f) = is ∙ ap (keys_of f lists Deals) top in
-    subst (λ (r : ℕ). AreSideFirsts f lists Deals r firsts) (sym top) (deal_firsts g p lists firsts (subst (λ (k : List ℕ). AreStandIns g k firsts) is' h))
+    subst (λ (r : ℕ). AreAspectFirsts f lists Deals r firsts) (sym top) (deal_firsts g p lists firsts (subst (λ (k : List ℕ). AreStandIns g k firsts) is' h))
 
--- in the last round the side's keys are one for each last-round signal
-pub last_keys : (g : Game) (side : Side) (round n : ℕ) → HasSide (frame_of g) side round → round ≡ round_count g → n ≡ key_count g side round
+-- in the last round the aspect's keys are one for each last-round signal
+pub last_keys : (g : Game) (aspect : Aspect) (round n : ℕ) → HasAspect (frame_of g) aspect round → round ≡ round_count g → n ≡ key_count g aspect round
     → n ≡ last_count g
-last_keys g Children round n side e all = absurd (omega (arith, side.1, e, last_round_of g))
-last_keys g Deals round n side e all = all
+last_keys g Children round n aspect e all = absurd (omega (arith, aspect.1, e, last_round_of g))
+last_keys g Deals round n aspect e all = all

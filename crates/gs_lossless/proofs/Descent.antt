@@ -11,7 +11,7 @@ use Rattle.gs_model.proofs.Walked.{last_round_of}
 use Rattle.gs_tree.specs.{Trees.{rules_of}, declared.signals.Signals.{Signals}}
 use Rattle.gs_tree.proofs.Readers.{first_next}
 use Rattle.gs_filter.specs.Filter.{AreParents, Filter}
-use Rattle.gs_lossless.specs.{Amounts.{HasSide, IsRunIn, key_count, keys_of}, declared.sides.Side.{Side}, declared.sides.Side.TheVariants.{Deals, Children}}
+use Rattle.gs_lossless.specs.{Amounts.{HasAspect, IsRunIn, key_count, keys_of}, declared.aspects.Aspect.{Aspect}, declared.aspects.Aspect.TheVariants.{Deals, Children}}
 
 -- a valid game can be played
 pub valid_playable : (v : ValidGame) → IsPlayable (game_of v.game)
@@ -152,8 +152,8 @@ list_long g l e round some le =
     l.classes.lengths round some (omega (arith, n, last_round_of g)) ∙ ap (λ (ps : List (List ℕ)). length (list_of ps round)) e
     ∙ signal_count_is g round some le
 
-pub keys_long : (g : Game) (l : Filter) → l.parents ≡ (frame_of g).parents → IsPlayable g → (side : Side) (round : ℕ)
-    → HasSide (frame_of g) side round → length (keys_of (frame_of g) l.lists side round) ≡ key_count g side round
+pub keys_long : (g : Game) (l : Filter) → l.parents ≡ (frame_of g).parents → IsPlayable g → (aspect : Aspect) (round : ℕ)
+    → HasAspect (frame_of g) aspect round → length (keys_of (frame_of g) l.lists aspect round) ≡ key_count g aspect round
 keys_long g l e p Deals round h = length-map-range_with_len (λ x. class_of l.lists round (at_round (frame_of g) round x)) 0
     (signal_count (frame_of g) (last_round (frame_of g))) ∙ count_last g p
 keys_long g l e p Children round h = list_long g l e (round + 1) (omega arith) (omega (arith, h.1, last_round_of g))

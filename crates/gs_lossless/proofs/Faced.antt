@@ -6,7 +6,7 @@ use Rattle.gs_model.specs.{Deals.{Deal, deals}, Game.{Game, round_count}, Signal
 use Rattle.gs_tree.specs.{Boards.{signals_on}, Plain.{IsPlain}, Walk.{deal_at, last_count, shows_same}}
 use Rattle.gs_tree.proofs.{Pairs.{row_deals}, Weighed.{weight_is}}
 use Rattle.gs_lossless.specs.{Amounts.{deal_part}, Boards.{PaysOnce, strengths_of}, Rivals.{IsRivalTable, is_other, paid_once, part_against, rival_of}}
-use Rattle.gs_lossless.specs.{declared.parts.Part.{Part}, declared.rivals.Rival.{Rival}, declared.rivals.Table.{Table}}
+use Rattle.gs_lossless.specs.{declared.parts.Part.{Part}, declared.rivals.Rival.{Rival}, declared.rivals.RivalTable.{RivalTable}}
 use Rattle.gs_lossless.proofs.{Ranks.{told_once}, Seats.{one_board}, Weighed.{sum_by-passed}}
 
 module _ (g : Game) (plain : IsPlain g) (once : PaysOnce g) (keys : List ℕ) (i : ℕ) (l : i < last_count g) where
@@ -64,7 +64,7 @@ module _ (g : Game) (plain : IsPlain g) (once : PaysOnce g) (keys : List ℕ) (i
   met_some rivals = All-map (λ (p : Part). 0 < p.weight) (part_against mine) rivals (λ k d m. omega arith)
 
   -- any total over the rivals on the board is that over the deals
-  pub table_met : (table : Table) → IsRivalTable g keys table → shows_same g i table.first ≡ true → (h : Part → ℕ)
+  pub table_met : (table : RivalTable) → IsRivalTable g keys table → shows_same g i table.first ≡ true → (h : Part → ℕ)
       → sum_by h (map (part_against mine) (filter (is_other i) table.rivals.items))
       ≡ sum_by h (map (deal_part keys true) (filter (λ (d : Deal). d.one == i) (deals g)))
   table_met table t same h =

@@ -17,4 +17,4 @@ pub mod Unlike
 pub mod Scanned
 pub mod Alike
 pub mod Transfer
-pub mod SideOf
+pub mod AspectOf

@@ -8,73 +8,73 @@ use Rattle.gs_filter.proofs.ClassLaws.{single_are_classes}
 use Rattle.gs_model.specs.{Classes.{ClassLists, class_of, first_member, list_of}, Frame.{Frame, frame_of, last_round, signal_count}}
 use Rattle.gs_model.specs.{Game.{Game, round_count}, Lossless.{Alike, IsFirstUnlike, IsLossless}, Signals.{signals}}
 use Rattle.gs_model.proofs.{Ranges.{signal_count_is}, Walked.{last_round_of}}
-use Rattle.gs_lossless.specs.Amounts.{HaveEqualAmounts, AgreesWithFirst, AreAmounts, AreSideFirsts, HasSide}
+use Rattle.gs_lossless.specs.Amounts.{HaveEqualAmounts, AgreesWithFirst, AreAmounts, AreAspectFirsts, HasAspect}
 use Rattle.gs_lossless.specs.{Scans.{AgreeBelow, AreFirstsKept, IsFirstApart, IsFirstKept}, Stops.{AreAlikeBelow, MatchUnlike}}
-use Rattle.gs_lossless.specs.{declared.parts.Part.{Part}, declared.sides.Side.{Side}, declared.sides.Side.TheVariants.{Deals, Children}}
+use Rattle.gs_lossless.specs.{declared.parts.Part.{Part}, declared.aspects.Aspect.{Aspect}, declared.aspects.Aspect.TheVariants.{Deals, Children}}
 use Rattle.gs_lossless.proofs.{Descent.{list_long}, Settled.{agree_children, agree_deals, alike_from, not_lossless, over, singles}}
 
-pub side_in : (f : Frame) (side : Side) (round : ℕ) → HasSide f side round → (0 < round) × (round ≤ last_round f)
-side_in f Deals round h = h
-side_in f Children round h = (h.0, omega (arith, h.1))
+pub aspect_in : (f : Frame) (aspect : Aspect) (round : ℕ) → HasAspect f aspect round → (0 < round) × (round ≤ last_round f)
+aspect_in f Deals round h = h
+aspect_in f Children round h = (h.0, omega (arith, h.1))
 
-pub side_top : (g : Game) (side : Side) (round : ℕ) → HasSide (frame_of g) side round → round ≤ round_count g
-side_top g side round h = let l = side_in (frame_of g) side round h in omega (arith, l.1, last_round_of g)
+pub aspect_top : (g : Game) (aspect : Aspect) (round : ℕ) → HasAspect (frame_of g) aspect round → round ≤ round_count g
+aspect_top g aspect round h = let l = aspect_in (frame_of g) aspect round h in omega (arith, l.1, last_round_of g)
 
--- the signals of a round with a side, by the frame and by the game
-pub side_signals : (g : Game) (side : Side) (round : ℕ) → HasSide (frame_of g) side round → signal_count (frame_of g) round ≡ length (signals g round)
-side_signals g side round h = signal_count_is g round (side_in (frame_of g) side round h).0 (side_top g side round h)
+-- the signals of a round with an aspect, by the frame and by the game
+pub aspect_signals : (g : Game) (aspect : Aspect) (round : ℕ) → HasAspect (frame_of g) aspect round → signal_count (frame_of g) round ≡ length (signals g round)
+aspect_signals g aspect round h = signal_count_is g round (aspect_in (frame_of g) aspect round h).0 (aspect_top g aspect round h)
 
 -- and by the lists of classes over the game's parents
-pub side_classes : (g : Game) (l : Filter) → l.parents ≡ (frame_of g).parents → (side : Side) (round : ℕ) → HasSide (frame_of g) side round
+pub aspect_classes : (g : Game) (l : Filter) → l.parents ≡ (frame_of g).parents → (aspect : Aspect) (round : ℕ) → HasAspect (frame_of g) aspect round
     → length (list_of l.lists round) ≡ length (signals g round)
-side_classes g l e side round h = list_long g l e round (side_in (frame_of g) side round h).0 (side_top g side round h)
+aspect_classes g l e aspect round h = list_long g l e round (aspect_in (frame_of g) aspect round h).0 (aspect_top g aspect round h)
 
 -- ---- sums that are kept
 
-module _ (f : Frame) (lists : ClassLists) (side : Side) (round class : ℕ) (kept : List (Vec Part Global)) (sums : Vec Part Global) (some : 0 < class)
-    (l : class ≤ length kept) (here : AreAmounts f lists side round (first_member lists round class) sums.items) where
+module _ (f : Frame) (lists : ClassLists) (aspect : Aspect) (round class : ℕ) (kept : List (Vec Part Global)) (sums : Vec Part Global) (some : 0 < class)
+    (l : class ≤ length kept) (here : AreAmounts f lists aspect round (first_member lists round class) sums.items) where
   -- the sums that were put in are kept
-  pub kept_here : IsFirstKept f lists side round class (set kept (class - 1) sums)
-  kept_here d = subst (λ (v : Vec Part Global). AreAmounts f lists side round (first_member lists round class) v.items)
+  pub kept_here : IsFirstKept f lists aspect round class (set kept (class - 1) sums)
+  kept_here d = subst (λ (v : Vec Part Global). AreAmounts f lists aspect round (first_member lists round class) v.items)
       (sym (get_or-set_same kept (class - 1) sums d (omega (arith, some, l)))) here
 
   -- and so are all others
-  pub kept_more : AreFirstsKept f lists side round kept → AreFirstsKept f lists side round (set kept (class - 1) sums)
+  pub kept_more : AreFirstsKept f lists aspect round kept → AreFirstsKept f lists aspect round (set kept (class - 1) sums)
   kept_more h k a b = ⊎_elim
-      (λ same. inr (subst (λ j. IsFirstKept f lists side round j (set kept (class - 1) sums)) (sym same) kept_here))
+      (λ same. inr (subst (λ j. IsFirstKept f lists aspect round j (set kept (class - 1) sums)) (sym same) kept_here))
       (λ other.
       let apart : k - 1 ≢ class - 1 = λ e. other (omega (arith, e, a, some)) in
       let read : (d : Vec Part Global) → get_or (set kept (class - 1) sums) (k - 1) d ≡ get_or kept (k - 1) d =
       λ d. get_or-set_other kept (class - 1) (k - 1) sums d apart in
       ⊎_elim (λ none. inl (λ d. ap (λ (v : Vec Part Global). v.items) (read d) ∙ none d))
-      (λ has. inr (λ d. subst (λ (v : Vec Part Global). AreAmounts f lists side round (first_member lists round k) v.items) (sym (read d)) (has d)))
+      (λ has. inr (λ d. subst (λ (v : Vec Part Global). AreAmounts f lists aspect round (first_member lists round k) v.items) (sym (read d)) (has d)))
       (h k a (omega (arith, b, length-set kept (class - 1) sums))))
       (cases_eq k class)
 
-pub agree_more : (f : Frame) (lists : ClassLists) (side : Side) (round signal : ℕ) → AgreeBelow f lists side round signal
-    → AgreesWithFirst f lists side round signal → AgreeBelow f lists side round (signal + 1)
-agree_more f lists side round signal h here s l = ⊎_elim (λ under. h s under) (λ over. let e : signal ≡ s = omega (arith, l, over) in
-    subst (AgreesWithFirst f lists side round) e here) (cases_lt s signal)
+pub agree_more : (f : Frame) (lists : ClassLists) (aspect : Aspect) (round signal : ℕ) → AgreeBelow f lists aspect round signal
+    → AgreesWithFirst f lists aspect round signal → AgreeBelow f lists aspect round (signal + 1)
+agree_more f lists aspect round signal h here s l = ⊎_elim (λ under. h s under) (λ over. let e : signal ≡ s = omega (arith, l, over) in
+    subst (AgreesWithFirst f lists aspect round) e here) (cases_lt s signal)
 
 -- a signal that an earlier one stands for agrees with the first member of its class
-module _ (f : Frame) (lists : ClassLists) (side : Side) (round signal : ℕ) (firsts : List ℕ) (h : AreSideFirsts f lists side round firsts)
+module _ (f : Frame) (lists : ClassLists) (aspect : Aspect) (round signal : ℕ) (firsts : List ℕ) (h : AreAspectFirsts f lists aspect round firsts)
     (l : signal < length firsts) (under : get_or firsts signal 0 < signal) where
-  pub stood_agrees : AgreeBelow f lists side round signal → AgreesWithFirst f lists side round signal
-  stood_agrees below = subst (λ (k : ℕ). HaveEqualAmounts f lists side round (first_member lists round k) signal) (h.class signal l)
+  pub stood_agrees : AgreeBelow f lists aspect round signal → AgreesWithFirst f lists aspect round signal
+  stood_agrees below = subst (λ (k : ℕ). HaveEqualAmounts f lists aspect round (first_member lists round k) signal) (h.class signal l)
       (λ c o. below (get_or firsts signal 0) under c o ∙ h.agree signal l c o)
 
 -- the first member agrees with itself
-pub agree_self : (f : Frame) (lists : ClassLists) (side : Side) (round signal : ℕ) → first_member lists round (class_of lists round signal) ≡ signal
-    → AgreesWithFirst f lists side round signal
-agree_self f lists side round signal e = subst (λ x. HaveEqualAmounts f lists side round x signal) (sym e) (λ c o. refl)
+pub agree_self : (f : Frame) (lists : ClassLists) (aspect : Aspect) (round signal : ℕ) → first_member lists round (class_of lists round signal) ≡ signal
+    → AgreesWithFirst f lists aspect round signal
+agree_self f lists aspect round signal e = subst (λ x. HaveEqualAmounts f lists aspect round x signal) (sym e) (λ c o. refl)
 
 -- ---- rounds
 
 -- no signal is apart: all agree
-pub none_apart : (f : Frame) (lists : ClassLists) (side : Side) (round end : ℕ) (r : Option ℕ) → is_some r ≡ false → IsFirstApart f lists side round end r
-    → AgreeBelow f lists side round end
-none_apart f lists side round end None e h = h
-none_apart f lists side round end (Some s) e h = absurd (true≢false e)
+pub none_apart : (f : Frame) (lists : ClassLists) (aspect : Aspect) (round end : ℕ) (r : Option ℕ) → is_some r ≡ false → IsFirstApart f lists aspect round end r
+    → AgreeBelow f lists aspect round end
+none_apart f lists aspect round end None e h = h
+none_apart f lists aspect round end (Some s) e h = absurd (true≢false e)
 
 -- the first signal before `end` whose children differ from those of the first member of its class; `None` if there is none or in the last round
 abbrev pub IsChildrenApart : Frame → ClassLists → ℕ → ℕ → Option ℕ → Type 0

@@ -11,7 +11,7 @@ use Rattle.gs_model.specs.Lossless.{Alike, IsFirstUnlike, IsLossless, children_i
 use Rattle.gs_model.proofs.{Alike.{fair_everywhere, fair_from_outcomes, keeps_from}, Gather.{firsts_from}, Tables.{is_table}}
 use Rattle.gs_model.proofs.Unlike.{single_signals_are_lossless, unlike_is_not_lossless}
 use Rattle.gs_lossless.specs.{Amounts.{HaveEqualAmounts, AgreesWithFirst, AreAmounts, amount}, Sums.{sum_at}, declared.parts.Part.{Part}}
-use Rattle.gs_lossless.specs.{declared.sides.Side.{Side}, declared.sides.Side.TheVariants.{Deals, Children}}
+use Rattle.gs_lossless.specs.{declared.aspects.Aspect.{Aspect}, declared.aspects.Aspect.TheVariants.{Deals, Children}}
 use Rattle.gs_lossless.proofs.Merge.{one_list}
 
 pub if_ok : {T E : Type 0} (r : Result T E) (P Q : T → Type 0) → ((x : T) → P x → Q x) → IfOk r P → IfOk r Q
@@ -50,9 +50,9 @@ pub single_first : (lists : ClassLists) (round s : ℕ) → s < length (list_of 
     → first_member lists round (class_of lists round s) ≡ s
 single_first lists round s l one = single_place (list_of lists round) s l one
 
-pub single_agrees : (f : Frame) (lists : ClassLists) (side : Side) (round s : ℕ) → s < length (list_of lists round)
-    → class_size lists round (class_of lists round s) ≡ 1 → AgreesWithFirst f lists side round s
-single_agrees f lists side round s l one c o = ap (λ x. amount f lists side round x c o) (single_first lists round s l one)
+pub single_agrees : (f : Frame) (lists : ClassLists) (aspect : Aspect) (round s : ℕ) → s < length (list_of lists round)
+    → class_size lists round (class_of lists round s) ≡ 1 → AgreesWithFirst f lists aspect round s
+single_agrees f lists aspect round s l one c o = ap (λ x. amount f lists aspect round x c o) (single_first lists round s l one)
 
 -- the first member of a signal's class is not behind it
 pub first_le : (lists : ClassLists) (round s : ℕ) → first_member lists round (class_of lists round s) ≤ s
@@ -172,10 +172,10 @@ singles f k = single_signals_are_lossless f (single_classes f.parents) (λ round
 
 -- ---- sums that agree
 
-pub agree_if_same : (f : Frame) (lists : ClassLists) (side : Side) (round s t : ℕ) (xs ys : List Part) → AreAmounts f lists side round s xs
-    → AreAmounts f lists side round t ys → xs ≡ ys → HaveEqualAmounts f lists side round s t
-agree_if_same f lists side round s t xs ys a b e c o = sym (a.sum c o) ∙ ap (λ (l : List Part). sum_at l c o) e ∙ b.sum c o
+pub agree_if_same : (f : Frame) (lists : ClassLists) (aspect : Aspect) (round s t : ℕ) (xs ys : List Part) → AreAmounts f lists aspect round s xs
+    → AreAmounts f lists aspect round t ys → xs ≡ ys → HaveEqualAmounts f lists aspect round s t
+agree_if_same f lists aspect round s t xs ys a b e c o = sym (a.sum c o) ∙ ap (λ (l : List Part). sum_at l c o) e ∙ b.sum c o
 
-pub same_if_agree : (f : Frame) (lists : ClassLists) (side : Side) (round s t : ℕ) (xs ys : List Part) → AreAmounts f lists side round s xs
-    → AreAmounts f lists side round t ys → HaveEqualAmounts f lists side round s t → xs ≡ ys
-same_if_agree f lists side round s t xs ys a b h = one_list xs ys a.rises b.rises (λ c o. a.sum c o ∙ h c o ∙ sym (b.sum c o))
+pub same_if_agree : (f : Frame) (lists : ClassLists) (aspect : Aspect) (round s t : ℕ) (xs ys : List Part) → AreAmounts f lists aspect round s xs
+    → AreAmounts f lists aspect round t ys → HaveEqualAmounts f lists aspect round s t → xs ≡ ys
+same_if_agree f lists aspect round s t xs ys a b h = one_list xs ys a.rises b.rises (λ c o. a.sum c o ∙ h c o ∙ sym (b.sum c o))

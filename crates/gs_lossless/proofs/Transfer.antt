@@ -7,7 +7,7 @@ use Rattle.gs_game.proofs.{SomeWays.{some_ways}, StopLaws.{against_stopped, stop
 use Rattle.gs_model.specs.{Classes.{ClassLists, class_of, first_member, list_of}, Frame.{Frame, frame_of, last_round}, Game.{Game, round_count}}
 use Rattle.gs_model.specs.Lossless.{weight_against, weight_with}
 use Rattle.gs_model.proofs.Walked.{last_round_of}
-use Rattle.gs_lossless.specs.{Amounts.{AgreesWithFirst, amount}, Scans.{IsFirstApart}, declared.sides.Side.TheVariants.{Deals}}
+use Rattle.gs_lossless.specs.{Amounts.{AgreesWithFirst, amount}, Scans.{IsFirstApart}, declared.aspects.Aspect.TheVariants.{Deals}}
 
 -- before the last round no outcome counts
 pub amount_before_last : (f : Frame) (lists : ClassLists) (round x c : ℕ) (o : ℤ) → round < last_round f

@@ -10,7 +10,7 @@ use Rattle.gs_model.specs.{Game.{Game, IsPlayable}, Lossless.{weight_against, we
 use Rattle.gs_model.proofs.{Ranges.{deals_weigh, every-flat_map, in_range}, Sparse.{range_append}}
 use Rattle.gs_model.proofs.Basics.{false_from_not, every-map, every-range, cond_le, sum_by-map, sum-cond, every-any}
 use Rattle.gs_lossless.specs.{Amounts.{IsRun, IsRunIn, amount, counted_part, deal_part, deal_parts, keys_of}, Sums.{sum_at, weight_at}}
-use Rattle.gs_lossless.specs.{declared.parts.Part.{Part}, declared.sides.Side.TheVariants.{Deals, Children}}
+use Rattle.gs_lossless.specs.{declared.parts.Part.{Part}, declared.aspects.Aspect.TheVariants.{Deals, Children}}
 
 -- ---- sums
 

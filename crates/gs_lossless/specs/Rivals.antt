@@ -2,7 +2,7 @@
 use Rattle.std.specs.Prelude.{ℕ, ◌≡◌, ◌==◌, Bool, true, false, List, cond, map, nat_lt, slice_index, sum_by, ℤ, pos, neg_ℤ}
 use Rattle.gs_model.specs.Game.{Game}
 use Rattle.gs_tree.specs.{Boards.{signals_on}, Plain.{IsPlain}}
-use Rattle.gs_lossless.specs.{Boards.{PaysOnce, strengths_of}, declared.parts.Part.{Part}, declared.rivals.Rival.{Rival}, declared.rivals.Table.{Table}}
+use Rattle.gs_lossless.specs.{Boards.{PaysOnce, strengths_of}, declared.parts.Part.{Part}, declared.rivals.Rival.{Rival}, declared.rivals.RivalTable.{RivalTable}}
 
 -- a last-round signal as a rival: its key, and the strength of its hand
 abbrev pub rival_of : Game → List ℕ → ℕ → Rival
@@ -22,7 +22,7 @@ part_against strength r = record { class = r.class; outcome = paid_once strength
 
 -- the rivals on the board of the table's first signal: any total over them is that over the signals on the board.
 -- Every card is single, each player is dealt one private card, and each bonus is 1
-pub record IsRivalTable (g : Game) (keys : List ℕ) (table : Table) : Type 0 where
+pub record IsRivalTable (g : Game) (keys : List ℕ) (table : RivalTable) : Type 0 where
   pub plain : IsPlain g
   pub once : PaysOnce g
   pub rivals : (h : Rival → ℕ) → sum_by h table.rivals.items ≡ sum_by h (map (rival_of g keys) (signals_on g table.first))

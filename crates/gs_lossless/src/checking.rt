@@ -6,9 +6,9 @@ ghost use Rattle.gs_filter.specs.Filter.{single_classes};
 ghost use Rattle.gs_tree.specs.Trees.{rules_of};
 ghost use Rattle.gs_lossless.specs.Stops.{IsUnlike, IsUnlikeIn, MatchUnlike};
 
+use crate::aspects::Aspect;
 use crate::grouped::Grouped;
 use crate::scan::first_apart;
-use crate::sides::Side;
 use crate::stop::CheckStop;
 use crate::stopped::first_deals_apart;
 use gs_filter::Classes;
@@ -61,12 +61,12 @@ fn settles(alloc: Global, grouped: &Grouped<'_>) -> Result<bool, AllocError>
     let last = grouped.signals.rounds();
     for round in 1..last {
         let end = grouped.signals.count(round);
-        if first_apart(alloc, grouped, Side::Children, round, end)?.is_some() {
+        if first_apart(alloc, grouped, Aspect::Children, round, end)?.is_some() {
             return Ok(false);
         }
     }
     let end = grouped.signals.count(last);
-    Ok(first_apart(alloc, grouped, Side::Deals, last, end)?.is_none())
+    Ok(first_apart(alloc, grouped, Aspect::Deals, last, end)?.is_none())
 }
 
 /// Returns the first signal of a round that is not like the first member of its class. The last round has no children.
@@ -80,7 +80,7 @@ fn unlike_in(alloc: Global, grouped: &Grouped<'_>, round: u8) -> Result<Option<u
         return Ok(apart);
     }
     let end = apart.unwrap_or(grouped.signals.count(round));
-    let before = first_apart(alloc, grouped, Side::Children, round, end)?;
+    let before = first_apart(alloc, grouped, Aspect::Children, round, end)?;
     Ok(before.or(apart))
 }
 

@@ -2,6 +2,8 @@
 //! And last-round signals that see the same deals, so that one may stand for the others.
 #![tactic(auto)]
 
+mod aspect_keys;
+mod aspects;
 mod board;
 mod boards;
 mod checking;
@@ -15,19 +17,17 @@ mod parts;
 mod rivals;
 mod runs;
 mod scan;
-mod side_keys;
-mod sides;
 mod standing;
 mod stop;
 mod stopped;
 
+pub use aspect_keys::AspectKeys;
+pub use aspects::Aspect;
 pub use boards::stand_ins;
 pub use checking::{Lossless, check};
 pub use grouped::Grouped;
 pub use lists::empty_lists;
 pub use parts::Part;
 pub use runs::{Run, ancestor, descendants, descendants_in};
-pub use side_keys::SideKeys;
-pub use sides::Side;
 pub use stop::CheckStop;
 pub use stopped::stopped_classes;

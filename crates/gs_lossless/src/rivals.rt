@@ -4,7 +4,7 @@ ghost use Rattle.std.specs.{Prelude.{◌≡◌, ◌<◌, IfOk, IfSome, filter, g
 ghost use Rattle.gs_tree.specs.{Boards.{signals_on}, Plain.{IsPlain}, Trees.{rules_of}, Walk.{last_count}};
 ghost use Rattle.gs_lossless.specs.Boards.{PaysOnce};
 ghost use Rattle.gs_lossless.specs.Rivals.{IsRivalTable, is_other, part_against as met, rival_of};
-ghost use Rattle.gs_lossless.specs.declared.rivals.Table.{Table as Tabled};
+ghost use Rattle.gs_lossless.specs.declared.rivals.RivalTable.{RivalTable as Tabled};
 
 use crate::parts::Part;
 use gs_tree::Signals;
@@ -23,7 +23,7 @@ pub(crate) struct Rival {
 
 /// The rivals on the board of the signal `first`.
 #[derive(Drop)]
-pub(crate) struct Table {
+pub(crate) struct RivalTable {
     pub(crate) first: u32,
     pub(crate) rivals: Vec<Rival>,
 }
@@ -74,7 +74,12 @@ fn sort_rivals(rivals: &mut Vec<Rival>)
 }
 
 /// Returns the table of the board of `first`.
-fn table_at(alloc: Global, signals: &Signals, keys: &[u32], first: u32) -> Result<Table, AllocError>
+fn table_at(
+    alloc: Global,
+    signals: &Signals,
+    keys: &[u32],
+    first: u32,
+) -> Result<RivalTable, AllocError>
     requires first_in { first < last_count (rules_of signals.now) }
     requires keys { length keys.now ≡ last_count (rules_of signals.now) }
     requires plain { IsPlain (rules_of signals.now) }
@@ -83,7 +88,7 @@ fn table_at(alloc: Global, signals: &Signals, keys: &[u32], first: u32) -> Resul
 {
     let mut rivals = rivals_beside(alloc, signals, keys, first)?;
     sort_rivals(&mut rivals);
-    Ok(Table { first, rivals })
+    Ok(RivalTable { first, rivals })
 }
 
 /// Returns the tables of all boards, in the order of their first signals.
@@ -91,7 +96,7 @@ pub(crate) fn tables_of(
     alloc: Global,
     signals: &Signals,
     keys: &[u32],
-) -> Result<Vec<Table>, AllocError>
+) -> Result<Vec<RivalTable>, AllocError>
     requires keys { length keys.now ≡ last_count (rules_of signals.now) }
     requires plain { IsPlain (rules_of signals.now) }
     requires once { PaysOnce (rules_of signals.now) }
@@ -109,7 +114,7 @@ pub(crate) fn tables_of(
 }
 
 /// Returns the place of the table of the board of `first`. The tables are in the order of their first signals.
-pub(crate) fn place_of(tables: &[Table], first: u32) -> Option<usize>
+pub(crate) fn place_of(tables: &[RivalTable], first: u32) -> Option<usize>
     ensures { IfSome result (λ place. (place < length tables.now) × ((d : Tabled) → (get_or tables.now place d).first ≡ first)) }
 {
     let place = tables

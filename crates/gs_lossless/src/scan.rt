@@ -3,13 +3,13 @@
 ghost use Rattle.std.specs.Prelude.{◌≡◌, ◌<◌, ◌≤◌, Decides, IfOk, IsTrue, OnOk, length};
 ghost use Rattle.gs_model.specs.{Classes.{IsClass, class_of, list_of}, Frame.{frame_of}, Signals.{signals as signals_in}};
 ghost use Rattle.gs_tree.specs.Trees.{rules_of};
-ghost use Rattle.gs_lossless.specs.{Amounts.{AgreesWithFirst, HasSide}, Scans.{AreAloneBelow, AreFirstsKept, IsFirstApart, IsFirstKept}};
+ghost use Rattle.gs_lossless.specs.{Amounts.{AgreesWithFirst, HasAspect}, Scans.{AreAloneBelow, AreFirstsKept, IsFirstApart, IsFirstKept}};
 
+use crate::aspect_keys::AspectKeys;
+use crate::aspects::Aspect;
 use crate::grouped::Grouped;
 use crate::lists::empty_lists;
 use crate::parts::{Part, are_same};
-use crate::side_keys::SideKeys;
-use crate::sides::Side;
 use crate::standing::{has_earlier, stand_ins_at};
 use gs_filter::Classes;
 use std::alloc::{AllocError, Global};
@@ -37,15 +37,15 @@ fn are_alone(classes: &Classes, round: u8) -> bool
 /// Makes the sums of the first member of a class, unless they are kept.
 fn keep_first(
     alloc: Global,
-    at: &SideKeys<'_>,
+    at: &AspectKeys<'_>,
     class: u32,
     kept: &mut Vec<Vec<Part>>,
 ) -> Result<(), AllocError>
     requires class { IsClass at.now.classes.now.lists at.now.round class }
     requires within { class ≤ length kept.old.items }
-    requires kept { AreFirstsKept (frame_of (rules_of at.now.signals.now)) at.now.classes.now.lists at.now.side at.now.round kept.old.items }
-    ensures kept { OnOk result (AreFirstsKept (frame_of (rules_of at.now.signals.now)) at.now.classes.now.lists at.now.side at.now.round kept.new.items) }
-    ensures first { OnOk result (IsFirstKept (frame_of (rules_of at.now.signals.now)) at.now.classes.now.lists at.now.side at.now.round class kept.new.items) }
+    requires kept { AreFirstsKept (frame_of (rules_of at.now.signals.now)) at.now.classes.now.lists at.now.aspect at.now.round kept.old.items }
+    ensures kept { OnOk result (AreFirstsKept (frame_of (rules_of at.now.signals.now)) at.now.classes.now.lists at.now.aspect at.now.round kept.new.items) }
+    ensures first { OnOk result (IsFirstKept (frame_of (rules_of at.now.signals.now)) at.now.classes.now.lists at.now.aspect at.now.round class kept.new.items) }
     ensures long { OnOk result (length kept.new.items ≡ length kept.old.items) }
 {
     let place = class as usize - 1;
@@ -58,19 +58,19 @@ fn keep_first(
     Ok(())
 }
 
-/// Returns whether a signal agrees on the side with the first member of its class. Keeps the sums of that first member.
+/// Returns whether a signal agrees on the aspect with the first member of its class. Keeps the sums of that first member.
 fn agrees(
     alloc: Global,
-    at: &SideKeys<'_>,
+    at: &AspectKeys<'_>,
     signal: u32,
     kept: &mut Vec<Vec<Part>>,
 ) -> Result<bool, AllocError>
     requires in_range { signal < length (signals_in (rules_of at.now.signals.now) at.now.round) }
     requires within { class_of at.now.classes.now.lists at.now.round signal ≤ length kept.old.items }
-    requires kept { AreFirstsKept (frame_of (rules_of at.now.signals.now)) at.now.classes.now.lists at.now.side at.now.round kept.old.items }
-    ensures kept { OnOk result (AreFirstsKept (frame_of (rules_of at.now.signals.now)) at.now.classes.now.lists at.now.side at.now.round kept.new.items) }
+    requires kept { AreFirstsKept (frame_of (rules_of at.now.signals.now)) at.now.classes.now.lists at.now.aspect at.now.round kept.old.items }
+    ensures kept { OnOk result (AreFirstsKept (frame_of (rules_of at.now.signals.now)) at.now.classes.now.lists at.now.aspect at.now.round kept.new.items) }
     ensures long { OnOk result (length kept.new.items ≡ length kept.old.items) }
-    ensures agrees { IfOk result (λ b. Decides b (AgreesWithFirst (frame_of (rules_of at.now.signals.now)) at.now.classes.now.lists at.now.side at.now.round
+    ensures agrees { IfOk result (λ b. Decides b (AgreesWithFirst (frame_of (rules_of at.now.signals.now)) at.now.classes.now.lists at.now.aspect at.now.round
         signal)) }
 {
     let class = at.classes.class_of(at.round, signal);
@@ -79,12 +79,12 @@ fn agrees(
     Ok(are_same(&kept[class as usize - 1], &sums))
 }
 
-/// Returns the first signal before `end` that differs on the side from the first member of its class.
+/// Returns the first signal before `end` that differs on the aspect from the first member of its class.
 /// Makes the sums of a first member once another member is compared with it. The first `end` signals are in at most as many classes.
 /// Once stand-ins are listed, makes no sums of a signal with an earlier stand-in.
-fn apart_before(alloc: Global, at: &SideKeys<'_>, end: u32) -> Result<Option<u32>, AllocError>
+fn apart_before(alloc: Global, at: &AspectKeys<'_>, end: u32) -> Result<Option<u32>, AllocError>
     requires { end ≤ length (signals_in (rules_of at.now.signals.now) at.now.round) }
-    ensures { IfOk result (IsFirstApart (frame_of (rules_of at.now.signals.now)) at.now.classes.now.lists at.now.side at.now.round end) }
+    ensures { IfOk result (IsFirstApart (frame_of (rules_of at.now.signals.now)) at.now.classes.now.lists at.now.aspect at.now.round end) }
 {
     let classes = at.classes;
     let round = at.round;
@@ -106,25 +106,25 @@ fn apart_before(alloc: Global, at: &SideKeys<'_>, end: u32) -> Result<Option<u32
     Ok(None)
 }
 
-/// Returns the first signal before `end` that differs on one side from the first member of its class.
+/// Returns the first signal before `end` that differs on one aspect from the first member of its class.
 /// Makes no sums if each class of the round has one member. Of many signals compares a few before it lists the boards: where one of these differs,
 /// listing the boards would take more time than it saves.
 pub(crate) fn first_apart(
     alloc: Global,
     grouped: &Grouped<'_>,
-    side: Side,
+    aspect: Aspect,
     round: u8,
     end: u32,
 ) -> Result<Option<u32>, AllocError>
-    requires side { HasSide (frame_of (rules_of grouped.now.signals.now)) side round }
+    requires aspect { HasAspect (frame_of (rules_of grouped.now.signals.now)) aspect round }
     requires within { end ≤ length (signals_in (rules_of grouped.now.signals.now) round) }
-    ensures { IfOk result (IsFirstApart (frame_of (rules_of grouped.now.signals.now)) grouped.now.classes.now.lists side round end) }
+    ensures { IfOk result (IsFirstApart (frame_of (rules_of grouped.now.signals.now)) grouped.now.classes.now.lists aspect round end) }
 {
     let Grouped { signals, classes } = *grouped;
     if are_alone(classes, round) {
         return Ok(None);
     }
-    let at = SideKeys::without_tables(alloc, signals, classes, side, round)?;
+    let at = AspectKeys::without_tables(alloc, signals, classes, aspect, round)?;
     if MANY <= end {
         let apart = apart_before(alloc, &at, FEW)?;
         if apart.is_some() {

@@ -5,8 +5,8 @@ ghost use Rattle.gs_model.specs.Frame.{frame_of};
 ghost use Rattle.gs_tree.specs.Trees.{rules_of};
 ghost use Rattle.gs_lossless.specs.Scans.{StandFor};
 
+use crate::aspect_keys::AspectKeys;
 use crate::boards::stand_ins;
-use crate::side_keys::SideKeys;
 use std::alloc::{AllocError, Global};
 
 /// The number of signals that are compared before stand-ins are listed.
@@ -17,12 +17,12 @@ const SOON: u32 = 4096;
 /// At every other signal, and in every other round, returns `listed` unchanged.
 pub(crate) fn stand_ins_at(
     alloc: Global,
-    at: &SideKeys<'_>,
+    at: &AspectKeys<'_>,
     signal: u32,
     listed: Vec<u32>,
 ) -> Result<Vec<u32>, AllocError>
-    requires { StandFor (frame_of (rules_of at.now.signals.now)) at.now.classes.now.lists at.now.side at.now.round listed.items }
-    ensures { IfOk result (λ v. StandFor (frame_of (rules_of at.now.signals.now)) at.now.classes.now.lists at.now.side at.now.round v.items) }
+    requires { StandFor (frame_of (rules_of at.now.signals.now)) at.now.classes.now.lists at.now.aspect at.now.round listed.items }
+    ensures { IfOk result (λ v. StandFor (frame_of (rules_of at.now.signals.now)) at.now.classes.now.lists at.now.aspect at.now.round v.items) }
 {
     if signal == SOON && at.round == at.signals.rounds() {
         stand_ins(alloc, at.signals, &at.keys)

@@ -6,12 +6,12 @@ ghost use Rattle.std.specs.Prelude.{◌≡◌, ◌<◌, ◌≤◌, IfOk, IfSome,
 ghost use Rattle.gs_game.specs.GoingOn.{StopsAfter};
 ghost use Rattle.gs_model.specs.{Rows.{rows}, Classes.{IsClasses, list_of}, Frame.{frame_of, signal_count}, Game.{round_count}};
 ghost use Rattle.gs_tree.specs.Trees.{rules_of};
-ghost use Rattle.gs_lossless.specs.{Amounts.{HasSide}, Scans.{IsFirstApart}, Stopped.{stopped_lists as lists_after}};
-ghost use Rattle.gs_lossless.specs.declared.sides.Side.TheVariants.{Deals};
+ghost use Rattle.gs_lossless.specs.{Amounts.{HasAspect}, Scans.{IsFirstApart}, Stopped.{stopped_lists as lists_after}};
+ghost use Rattle.gs_lossless.specs.declared.aspects.Aspect.TheVariants.{Deals};
 
+use crate::aspects::Aspect;
 use crate::grouped::Grouped;
 use crate::scan::first_apart;
-use crate::sides::Side;
 use gs_filter::{ClassError, Classes};
 use gs_tree::Signals;
 use std::alloc::{AllocError, Global};
@@ -63,7 +63,7 @@ fn first_apart_over(
     round: u8,
     stopped: &Signals,
 ) -> Result<Option<u32>, AllocError>
-    requires side { HasSide (frame_of (rules_of grouped.now.signals.now)) Deals round }
+    requires aspect { HasAspect (frame_of (rules_of grouped.now.signals.now)) Deals round }
     requires before_last { round < round_count (rules_of grouped.now.signals.now) }
     requires stops { StopsAfter (rules_of grouped.now.signals.now) round (rules_of stopped.now) }
     ensures { let f = frame_of (rules_of grouped.now.signals.now) in
@@ -76,9 +76,9 @@ fn first_apart_over(
             signals: stopped,
             classes: &seen,
         };
-        return first_apart(alloc, &seen, Side::Deals, round, end);
+        return first_apart(alloc, &seen, Aspect::Deals, round, end);
     }
-    first_apart(alloc, grouped, Side::Deals, round, end)
+    first_apart(alloc, grouped, Aspect::Deals, round, end)
 }
 
 /// Returns the first signal of a round whose deals weigh differently from those of the first member of its class.
@@ -87,7 +87,7 @@ pub(crate) fn first_deals_apart(
     grouped: &Grouped<'_>,
     round: u8,
 ) -> Result<Option<u32>, AllocError>
-    requires { HasSide (frame_of (rules_of grouped.now.signals.now)) Deals round }
+    requires { HasAspect (frame_of (rules_of grouped.now.signals.now)) Deals round }
     ensures { let f = frame_of (rules_of grouped.now.signals.now) in
         IfOk result (IsFirstApart f grouped.now.classes.now.lists Deals round (signal_count f round)) }
 {
@@ -98,5 +98,5 @@ pub(crate) fn first_deals_apart(
             return first_apart_over(alloc, grouped, round, &stopped);
         }
     }
-    first_apart(alloc, grouped, Side::Deals, round, signals.count(round))
+    first_apart(alloc, grouped, Aspect::Deals, round, signals.count(round))
 }

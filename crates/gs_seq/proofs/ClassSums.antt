@@ -3,7 +3,7 @@ use Rattle.std.proofs.{Common.{◌≡◌, ℕ, ℤ, pos, ◌<◌, ◌≤◌, Boo
 use Rattle.std.proofs.{lemmas.Bool.Decides.{Decides-eqb}, lemmas.Int.{ints}}
 use Rattle.std.specs.{Prelude.{◌==◌, ◌*ℤ◌}, Ordering.{int_eq}}
 use borrow.Author.Differences.{product_is}
-use Rattle.gs_lossless.specs.{Amounts.{AreAmounts, amount}, Sums.{weight_at}, declared.parts.Part.{Part}, declared.sides.Side.TheVariants.{Deals}}
+use Rattle.gs_lossless.specs.{Amounts.{AreAmounts, amount}, Sums.{weight_at}, declared.parts.Part.{Part}, declared.aspects.Aspect.TheVariants.{Deals}}
 use Rattle.gs_model.specs.{Classes.{ClassLists, InOneClass, class_of}, Deals.{Deal}, Frame.{Frame, at_round, last_round, signal_count, signals_in}}
 use Rattle.gs_model.specs.{Lossless.{IsLossless, weight_against, weight_with}, Pairs.{pair_sum}, Sums.{sum_z}}
 use Rattle.gs_model.proofs.{ClassTotals.{class_size_of, class_total, class_total_is}, Flow.{by_ancestor}, Known.{Tabled}, Basics.{sum-same, sum-cond}}

@@ -4,7 +4,7 @@ use Rattle.std.proofs.{Common.{count_by, eqb}, Math.IntN.{*ℤ_comm, *ℤ-zero},
 use Rattle.std.proofs.{lemmas.List.Elements.{All-from_recursion}, lemmas.List.FromFn.{fill_by_all}, lemmas.List.Sums.{get_or-le-sum_by}}
 use Rattle.std.specs.{Prelude.{◌==◌, ◌*ℤ◌}, List.{AllByRecursion, range_with_len}, declared.cmp.Ordering.TheVariants.{Less}}
 use borrow.Author.Differences.{product_is}
-use Rattle.gs_lossless.specs.{Amounts.{AreAmounts}, Sums.{PartsRise as Ascends, key_cmp}, declared.parts.Part.{Part}, declared.sides.Side.TheVariants.{Deals}}
+use Rattle.gs_lossless.specs.{Amounts.{AreAmounts}, Sums.{PartsRise as Ascends, key_cmp}, declared.parts.Part.{Part}, declared.aspects.Aspect.TheVariants.{Deals}}
 use Rattle.gs_model.specs.{Classes.{ClassLists, class_of, class_size, list_of}, Deals.{Deal}, Frame.{Frame, at_round, last_round, signal_count}}
 use Rattle.gs_model.specs.{Lossless.{IsLossless}, Pairs.{pair_sum}, Sums.{sum_z}}
 use Rattle.gs_model.proofs.{ClassTotals.{class_size_of}, Known.{Tabled}, Regroup.{sum_z-pos}, Total.{sum_z-same, sum_z-zero}, Basics.{sum_by-map}}

@@ -2,7 +2,7 @@
 use Rattle.std.proofs.{Common.{◌≡◌, ℕ, ◌*◌, ◌<◌, ◌≤◌, ◌^◌, List, [], length, ◌∙◌, arith, sum_by}, lemmas.List.Sums.{sum_by-cons}}
 use Rattle.gs_filter.specs.Filter.{Filter}
 use Rattle.gs_game.specs.{Games.{game_of}, declared.valid.ValidGame.{ValidGame}}
-use Rattle.gs_lossless.specs.{Amounts.{AreAmounts}, declared.parts.Part.{Part}, declared.sides.Side.TheVariants.{Deals}}
+use Rattle.gs_lossless.specs.{Amounts.{AreAmounts}, declared.parts.Part.{Part}, declared.aspects.Aspect.TheVariants.{Deals}}
 use Rattle.gs_lossless.proofs.Descent.{tabled}
 use Rattle.gs_model.specs.{Classes.{class_of, class_size, list_of}, Frame.{last_round, signal_count}, Lossless.{IsLossless}}
 use Rattle.gs_model.proofs.Known.{Tabled}

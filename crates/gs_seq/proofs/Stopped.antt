@@ -7,7 +7,7 @@ use Rattle.gs_filter.specs.Filter.{Filter}
 use Rattle.gs_game.specs.{Games.{game_of}, GoingOn.{StopsAfter, ways_on}, declared.valid.ValidGame.{ValidGame}}
 use Rattle.gs_game.proofs.{SomeWays.{some_ways}, StopLaws.{against_stopped, stops_later, stops_signals}}
 use Rattle.gs_lossless.specs.{Amounts.{AreAmounts}, Sums.{PartsRise, key_cmp, sum_at, weight_at}, declared.parts.Part.{Part}}
-use Rattle.gs_lossless.specs.declared.sides.Side.TheVariants.{Deals}
+use Rattle.gs_lossless.specs.declared.aspects.Aspect.TheVariants.{Deals}
 use Rattle.gs_lossless.proofs.Transfer.{amount_before_last}
 use Rattle.gs_model.specs.{Classes.{ClassLists, class_of, class_size, list_of}, Deals.{Deal}, Frame.{at_round, last_round, signal_count, total_weight}}
 use Rattle.gs_model.specs.{Game.{round_count}, Lossless.{IsLossless, weight_against}, Signals.{Signal, signals}}

@@ -4,13 +4,13 @@ ghost use Rattle.std.specs.{Prelude.{◌≡◌, ◌+◌, ◌-◌, ◌<◌, ℕ, 
 ghost use Rattle.gs_game.specs.GoingOn.{StopsAfter, ways_on as ways_after};
 ghost use Rattle.gs_model.specs.{Classes.{IsClass, list_of}, Frame.{last_round}, Game.{round_count}, Lossless.{IsLossless}};
 ghost use Rattle.gs_tree.specs.Trees.{rules_of};
-ghost use Rattle.gs_lossless.specs.declared.sides.Side.TheVariants as sides;
+ghost use Rattle.gs_lossless.specs.declared.aspects.Aspect.TheVariants as aspects;
 ghost use Rattle.gs_seq.specs.{Games.{frame_in}, Rows.{AreRowsIn, IsRow}, declared.pair.Pair.{Pair as Paired}};
 
 use crate::pair::Pair;
 use crate::rows::{row_of, rows_in};
 use gs_filter::Classes;
-use gs_lossless::{Lossless, Side, SideKeys, stopped_classes};
+use gs_lossless::{Aspect, AspectKeys, Lossless, stopped_classes};
 use gs_tree::Signals;
 use std::alloc::{AllocError, Global};
 
@@ -42,13 +42,13 @@ fn ways_on(at: &StoppedRound<'_>) -> u64
 fn row_by(
     alloc: Global,
     at: &StoppedRound<'_>,
-    deals: &SideKeys<'_>,
+    deals: &AspectKeys<'_>,
     ways: u64,
     class: u32,
 ) -> Result<Vec<Pair>, AllocError>
     requires signals { deals.now.signals.now ≡ at.now.stopped.now }
     requires classes { deals.now.classes.now ≡ at.now.seen.now }
-    requires side { (deals.now.side ≡ sides.Deals) × (deals.now.round ≡ at.now.round) }
+    requires aspect { (deals.now.aspect ≡ aspects.Deals) × (deals.now.round ≡ at.now.round) }
     requires ways { ways ≡ ways_after (rules_of at.now.signals.now) at.now.round }
     requires class { IsClass at.now.classes.now.lists at.now.round class }
     ensures { IfOk result (λ v. IsRow (frame_in at.now.signals.now.game.now) at.now.classes.now.lists at.now.round class v.items) }
@@ -66,11 +66,11 @@ fn row_by(
 fn stopped_rows(
     alloc: Global,
     at: &StoppedRound<'_>,
-    deals: &SideKeys<'_>,
+    deals: &AspectKeys<'_>,
 ) -> Result<Vec<Vec<Pair>>, AllocError>
     requires signals { deals.now.signals.now ≡ at.now.stopped.now }
     requires classes { deals.now.classes.now ≡ at.now.seen.now }
-    requires side { (deals.now.side ≡ sides.Deals) × (deals.now.round ≡ at.now.round) }
+    requires aspect { (deals.now.aspect ≡ aspects.Deals) × (deals.now.round ≡ at.now.round) }
     ensures { IfOk result (λ v. AreRowsIn (frame_in at.now.signals.now.game.now) at.now.classes.now.lists at.now.round v.items) }
 {
     let ways = ways_on(at);
@@ -87,7 +87,7 @@ fn stopped_rows(
 fn rows_by(alloc: Global, at: &StoppedRound<'_>) -> Result<Vec<Vec<Pair>>, AllocError>
     ensures { IfOk result (λ v. AreRowsIn (frame_in at.now.signals.now.game.now) at.now.classes.now.lists at.now.round v.items) }
 {
-    let deals = SideKeys::of(alloc, at.stopped, at.seen, Side::Deals, at.round)?;
+    let deals = AspectKeys::of(alloc, at.stopped, at.seen, Aspect::Deals, at.round)?;
     stopped_rows(alloc, at, &deals)
 }
 

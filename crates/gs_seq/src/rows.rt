@@ -2,7 +2,7 @@
 
 ghost use Rattle.std.specs.Prelude.{◌≡◌, ◌+◌, ◌*◌, ◌<◌, ◌≤◌, ◌^◌, IfOk, IsTrue, OnOk, All, false, length, map, pos, reverse, sum_by, unsigned_abs, ◌+ℤ◌, ◌*ℤ◌};
 ghost use Rattle.gs_model.specs.{Classes.{IsClass}, Frame.{last_round}, Lossless.{IsLossless}};
-ghost use Rattle.gs_lossless.specs.declared.sides.Side.TheVariants as sides;
+ghost use Rattle.gs_lossless.specs.declared.aspects.Aspect.TheVariants as aspects;
 ghost use Rattle.gs_seq.specs.{Cells.{AreCounts, cell_count}, Games.{frame_in}};
 ghost use Rattle.gs_seq.specs.Rows.{AreRows, AreRowsIn, AreWholes, IsModerate, IsRow, IsSingleIn, IsSlim};
 ghost use Rattle.gs_seq.specs.Rows.{gathered, join, pair_of, pairs_of, together, whole_row};
@@ -13,7 +13,7 @@ use crate::pair::Pair;
 use crate::single::are_made;
 use gs_filter::Classes;
 use gs_game::ValidGame;
-use gs_lossless::{Lossless, Part, Side, SideKeys};
+use gs_lossless::{Aspect, AspectKeys, Lossless, Part};
 use gs_tree::Signals;
 use std::alloc::{AllocError, Global};
 
@@ -104,8 +104,8 @@ pub(crate) fn row_of(alloc: Global, sums: &[Part], members: u64) -> Result<Vec<P
 }
 
 /// Returns the row of a class in a round, from the sums of its first member: all members have the same sums.
-fn class_row(alloc: Global, deals: &SideKeys<'_>, class: u32) -> Result<Vec<Pair>, AllocError>
-    requires side { deals.now.side ≡ sides.Deals }
+fn class_row(alloc: Global, deals: &AspectKeys<'_>, class: u32) -> Result<Vec<Pair>, AllocError>
+    requires aspect { deals.now.aspect ≡ aspects.Deals }
     requires lossless { IsLossless (frame_in deals.now.signals.now.game.now) deals.now.classes.now.lists }
     requires class { IsClass deals.now.classes.now.lists deals.now.round class }
     ensures { IfOk result (λ v. IsRow (frame_in deals.now.signals.now.game.now) deals.now.classes.now.lists deals.now.round class v.items) }
@@ -117,8 +117,8 @@ fn class_row(alloc: Global, deals: &SideKeys<'_>, class: u32) -> Result<Vec<Pair
 }
 
 /// Returns the rows of all classes of a round.
-fn class_rows(alloc: Global, deals: &SideKeys<'_>) -> Result<Vec<Vec<Pair>>, AllocError>
-    requires side { deals.now.side ≡ sides.Deals }
+fn class_rows(alloc: Global, deals: &AspectKeys<'_>) -> Result<Vec<Vec<Pair>>, AllocError>
+    requires aspect { deals.now.aspect ≡ aspects.Deals }
     requires lossless { IsLossless (frame_in deals.now.signals.now.game.now) deals.now.classes.now.lists }
     ensures { IfOk result (λ v. AreRowsIn (frame_in deals.now.signals.now.game.now) deals.now.classes.now.lists deals.now.round v.items) }
 {
@@ -144,7 +144,7 @@ pub(crate) fn rows_in(
     requires top { round ≤ last_round (frame_in signals.now.game.now) }
     ensures { IfOk result (λ v. AreRowsIn (frame_in signals.now.game.now) classes.now.lists round v.items) }
 {
-    let deals = SideKeys::of(alloc, signals, classes, Side::Deals, round)?;
+    let deals = AspectKeys::of(alloc, signals, classes, Aspect::Deals, round)?;
     class_rows(alloc, &deals)
 }
 

@@ -10,10 +10,10 @@ use Rattle.gs_model.specs.Frame.{Frame, at_round, frame_of, last_round, signal_c
 use Rattle.gs_model.specs.{Lossless.{weight_against, weight_with}, Signals.{signals}}
 use Rattle.gs_model.proofs.{Ranges.{signal_count_is}, Walked.{last_round_of}}
 use Rattle.gs_lossless.proofs.{Alike.{firsts_of_deals}, Descent.{tabled}}
-use Rattle.gs_lossless.specs.{Amounts.{HaveEqualAmounts, AgreesWithFirst, AreSideFirsts, HasSide, amount, keys_of}, Alike.{AreStandIns}}
-use Rattle.gs_lossless.specs.{declared.parts.Part.{Part}, declared.sides.Side.{Side}}
-use Rattle.gs_lossless.specs.declared.sides.Side.TheVariants.{Deals, Children}
-use Rattle.gs_split.specs.Turns.{AreSettled, AreSideNumbers, AreTurnNumbers, HaveSameSums, IsSettled}
+use Rattle.gs_lossless.specs.{Amounts.{HaveEqualAmounts, AgreesWithFirst, AreAspectFirsts, HasAspect, amount, keys_of}, Alike.{AreStandIns}}
+use Rattle.gs_lossless.specs.{declared.parts.Part.{Part}, declared.aspects.Aspect.{Aspect}}
+use Rattle.gs_lossless.specs.declared.aspects.Aspect.TheVariants.{Deals, Children}
+use Rattle.gs_split.specs.Turns.{AreSettled, AreAspectNumbers, AreTurnNumbers, HaveSameSums, IsSettled}
 
 -- whether two sums are the same
 abbrev pub part_eq : Part → Part → Bool
@@ -25,18 +25,18 @@ key_eq x y = (x.0 == y.0) && ((x.1 == y.1) && (x.2 == y.2))
 
 module _ (f : Frame) (lists : ClassLists) (round : ℕ) where
   -- members of a settled class agree with its first member
-  settled_agrees : (side : Side) (firsts : List ℕ) (settled : List Bool) (s : ℕ) → AreSideFirsts f lists side round firsts
-      → AreSettled lists round firsts settled → s < length firsts → IsSettled lists round settled s → AgreesWithFirst f lists side round s
-  settled_agrees side firsts settled s stands h l one = subst (λ (x : ℕ). HaveEqualAmounts f lists side round x s) (h.first s l one) (stands.agree s l)
+  settled_agrees : (aspect : Aspect) (firsts : List ℕ) (settled : List Bool) (s : ℕ) → AreAspectFirsts f lists aspect round firsts
+      → AreSettled lists round firsts settled → s < length firsts → IsSettled lists round settled s → AgreesWithFirst f lists aspect round s
+  settled_agrees aspect firsts settled s stands h l one = subst (λ (x : ℕ). HaveEqualAmounts f lists aspect round x s) (h.first s l one) (stands.agree s l)
 
   -- members of a settled class agree
-  pub settled_alike : (side : Side) (firsts : List ℕ) (settled : List Bool) (i j : ℕ) → AreSideFirsts f lists side round firsts
+  pub settled_alike : (aspect : Aspect) (firsts : List ℕ) (settled : List Bool) (i j : ℕ) → AreAspectFirsts f lists aspect round firsts
       → AreSettled lists round firsts settled → i < length firsts → j < length firsts → class_of lists round i ≡ class_of lists round j
-      → IsSettled lists round settled i → IsSettled lists round settled j → HaveEqualAmounts f lists side round i j
-  settled_alike side firsts settled i j stands h li lj same one two =
-      let p = settled_agrees side firsts settled i stands h li one in
-      let q = settled_agrees side firsts settled j stands h lj two in
-      λ c o. sym (p c o) ∙ ap (λ x. amount f lists side round (first_member lists round x) c o) same ∙ q c o
+      → IsSettled lists round settled i → IsSettled lists round settled j → HaveEqualAmounts f lists aspect round i j
+  settled_alike aspect firsts settled i j stands h li lj same one two =
+      let p = settled_agrees aspect firsts settled i stands h li one in
+      let q = settled_agrees aspect firsts settled j stands h lj two in
+      λ c o. sym (p c o) ∙ ap (λ x. amount f lists aspect round (first_member lists round x) c o) same ∙ q c o
 
   -- before the last round agreement is about children
   children_same : (i j : ℕ) → round < last_round f → HaveEqualAmounts f lists Children round i j ↔ HaveSameSums f lists round i j
@@ -55,13 +55,13 @@ module _ (f : Frame) (lists : ClassLists) (round : ℕ) where
         (λ h c o. subst (λ b. P b c o) (sym t) (h.sums e c o)),
       )
 
-  pub numbers_of_children : (numbers : List ℕ) → round < last_round f → AreSideNumbers f lists Children round numbers → AreTurnNumbers f lists round numbers
+  pub numbers_of_children : (numbers : List ℕ) → round < last_round f → AreAspectNumbers f lists Children round numbers → AreTurnNumbers f lists round numbers
   numbers_of_children numbers l h = record {
     long = h.long;
     same = λ i j li lj e. let a = h.same i j li lj e in let b = children_same i j l in (λ x. b.0 (a.0 x), λ y. a.1 (b.1 y));
   }
 
-  pub numbers_of_deals : (numbers : List ℕ) → round ≡ last_round f → AreSideNumbers f lists Deals round numbers → AreTurnNumbers f lists round numbers
+  pub numbers_of_deals : (numbers : List ℕ) → round ≡ last_round f → AreAspectNumbers f lists Deals round numbers → AreTurnNumbers f lists round numbers
   numbers_of_deals numbers l h = record {
     long = h.long;
     same = λ i j li lj e. let a = h.same i j li lj e in let b = deals_same i j l in (λ x. b.0 (a.0 x), λ y. a.1 (b.1 y));
@@ -71,8 +71,8 @@ module _ (f : Frame) (lists : ClassLists) (round : ℕ) where
 module _ (f : Frame) (lists : ClassLists) (round : ℕ) (firsts numbers : List ℕ) (settled : List Bool) where
   module _ (known : AreSettled lists round firsts settled) (all : (k : ℕ) → k < length settled → get_or settled k false ≡ true) where
     module _ (within : (s : ℕ) → s < length firsts → IsClass lists round (class_of lists round s)) (none : numbers ≡ replicate (length firsts) 0) where
-      settled_numbers : (side : Side) → AreSideFirsts f lists side round firsts → AreSideNumbers f lists side round numbers
-      settled_numbers side stands =
+      settled_numbers : (aspect : Aspect) → AreAspectFirsts f lists aspect round firsts → AreAspectNumbers f lists aspect round numbers
+      settled_numbers aspect stands =
           let long : length numbers ≡ length firsts = ap (λ (l : List ℕ). length l) none ∙ length-replicate {A = ℕ} (length firsts) 0 in
           let zero : (s : ℕ) → s < length numbers → get_or numbers s 0 ≡ 0 = λ s l. ap (λ (l : List ℕ). get_or l s 0) none
           ∙ get_or-replicate (length firsts) s 0 0 (omega (arith, l, long)) in
@@ -83,12 +83,12 @@ module _ (f : Frame) (lists : ClassLists) (round : ℕ) (firsts numbers : List �
             same = λ i j li lj e.
                 let a : i < length firsts = omega (arith, li, long) in
                 let b : j < length firsts = omega (arith, lj, long) in (
-                  (λ _. settled_alike f lists round side firsts settled i j stands known a b e (is i a) (is j b)),
+                  (λ _. settled_alike f lists round aspect firsts settled i j stands known a b e (is i a) (is j b)),
                   (λ _. zero i li ∙ sym (zero j lj)),
                 );
           }
 
-      pub settled_turn : 0 < round → round ≤ last_round f → ((side : Side) → HasSide f side round → AreSideFirsts f lists side round firsts)
+      pub settled_turn : 0 < round → round ≤ last_round f → ((aspect : Aspect) → HasAspect f aspect round → AreAspectFirsts f lists aspect round firsts)
           → AreTurnNumbers f lists round numbers
       settled_turn some top stands = ⊎_elim
           (λ (lt : round < last_round f). numbers_of_children f lists round numbers lt (settled_numbers Children (stands Children (some, lt))))
@@ -111,7 +111,7 @@ classes_are_keys g p lists long =
 -- stand-ins for these keys are stand-ins in the last round
 pub firsts_of_classes : (g : Game) → IsPlayable g → (round : ℕ) (lists : ClassLists) (keys firsts : List ℕ) → round ≡ round_count g
     → length (list_of lists round) ≡ signal_count (frame_of g) round → keys ≡ list_of lists round → AreStandIns g keys firsts
-    → (side : Side) → HasSide (frame_of g) side round → AreSideFirsts (frame_of g) lists side round firsts
+    → (aspect : Aspect) → HasAspect (frame_of g) aspect round → AreAspectFirsts (frame_of g) lists aspect round firsts
 firsts_of_classes g p round lists keys firsts e long is h Children has = absurd (omega (arith, has.1, e, last_round_of g))
 firsts_of_classes g p round lists keys firsts e long is h Deals has =
     let f = frame_of g in
@@ -120,17 +120,17 @@ firsts_of_classes g p round lists keys firsts e long is h Deals has =
     firsts_of_deals g p Deals round has e lists keys firsts (is ∙ subst P top (classes_are_keys g p lists) long) h
 
 -- each signal stands for itself
-pub firsts_of_themselves : (g : Game) (side : Side) (round n : ℕ) (lists : ClassLists) (firsts : List ℕ) → 0 < round → round ≤ round_count g
+pub firsts_of_themselves : (g : Game) (aspect : Aspect) (round n : ℕ) (lists : ClassLists) (firsts : List ℕ) → 0 < round → round ≤ round_count g
     → n ≡ length (signals g round) → length firsts ≡ n
-    → ((s : ℕ) → s < n → get_or firsts s 0 ≡ s) → AreSideFirsts (frame_of g) lists side round firsts
-firsts_of_themselves g side round n lists firsts some top e long each =
+    → ((s : ℕ) → s < n → get_or firsts s 0 ≡ s) → AreAspectFirsts (frame_of g) lists aspect round firsts
+firsts_of_themselves g aspect round n lists firsts some top e long each =
     let f = frame_of g in
     let all = signal_count_is g round some top in
     record {
       long = long ∙ e ∙ sym all;
       before = λ s l. let x = each s (omega (arith, l, long)) in omega (arith, x);
       class = λ s l. ap (class_of lists round) (each s (omega (arith, l, long)));
-      agree = λ s l c o. ap (λ (x : ℕ). amount f lists side round x c o) (each s (omega (arith, l, long)));
+      agree = λ s l c o. ap (λ (x : ℕ). amount f lists aspect round x c o) (each s (omega (arith, l, long)));
     }
 
 -- three numbers are equal exactly where the test says so

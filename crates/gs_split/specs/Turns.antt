@@ -2,7 +2,7 @@
 use Rattle.std.specs.Prelude.{ℕ, ◌-◌, ◌<◌, ◌≤◌, ◌≡◌, ◌↔◌, ℤ, Bool, true, false, List, get_or, length}
 use Rattle.gs_model.specs.{Classes.{ClassLists, InOneClass, class_count, class_of, first_member, list_of}, Frame.{Frame, last_round, parents_of, signal_count}}
 use Rattle.gs_model.specs.{Lossless.{children_in, weight_with}, Numbering.{IsClassesOf}}
-use Rattle.gs_lossless.specs.{Amounts.{HaveEqualAmounts}, declared.sides.Side.{Side}}
+use Rattle.gs_lossless.specs.{Amounts.{HaveEqualAmounts}, declared.aspects.Aspect.{Aspect}}
 
 -- ---- sums
 
@@ -15,16 +15,16 @@ pub record AreSettled (lists : ClassLists) (round : ℕ) (firsts : List ℕ) (se
   pub long : length settled ≡ class_count lists round
   pub first : (s : ℕ) → s < length firsts → IsSettled lists round settled s → get_or firsts s 0 ≡ first_member lists round (class_of lists round s)
 
--- numbers of the members of one class: equal exactly where the members agree on one side
-abbrev pub AreMemberNumbers : Frame → ClassLists → Side → ℕ → ℕ → List ℕ → Type 0
-AreMemberNumbers f lists side round class numbers = (i j : ℕ) → i < length numbers → j < length numbers → class_of lists round i ≡ class
-    → class_of lists round j ≡ class → (get_or numbers i 0 ≡ get_or numbers j 0) ↔ HaveEqualAmounts f lists side round i j
+-- numbers of the members of one class: equal exactly where the members agree on one aspect
+abbrev pub AreMemberNumbers : Frame → ClassLists → Aspect → ℕ → ℕ → List ℕ → Type 0
+AreMemberNumbers f lists aspect round class numbers = (i j : ℕ) → i < length numbers → j < length numbers → class_of lists round i ≡ class
+    → class_of lists round j ≡ class → (get_or numbers i 0 ≡ get_or numbers j 0) ↔ HaveEqualAmounts f lists aspect round i j
 
--- numbers of the signals of a round: within a class equal exactly where the signals agree on one side
-pub record AreSideNumbers (f : Frame) (lists : ClassLists) (side : Side) (round : ℕ) (numbers : List ℕ) : Type 0 where
+-- numbers of the signals of a round: within a class equal exactly where the signals agree on one aspect
+pub record AreAspectNumbers (f : Frame) (lists : ClassLists) (aspect : Aspect) (round : ℕ) (numbers : List ℕ) : Type 0 where
   pub long : length numbers ≡ signal_count f round
   pub same : (i j : ℕ) → i < length numbers → j < length numbers → class_of lists round i ≡ class_of lists round j
-      → (get_or numbers i 0 ≡ get_or numbers j 0) ↔ HaveEqualAmounts f lists side round i j
+      → (get_or numbers i 0 ≡ get_or numbers j 0) ↔ HaveEqualAmounts f lists aspect round i j
 
 -- two signals have, in the last round, the same weights by class and outcome and, before it, the same number of children in each class
 pub record HaveSameSums (f : Frame) (lists : ClassLists) (round s t : ℕ) : Type 0 where

@@ -1,11 +1,11 @@
 //! The coarsest lossless refinement of given classes: every lossless refinement of the given classes refines it.
 #![tactic(auto)]
 
+mod aspects;
 mod members;
 mod parting;
 mod proposal;
 mod rounds;
-mod sides;
 mod splitting;
 mod stays;
 mod turns;

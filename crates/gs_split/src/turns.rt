@@ -5,8 +5,8 @@ ghost use Rattle.gs_model.specs.{Rows.{rows}, Classes.{InOneClass}, Frame.{frame
 ghost use Rattle.gs_tree.specs.Trees.{rules_of};
 ghost use Rattle.gs_split.specs.Turns.{AreExact, AreKnown, AreTurnNumbers, HaveSameSums};
 
+use crate::aspects::aspect_numbers;
 use crate::parting::parted;
-use crate::sides::side_numbers;
 use gs_filter::Classes;
 use gs_lossless::Grouped;
 use gs_tree::Signals;
@@ -30,7 +30,7 @@ fn round_numbers(
     if known {
         vec![in alloc; 0; grouped.signals.count(round) as usize]
     } else {
-        side_numbers(alloc, grouped, round)
+        aspect_numbers(alloc, grouped, round)
     }
 }
 

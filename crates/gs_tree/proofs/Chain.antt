@@ -1,5 +1,5 @@
 -- The signals of a board, one after another.
-use Rattle.std.proofs.Common.{◌≡◌, ◌+◌, ◌-◌, ◌<◌, ◌≤◌, ◌∙◌, ℕ, zero, suc, Bool, true, false, cond, List, [], ◌∷◌, ◌++◌, append_assoc, append-nil, get_or, map}
+use Rattle.std.proofs.Common.{◌≡◌, ◌+◌, ◌-◌, ◌<◌, ◌≤◌, ◌∙◌, ℕ, zero, suc, Bool, true, false, cond, List, [], ◌∷◌, ◌++◌, append_assoc, append-nil, get_or, length, map}
 use Rattle.std.proofs.{Common.{sym, ap, arith, ⊎_elim}, lemmas.Bool.{cases_lt}}
 use Rattle.std.specs.{Prelude.{filter}, List.{range_with_len}}
 use Rattle.gs_model.specs.{Game.{Game, round_count}, Signals.{signal_at}}
@@ -74,3 +74,8 @@ pub chain_end : {X : Type 0} (g : Game) (h : ℕ → X) (first signal : ℕ) (ro
     → row ≡ map h (signals_on g first)
 chain_end g h first signal row l on =
     sym (ap (λ xs. row ++ map h (filter (shows_same g first) xs)) (range_end signal (last_count g) l) ∙ append-nil row) ∙ on.rest
+
+-- the next signal is nearer to the end
+pub chain_smaller : (g : Game) {firsts nexts : List ℕ} → AreBoards g firsts nexts → (s : ℕ) → s < length nexts
+    → length nexts - get_or nexts s 0 < length nexts - s
+chain_smaller g boards s l = omega (arith, l, boards.next_later s (omega (arith, l, boards.nexts_long)))

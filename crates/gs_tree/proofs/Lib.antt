@@ -22,5 +22,5 @@ pub mod Named
 pub mod Coded
 pub mod Rounds
 pub mod Weighed
-pub mod Sides
+pub mod Piles
 pub mod Chain

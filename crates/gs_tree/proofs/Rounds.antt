@@ -20,7 +20,7 @@ pub record IsTold (g : Game) (n i p : ℕ) (row : List ℕ) (l : Layer) : Type 0
   pub signal_is : signal_at g (suc n) i ≡ signal_at g n p ++ last_seen (signal_at g (suc n) i) ∷ []
   pub path_is : path_weight g.copies (signal_at g (suc n) i) ≡ path_weight g.copies (signal_at g n p) * last_edge g.copies (signal_at g (suc n) i)
 
-module _ (g : Game) (ps : List (Vec ℕ)) (ls : List Layer) (n : ℕ) (t : AreTables g ps ls) (in' : n < length ls) where
+module _ {g : Game} {ps : List (Vec ℕ)} {ls : List Layer} {n : ℕ} (t : AreTables g ps ls) (in' : n < length ls) where
   before : suc n - 1 ≡ n
   before = omega arith
 
@@ -99,11 +99,11 @@ pub one_way : (g : Game) (ps : List (Vec ℕ)) (ls : List Layer) (n : ℕ) → A
     → replicate count 1 ≡ map (path_weight g.copies) (signals g (suc n))
 one_way g ps ls n t in' row l r e before count b w =
     let ss : List Signal = signals g (suc n) in
-    let long : count ≡ length ss = sym (length-replicate count 1) ∙ ap (λ (x : List ℕ). length x) (sym w) ∙ (layer_long g ps ls n t in' l e).1 in
+    let long : count ≡ length ss = sym (length-replicate count 1) ∙ ap (λ (x : List ℕ). length x) (sym w) ∙ (layer_long t in' l e).1 in
     let wide : before ≡ length (signals g n) = sym (length-replicate before 1) ∙ ap (λ (x : List ℕ). length x) (sym b)
     ∙ length-map (signals g n) (path_weight g.copies) in
     all_ones (path_weight g.copies) ss [] count long (λ i m.
-    let h = told g ps ls n t in' row l i r e m in
+    let h = told t in' row l i r e m in
     let p : ℕ = get_or row.items i 0 in
     let path : path_weight g.copies (signal_at g n p) ≡ 1 =
     sym (get_or-map (path_weight g.copies) (signals g n) p [] 0 h.parent_in) ∙ ap (λ (x : List ℕ). get_or x p 0) b

@@ -12,7 +12,7 @@ use Rattle.gs_tree.proofs.{Beside.{left_by_cards, times-append}, Hands.{dealt}, 
 use Rattle.gs_game.proofs.Ways.{Single, single_after, times, ways_one, ways_room, ways_some}
 
 -- the ways to a signal and to own groups are one at most
-path_one : (left : List ℕ) (s : Signal) → Single left → path_weight left s ≤ 1
+pub path_one : (left : List ℕ) (s : Signal) → Single left → path_weight left s ≤ 1
 path_one left [] h = omega arith
 path_one left (p ∷ s) h =
     let l1 = left_after left p.own in

@@ -4,6 +4,7 @@ pub mod Layers
 pub mod Masks
 pub mod Plain
 pub mod Shown
+pub mod Signals
 pub mod Tables
 pub mod Texts
 pub mod Trees

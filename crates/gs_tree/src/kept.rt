@@ -5,7 +5,7 @@ ghost use Rattle.gs_game.specs.{Games.{game_of, round_rules}, Limits.{IsDealable
 ghost use Rattle.gs_model.specs.{Deals.{path_weight}, Game.{round_count}, Signals.{signal_at, signals}};
 ghost use Rattle.gs_tree.specs.{Kept.{AreKeptCards}, Layers.{last_seen}, Shown.{cards_on, seen_on, shown_by}, Tables.{AreTables}};
 
-use crate::layer::Side;
+use crate::layer::Pile;
 use crate::tables::Tables;
 use crate::ways::Ways;
 use gs_card::Card;
@@ -96,44 +96,44 @@ fn parent_cards(alloc: Global, parents: &[u32], before: &[Card]) -> Result<Vec<C
     Ok(cards)
 }
 
-/// Returns the number of cards that a round shows on one side.
-fn cards_shown(round: &Round, side: Side) -> usize
-    ensures { result ≡ shown_by side (round_rules round.now) }
+/// Returns the number of cards that a round shows in one pile.
+fn cards_shown(round: &Round, pile: Pile) -> usize
+    ensures { result ≡ shown_by pile (round_rules round.now) }
 {
-    match side {
-        Side::Own => usize::from(round.private),
-        Side::Public => usize::from(round.public),
+    match pile {
+        Pile::Own => usize::from(round.private),
+        Pile::Public => usize::from(round.public),
     }
 }
 
-/// Returns the cards on one side of the signals of round `round + 1`. Each signal has the one card of its parent and shows one more.
+/// Returns the cards in one pile of the signals of round `round + 1`. Each signal has the one card of its parent and shows one more.
 fn paired_cards(
     alloc: Global,
     game: &Game,
     tables: &Tables,
     round: usize,
     before: &[Card],
-    side: Side,
+    pile: Pile,
 ) -> Result<Vec<Card>, AllocError>
     requires tables { AreTables (game_of game.now) tables.now.parents.items tables.now.layers.items }
     requires round_in { round < length tables.now.layers.items }
-    requires before { before.now ≡ flat_map (cards_on side) (signals (game_of game.now) round) }
-    requires each { (i : ℕ) → i < length (signals (game_of game.now) round) → length (cards_on side (signal_at (game_of game.now) round i)) ≡ 1 }
+    requires before { before.now ≡ flat_map (cards_on pile) (signals (game_of game.now) round) }
+    requires each { (i : ℕ) → i < length (signals (game_of game.now) round) → length (cards_on pile (signal_at (game_of game.now) round i)) ≡ 1 }
     requires more { (i : ℕ) → i < length (signals (game_of game.now) (suc round))
-        → length (seen_on side (last_seen (signal_at (game_of game.now) (suc round) i))) ≡ 1 }
-    ensures { IfOk result (λ v. v.items ≡ flat_map (cards_on side) (signals (game_of game.now) (suc round))) }
+        → length (seen_on pile (last_seen (signal_at (game_of game.now) (suc round) i))) ≡ 1 }
+    ensures { IfOk result (λ v. v.items ≡ flat_map (cards_on pile) (signals (game_of game.now) (suc round))) }
 {
     let parents = &tables.parents[round];
     let shown = &tables.layers[round].shown;
     let mut cards = Vec::with_capacity(alloc, shown.len().saturating_mul(2))?;
     for (signal, last) in shown.iter().enumerate() {
         cards.push(before[parents[signal] as usize])?;
-        cards.push(last.on(side)[0])?;
+        cards.push(last.on(pile)[0])?;
     }
     Ok(cards)
 }
 
-/// Returns the cards on one side of the signals of round `round + 1`, from those of the round before. Each signal has its parent's cards and those that its
+/// Returns the cards in one pile of the signals of round `round + 1`, from those of the round before. Each signal has its parent's cards and those that its
 /// last round shows.
 fn next_cards(
     alloc: Global,
@@ -142,31 +142,31 @@ fn next_cards(
     round: usize,
     before: &[Card],
     each: usize,
-    side: Side,
+    pile: Pile,
 ) -> Result<Vec<Card>, AllocError>
     requires tables { AreTables (game_of game.now) tables.now.parents.items tables.now.layers.items }
     requires all { length tables.now.layers.items ≡ round_count (game_of game.now) }
     requires round_in { round < length tables.now.layers.items }
-    requires before { before.now ≡ flat_map (cards_on side) (signals (game_of game.now) round) }
-    requires each { (i : ℕ) → i < length (signals (game_of game.now) round) → length (cards_on side (signal_at (game_of game.now) round i)) ≡ each }
-    ensures { IfOk result (λ v. v.items ≡ flat_map (cards_on side) (signals (game_of game.now) (suc round))) }
+    requires before { before.now ≡ flat_map (cards_on pile) (signals (game_of game.now) round) }
+    requires each { (i : ℕ) → i < length (signals (game_of game.now) round) → length (cards_on pile (signal_at (game_of game.now) round i)) ≡ each }
+    ensures { IfOk result (λ v. v.items ≡ flat_map (cards_on pile) (signals (game_of game.now) (suc round))) }
 {
     let parents = &tables.parents[round];
     let shown = &tables.layers[round].shown;
     let now = &game.rounds[round];
-    let more = cards_shown(now, side);
+    let more = cards_shown(now, pile);
     if each == 1 && more == 0 {
         return parent_cards(alloc, parents, before);
     }
     if each == 1 && more == 1 {
-        return paired_cards(alloc, game, tables, round, before, side);
+        return paired_cards(alloc, game, tables, round, before, pile);
     }
     let room = shown.len().saturating_mul(each.saturating_add(more));
     let mut cards = Vec::with_capacity(alloc, room)?;
     for (signal, last) in shown.iter().enumerate() {
         let parent = part(before, each, parents[signal]);
         push_each(&mut cards, parent)?;
-        push_each(&mut cards, last.on(side))?;
+        push_each(&mut cards, last.on(pile))?;
     }
     Ok(cards)
 }
@@ -195,7 +195,7 @@ fn next_hands(
         round,
         &before.owns,
         before.own,
-        Side::Own,
+        Pile::Own,
     )?;
     let publics = next_cards(
         alloc,
@@ -204,7 +204,7 @@ fn next_hands(
         round,
         &before.publics,
         before.public,
-        Side::Public,
+        Pile::Public,
     )?;
     let each = paths.len().max(1);
     let own = owns.len() / each;

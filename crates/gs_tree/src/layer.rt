@@ -19,9 +19,9 @@ pub(crate) struct Shown {
     pub(crate) public: FewCards,
 }
 
-/// One of the two sides of what a signal shows.
+/// One of the two piles that a signal shows: the own cards, or the public ones.
 #[derive(Clone, Copy)]
-pub(crate) enum Side {
+pub(crate) enum Pile {
     Own,
     Public,
 }
@@ -30,14 +30,14 @@ impl Shown {
     ghost use Rattle.std.specs.Prelude.{◌≡◌};
     ghost use Rattle.gs_tree.specs.Shown.{seen_of, seen_on};
 
-    /// Returns the cards on one side.
+    /// Returns the cards in one pile.
     #[inline(always)]
-    pub(crate) fn on(&self, side: Side) -> &[Card]
-        ensures { result.now ≡ seen_on side (seen_of self.now) }
+    pub(crate) fn on(&self, pile: Pile) -> &[Card]
+        ensures { result.now ≡ seen_on pile (seen_of self.now) }
     {
-        match side {
-            Side::Own => self.own.cards(),
-            Side::Public => self.public.cards(),
+        match pile {
+            Pile::Own => self.own.cards(),
+            Pile::Public => self.public.cards(),
         }
     }
 }

@@ -6,7 +6,7 @@ ghost use Rattle.gs_model.specs.{Game.{round_count}, Signals.{parents as parents
 ghost use Rattle.gs_card.specs.Rankings.{ranking_of};
 ghost use Rattle.gs_rank.specs.Hands.{IsStrength};
 ghost use Rattle.gs_game.specs.Games.{game_of};
-ghost use Rattle.gs_tree.specs.{Boards.{AreBoards}, Kept.{AreKeptCards}, Masks.{AreMasks, HasMasks}, Plain.{IsPlain}, Tables.{AreTables}, Walk.{last_count}};
+ghost use Rattle.gs_tree.specs.{Signals.{AreSignals}};
 
 use crate::boards::{Boards, link_boards};
 use crate::deal::Deal;
@@ -46,16 +46,7 @@ pub struct Signals<'g> {
     plain: bool,
     // the own cards of each last-round signal as bits, if no kind of card has more than one copy and each player is dealt more than one private card
     masks: Option<Vec<u64>>,
-    ghost listed: { AreTables (game_of game.now.game) tables.parents.items tables.layers.items },
-    ghost ranked: { strengths.items ≡ map (signal_strength (game_of game.now.game)) (signals (game_of game.now.game) (round_count (game_of game.now.game))) },
-    ghost beside: { AreBoards (game_of game.now.game) boards.firsts.items boards.nexts.items },
-    ghost dealt: { AreKeptCards (game_of game.now.game) (round_count (game_of game.now.game)) hands.paths hands.owns.items hands.publics.items hands.own
-        hands.public },
-    ghost strong: { All (IsStrength (ranking_of game.now.game.ranking)) strengths.items },
-    ghost masked: { MatchOption masks (HasMasks (game_of game.now.game) → last_count (game_of game.now.game) ≡ 0)
-        (λ v. AreMasks (game_of game.now.game) v.items) } by { Prim.hlevel props },
-    ghost even: { IsTrue plain → IsPlain (game_of game.now.game) },
-    ghost counted: { length tables.layers.items ≡ round_count (game_of game.now.game) },
+    ghost sound: { AreSignals game.now.game tables strengths.items boards hands plain masks } by { Prim.hlevel props },
 }
 
 /// Returns for each round of a game the parent of each signal, as a place in the round before; in round 1 these are zeros. Fails only if memory runs out.
@@ -73,7 +64,7 @@ impl<'g> Signals<'g> {
     ghost use Rattle.gs_model.specs.Game.{round_count};
     ghost use Rattle.gs_model.specs.Signals.{signals, parents as parents_in, signal_at, child_count, first_child, last_edge, left_by, own_cards, public_cards};
     ghost use Rattle.gs_model.specs.{ViewTree.{signal_strength}, Deals.{Deal as Dealt, deals, own_ways, path_weight}};
-    ghost use Rattle.gs_tree.specs.{Boards.{AreBoards}, Masks.{AreMasks, HasMasks}, Texts.{signal_text}, Trees.{rules_of, deck_of}};
+    ghost use Rattle.gs_tree.specs.{Boards.{AreBoards}, Masks.{AreMasks, HasMasks}, Plain.{IsPlain}, Texts.{signal_text}, Trees.{rules_of, deck_of}};
     ghost use Rattle.gs_tree.specs.Walk.{deal_at, last_count, shows_same, IsNextPair, IsRowStart};
     ghost use Rattle.gs_card.specs.Decks.{IsDeck};
 

@@ -11,29 +11,7 @@ returns c =
     c.with_classes.ensures
 
 pub invariant_of-signals : goal.invariant_of-signals
-invariant_of-signals c =
-    let s = c.in_ok-signals.signals in
-    record {
-      listed = s.listed;
-      ranked = s.ranked;
-      beside = s.beside;
-      dealt = s.dealt;
-      strong = s.strong;
-      masked = s.masked;
-      even = s.even;
-      counted = s.counted;
-    }
+invariant_of-signals c = record { sound = c.in_ok-signals.signals.sound }
 
 pub invariant_of-signals-2 : goal.invariant_of-signals-2
-invariant_of-signals-2 c =
-    let s = c.in_ok-signals.signals in
-    record {
-      listed = s.listed;
-      ranked = s.ranked;
-      beside = s.beside;
-      dealt = s.dealt;
-      strong = s.strong;
-      masked = s.masked;
-      even = s.even;
-      counted = s.counted;
-    }
+invariant_of-signals-2 c = record { sound = c.in_ok-signals.signals.sound }

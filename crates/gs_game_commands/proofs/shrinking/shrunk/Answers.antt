@@ -17,32 +17,10 @@ returns c =
     }) c.told.ensures
 
 pub invariant_of-signals : goal.invariant_of-signals
-invariant_of-signals c =
-    let s = c.in_ok-signals.signals in
-    record {
-      listed = s.listed;
-      ranked = s.ranked;
-      beside = s.beside;
-      dealt = s.dealt;
-      strong = s.strong;
-      masked = s.masked;
-      even = s.even;
-      counted = s.counted;
-    }
+invariant_of-signals c = record { sound = c.in_ok-signals.signals.sound }
 
 pub invariant_of-signals-2 : goal.invariant_of-signals-2
-invariant_of-signals-2 c =
-    let s = c.in_ok-signals.signals in
-    record {
-      listed = s.listed;
-      ranked = s.ranked;
-      beside = s.beside;
-      dealt = s.dealt;
-      strong = s.strong;
-      masked = s.masked;
-      even = s.even;
-      counted = s.counted;
-    }
+invariant_of-signals-2 c = record { sound = c.in_ok-signals.signals.sound }
 
 pub told-requires : goal.told-requires
 told-requires c =

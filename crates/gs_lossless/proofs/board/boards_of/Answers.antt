@@ -17,11 +17,5 @@ loop-signal-preserved c =
       | else-first-signal w ↦ subst (All P) (sym (ap (λ (v : Vec Board). v.items) w.boards-is)) c.loop-signal.invariant
     ]
 
-pub board_of-requires-clause-plain : goal.board_of-requires-clause-plain
-board_of-requires-clause-plain c = grind arith
-
-pub board_of-requires-clause-once : goal.board_of-requires-clause-once
-board_of-requires-clause-once c = grind (arith, common_steps)
-
-pub board_of-requires-clause-first_in : goal.board_of-requires-clause-first_in
-board_of-requires-clause-first_in c = grind arith
+pub board_of-requires : goal.board_of-requires
+board_of-requires c = grind (arith, common_steps)

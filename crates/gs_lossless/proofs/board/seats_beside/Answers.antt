@@ -2,7 +2,7 @@ use Rattle.std.proofs.{Common.{◌-◌, ◌<◌, ◌∙◌, ◌++◌, ◌∷◌,
 use Rattle.gs_model.specs.{Game.{Game, round_count}, Signals.{signals}, ViewTree.{signal_strength}}
 use Rattle.gs_tree.specs.{Trees.{rules_of}, Walk.{last_count}}
 use Rattle.gs_lossless.specs.{Boards.{seat_of}, declared.board.Seat.{Seat}}
-use Rattle.gs_tree.proofs.Chain.{IsOnChain, chain_end, chain_more, chain_start}
+use Rattle.gs_tree.proofs.Chain.{IsOnChain, chain_end, chain_more, chain_smaller, chain_start}
 use Rattle.gs_lossless.proofs.board.seats_beside.Goals as goal
 
 pub loop-signal-init : goal.loop-signal-init
@@ -31,14 +31,7 @@ loop-signal-preserved c =
     in' c.loop-signal.invariant)
 
 pub loop-signal-smaller : goal.loop-signal-smaller
-loop-signal-smaller c =
-    let g : Game = rules_of c.args.signals.now in
-    let s : ℕ = c.loop-signal.signal in
-    let nexts : List ℕ = c.boards.result.1.now in
-    let in' : s < last_count g = omega (arith, c.loop-signal-test.true, c.boards.ensures.nexts_long) in
-    let later : s < get_or nexts s 0 = c.boards.ensures.next_later s in' in
-    let less : length nexts - get_or nexts s 0 < length nexts - s = omega (arith, c.loop-signal-test.true, later) in
-    less
+loop-signal-smaller c = chain_smaller (rules_of c.args.signals.now) c.boards.ensures c.loop-signal.signal c.loop-signal-test.true
 
 pub returns : goal.returns
 returns c =

@@ -1,3 +1,4 @@
+use Rattle.std.proofs.lemmas.Grind.{common_steps}
 use Rattle.std.proofs.{Common.{arith}, lemmas.Result.{IfOk-from_err}}
 use Rattle.gs_model.specs.{Frame.{frame_of}, Lossless.{IsLossless}}
 use Rattle.gs_tree.specs.Trees.{rules_of}
@@ -12,17 +13,14 @@ passed c = elim c.if-not-branch.branch [
   | else-not-branch w ↦ c.in_ok-settles.ensures w.if-not-branch.false
 ]
 
-pub returns-in_err-first_unlike-clause-refuted : goal.returns-in_err-first_unlike-clause-refuted
-returns-in_err-first_unlike-clause-refuted c = grind arith
+pub returns-in_err-first_unlike : goal.returns-in_err-first_unlike
+returns-in_err-first_unlike c = grind (arith, common_steps)
 
 pub invariant_of-result : goal.invariant_of-result
 invariant_of-result c = record { parents = c.requires; lossless = passed (goal.at.invariant_of-result c).Joined-not-branch }
 
 pub returns-clause-lossless : goal.returns-clause-lossless
 returns-clause-lossless c = passed (goal.at.returns-clause-lossless c).Joined-not-branch
-
-pub returns-in_err-first_unlike-clause-single : goal.returns-in_err-first_unlike-clause-single
-returns-in_err-first_unlike-clause-single c = grind arith
 
 pub returns-in_err-settles : goal.returns-in_err-settles
 returns-in_err-settles c =

@@ -3,17 +3,17 @@ use Rattle.std.specs.Prelude.{is_some, not}
 use Rattle.gs_model.specs.{Frame.{frame_of, last_round}, Signals.{signals}}
 use Rattle.gs_model.proofs.{Ranges.{in_range, signal_count_is}, Walked.{last_round_of}}
 use Rattle.gs_tree.specs.Trees.{rules_of}
-use Rattle.gs_lossless.specs.{Amounts.{AgreesWithFirst}, Scans.{AgreeBelow}, declared.sides.Side.TheVariants.{Children, Deals}}
+use Rattle.gs_lossless.specs.{Amounts.{AgreesWithFirst}, Scans.{AgreeBelow}, declared.aspects.Aspect.TheVariants.{Children, Deals}}
 use Rattle.gs_lossless.proofs.{Descent.{count_last, playable}, Scanned.{none_apart}, Settled.{lossless_by_last, over}}
 use Rattle.gs_lossless.proofs.checking.settles.Goals as goal
 
-pub first_apart-requires-clause-side : goal.first_apart-requires-clause-side
-first_apart-requires-clause-side c =
+pub first_apart-requires-clause-aspect : goal.first_apart-requires-clause-aspect
+first_apart-requires-clause-aspect c =
     let g = rules_of c.args.grouped.now.signals.now in
     (omega (arith, c.loop-round.auto.round), omega (arith, c.loop-round-test.true, c.rounds-last.ensures.value, last_round_of g))
 
-pub first_apart-requires-2-clause-side : goal.first_apart-requires-2-clause-side
-first_apart-requires-2-clause-side c =
+pub first_apart-requires-2-clause-aspect : goal.first_apart-requires-2-clause-aspect
+first_apart-requires-2-clause-aspect c =
     let g = rules_of c.args.grouped.now.signals.now in
     (c.rounds-last.ensures.some, omega (arith, c.rounds-last.ensures.value, last_round_of g))
 

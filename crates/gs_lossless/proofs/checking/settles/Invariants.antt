@@ -1,7 +1,7 @@
 use Rattle.std.proofs.Common.{◌<◌, ℕ, length}
 use Rattle.gs_model.specs.{Frame.{frame_of}, Signals.{signals}}
 use Rattle.gs_tree.specs.Trees.{rules_of}
-use Rattle.gs_lossless.specs.{Scans.{AgreeBelow}, declared.sides.Side.TheVariants.{Children}}
+use Rattle.gs_lossless.specs.{Scans.{AgreeBelow}, declared.aspects.Aspect.TheVariants.{Children}}
 use Rattle.gs_lossless.proofs.checking.settles.Given as goal
 
 abbrev pub invariant-loop-round : goal.invariant-loop-round

@@ -3,7 +3,7 @@ use Rattle.std.specs.Prelude.{unwrap_or}
 use Rattle.gs_model.specs.Frame.{frame_of, last_round, signal_count}
 use Rattle.gs_model.proofs.{Ranges.{signal_count_is}, Walked.{last_round_of}}
 use Rattle.gs_tree.specs.Trees.{rules_of}
-use Rattle.gs_lossless.specs.{Scans.{IsFirstApart}, Stops.{MatchUnlike}, declared.sides.Side.TheVariants.{Children}}
+use Rattle.gs_lossless.specs.{Scans.{IsFirstApart}, Stops.{MatchUnlike}, declared.aspects.Aspect.TheVariants.{Children}}
 use Rattle.gs_lossless.proofs.Scanned.{children_from, end_in, unlike_from}
 use Rattle.gs_lossless.proofs.checking.unlike_in.Goals as goal
 
@@ -18,16 +18,14 @@ returns-then-round-rounds c =
     unlike_from f c.args.grouped.now.classes.now.lists c.args.round c.requires.some c.in_ok-apart.apart None c.in_ok-apart.ensures
     (λ before. absurd (omega (arith, before, last)))
 
-pub first_apart-requires-clause-side : goal.first_apart-requires-clause-side
-first_apart-requires-clause-side c =
-    (c.requires.some, omega (arith, c.requires.top, c.if-round-rounds.false, c.rounds.ensures.value, last_round_of (rules_of c.args.grouped.now.signals.now)))
-
-pub first_apart-requires-clause-within : goal.first_apart-requires-clause-within
-first_apart-requires-clause-within c =
-    let g = rules_of c.args.grouped.now.signals.now in
-    let in' = end_in (frame_of g) c.args.grouped.now.classes.now.lists c.args.round _ c.in_ok-apart.apart c.in_ok-apart.ensures in
-    let all = signal_count_is g c.args.round c.requires.some (omega (arith, c.requires.top, last_round_of g)) in
-    omega (arith, in', all, c.unwrap_or-end.ensures, ap (unwrap_or c.in_ok-apart.apart) (c.count.ensures.value ∙ sym all))
+pub first_apart-requires : goal.first_apart-requires
+first_apart-requires c = record {
+  aspect = (c.requires.some, omega (arith, c.requires.top, c.if-round-rounds.false, c.rounds.ensures.value, last_round_of (rules_of c.args.grouped.now.signals.now)));
+  within = let g = rules_of c.args.grouped.now.signals.now in
+      let in' = end_in (frame_of g) c.args.grouped.now.classes.now.lists c.args.round _ c.in_ok-apart.apart c.in_ok-apart.ensures in
+      let all = signal_count_is g c.args.round c.requires.some (omega (arith, c.requires.top, last_round_of g)) in
+      omega (arith, in', all, c.unwrap_or-end.ensures, ap (unwrap_or c.in_ok-apart.apart) (c.count.ensures.value ∙ sym all));
+}
 
 pub returns : goal.returns
 returns c =

@@ -15,43 +15,39 @@ returns-in-Some-clause-kind c =
     c.sort_unstable.ensures.permutation in
     kind_moved c.args.kinds.now.list.items c.in-Some.kind.now row.items hands (c.requires.kept row c.in-Some.kind.now (sym c.in-Some.ensures.value)) moved
 
-pub returns-clause-kept : goal.returns-clause-kept
-returns-clause-kept c =
-    let hands : List ℕ = c.args.hands.now in
-    let sorted : List ℕ = c.sort_unstable.new.self.items in
-    let row : Vec ℕ = c.in_ok-row.row in
-    let kinds : List Kind = c.args.kinds.now.list.items in
-    let last : Kind = record { board = c.args.board; hands = c.in_ok-hands.hands } in
-    let moved : IsPermutation c.in_ok-hands.hands.items sorted =
-    subst (λ (l : List ℕ). IsPermutation l sorted) (c.in_ok-extend_from_slice.ensures.items ∙ ap (λ (l : List ℕ). l ++ hands) c.clear.ensures.items
-    ∙ sym c.in_ok-hands.ensures.items) c.sort_unstable.ensures.permutation in
-    let kept : IsPermutation c.in_ok-hands.hands.items row.items = subst (IsPermutation c.in_ok-hands.hands.items)
-    (sym (c.in_ok-row.ensures.items ∙ c.deref.ensures.value)) moved in
-    let all : KeepsKinds _ c.insert.new.self = kept_more kinds last c.args.kinds.now.seen c.insert.new.self row c.len-kind.result c.requires.kept
-    (omega (arith, c.len-kind.ensures, c.args.kinds.now.list.ok.0)) kept c.in_ok-insert.ensures.updates.0 in
-    subst (λ (ks : List Kind). KeepsKinds ks c.insert.new.self) (sym c.in_ok-push.ensures.items) all
-
-pub returns-clause-list : goal.returns-clause-list
-returns-clause-list c = inr (record {
-  last = record { board = c.args.board; hands = c.in_ok-hands.hands };
-  joined = c.in_ok-push.ensures.items;
-  board_is =
-      refl;
-  hands_are = c.in_ok-hands.ensures.items;
-})
-
 pub returns-in-Some-clause-list : goal.returns-in-Some-clause-list
 returns-in-Some-clause-list c = grind arith
 
-pub returns-clause-kind : goal.returns-clause-kind
-returns-clause-kind c =
-    let hands : List ℕ = c.args.hands.now in
-    let made : Vec ℕ = c.in_ok-hands.hands in
-    let kinds : List Kind = c.args.kinds.now.list.items in
-    let last : Kind = record { board = c.args.board; hands = made } in
-    subst (λ (ks : List Kind). IsKindOf ks c.len-kind.result hands) (sym c.in_ok-push.ensures.items)
-    (kind_last kinds last c.len-kind.result hands (c.len-kind.ensures ∙ c.args.kinds.now.list.ok.0)
-    (subst (IsPermutation made.items) c.in_ok-hands.ensures.items (IsPermutation-refl made.items)))
+pub returns : goal.returns
+returns c = record {
+  kind = let hands : List ℕ = c.args.hands.now in
+      let made : Vec ℕ = c.in_ok-hands.hands in
+      let kinds : List Kind = c.args.kinds.now.list.items in
+      let last : Kind = record { board = c.args.board; hands = made } in
+      subst (λ (ks : List Kind). IsKindOf ks c.len-kind.result hands) (sym c.in_ok-push.ensures.items)
+      (kind_last kinds last c.len-kind.result hands (c.len-kind.ensures ∙ c.args.kinds.now.list.ok.0)
+      (subst (IsPermutation made.items) c.in_ok-hands.ensures.items (IsPermutation-refl made.items)));
+  kept = let hands : List ℕ = c.args.hands.now in
+      let sorted : List ℕ = c.sort_unstable.new.self.items in
+      let row : Vec ℕ = c.in_ok-row.row in
+      let kinds : List Kind = c.args.kinds.now.list.items in
+      let last : Kind = record { board = c.args.board; hands = c.in_ok-hands.hands } in
+      let moved : IsPermutation c.in_ok-hands.hands.items sorted =
+      subst (λ (l : List ℕ). IsPermutation l sorted) (c.in_ok-extend_from_slice.ensures.items ∙ ap (λ (l : List ℕ). l ++ hands) c.clear.ensures.items
+      ∙ sym c.in_ok-hands.ensures.items) c.sort_unstable.ensures.permutation in
+      let kept : IsPermutation c.in_ok-hands.hands.items row.items = subst (IsPermutation c.in_ok-hands.hands.items)
+      (sym (c.in_ok-row.ensures.items ∙ c.deref.ensures.value)) moved in
+      let all : KeepsKinds _ c.insert.new.self = kept_more kinds last c.args.kinds.now.seen c.insert.new.self row c.len-kind.result c.requires.kept
+      (omega (arith, c.len-kind.ensures, c.args.kinds.now.list.ok.0)) kept c.in_ok-insert.ensures.updates.0 in
+      subst (λ (ks : List Kind). KeepsKinds ks c.insert.new.self) (sym c.in_ok-push.ensures.items) all;
+  list = inr (record {
+    last = record { board = c.args.board; hands = c.in_ok-hands.hands };
+    joined = c.in_ok-push.ensures.items;
+    board_is =
+        refl;
+    hands_are = c.in_ok-hands.ensures.items;
+  });
+}
 
 pub returns-in_err-extend_from_slice : goal.returns-in_err-extend_from_slice
 returns-in_err-extend_from_slice c = let failed = c.from_residual.ensures.0 in record {

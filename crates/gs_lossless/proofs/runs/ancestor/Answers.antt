@@ -35,13 +35,12 @@ loop-at-preserved c =
           ∙ climb g p c.args.round c.loop-at.at c.loop-at.place c.requires.some c.loop-at-test.true i.to ∙ i.same;
     }
 
-pub returns-clause-value : goal.returns-clause-value
-returns-clause-value c =
-    let g = rules_of c.args.signals.now in
-    let p = playable c.args.signals.now in
-    let here : c.loop-at.at ≡ c.args.round = omega arith in
-    sym ((tabled g p).itself c.args.round c.loop-at.place) ∙ ap (λ k. ancestor (frame_of g) k c.args.round c.loop-at.place) (sym here)
-    ∙ c.loop-at.invariant.same
-
-pub returns-clause-within : goal.returns-clause-within
-returns-clause-within c = grind arith
+pub returns : goal.returns
+returns c = record {
+  value = let g = rules_of c.args.signals.now in
+      let p = playable c.args.signals.now in
+      let here : c.loop-at.at ≡ c.args.round = omega arith in
+      sym ((tabled g p).itself c.args.round c.loop-at.place) ∙ ap (λ k. ancestor (frame_of g) k c.args.round c.loop-at.place) (sym here)
+      ∙ c.loop-at.invariant.same;
+  within = grind arith;
+}

@@ -3,13 +3,13 @@ use Rattle.std.proofs.Common.{◌∙◌, ℕ, Vec, Global, ap, arith, subst, sym
 use Rattle.gs_model.specs.{Classes.{first_member}, Frame.{frame_of}}
 use Rattle.gs_tree.specs.Trees.{rules_of}
 use Rattle.gs_lossless.specs.{Amounts.{HaveEqualAmounts}, declared.parts.Part.{Part}}
-use Rattle.gs_lossless.proofs.{Scanned.{side_classes}, Settled.{agree_if_same, same_if_agree}}
+use Rattle.gs_lossless.proofs.{Scanned.{aspect_classes}, Settled.{agree_if_same, same_if_agree}}
 use Rattle.gs_lossless.proofs.scan.agrees.Goals as goal
 
 pub class_of-class-requires-clause-within : goal.class_of-class-requires-clause-within
 class_of-class-requires-clause-within c =
     let at = c.args.at.now in
-    omega (arith, c.requires.in_range, side_classes (rules_of at.signals.now) at.classes.now at.parents at.side at.round at.has)
+    omega (arith, c.requires.in_range, aspect_classes (rules_of at.signals.now) at.classes.now at.parents at.aspect at.round at.has)
 
 pub keep_first-requires : goal.keep_first-requires
 keep_first-requires c = record {
@@ -36,13 +36,13 @@ returns c =
     let left = c.deref.ensures.value ∙ ap (λ (x : Vec Part Global). x.items) c.index.ensures in
     let right = c.deref-2.ensures.value in
     let is = c.class_of-class.ensures.value in
-    let P : ℕ → Type 0 = λ x. HaveEqualAmounts f lists at.side at.round (first_member lists at.round x) signal in
+    let P : ℕ → Type 0 = λ x. HaveEqualAmounts f lists at.aspect at.round (first_member lists at.round x) signal in
     record {
       kept = c.in_ok-keep_first.ensures.kept;
       long = c.in_ok-keep_first.ensures.long;
       agrees = (
-        (λ yes. subst P is (agree_if_same f lists at.side at.round first signal _ _ before here (sym left ∙ c.are_same.ensures.0 yes ∙ right))),
-        (λ a. c.are_same.ensures.1 (left ∙ same_if_agree f lists at.side at.round first signal _ _ before here (subst P (sym is) a) ∙ sym right)),
+        (λ yes. subst P is (agree_if_same f lists at.aspect at.round first signal _ _ before here (sym left ∙ c.are_same.ensures.0 yes ∙ right))),
+        (λ a. c.are_same.ensures.1 (left ∙ same_if_agree f lists at.aspect at.round first signal _ _ before here (subst P (sym is) a) ∙ sym right)),
       );
     }
 

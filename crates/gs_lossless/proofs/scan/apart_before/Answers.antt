@@ -3,7 +3,7 @@ use Rattle.gs_model.specs.{Classes.{class_of, first_member, list_of}, Frame.{fra
 use Rattle.gs_filter.proofs.ClassLaws.{greatest_before}
 use Rattle.gs_tree.specs.Trees.{rules_of}
 use Rattle.gs_lossless.specs.Scans.{AgreeBelow}
-use Rattle.gs_lossless.proofs.{Scanned.{agree_more, agree_self, side_classes, side_in, stood_agrees}, scan.apart_before.Goals.{Start}}
+use Rattle.gs_lossless.proofs.{Scanned.{agree_more, agree_self, aspect_classes, aspect_in, stood_agrees}, scan.apart_before.Goals.{Start}}
 use Rattle.gs_lossless.proofs.scan.apart_before.Goals as goal
 
 -- the list of the round has a class for each signal, and numbers them as they are first seen
@@ -12,16 +12,16 @@ module _ (c : Start) where
       (signals g c.args.at.now.round)
   long =
       let at = c.args.at.now in
-      side_classes (rules_of at.signals.now) at.classes.now at.parents at.side at.round at.has
+      aspect_classes (rules_of at.signals.now) at.classes.now at.parents at.aspect at.round at.has
 
   within : (0 < c.args.at.now.round) × (c.args.at.now.round ≤ length c.args.at.now.classes.now.lists)
   within =
-      let h = side_in (frame_of (rules_of c.args.at.now.signals.now)) c.args.at.now.side c.args.at.now.round c.args.at.now.has in
+      let h = aspect_in (frame_of (rules_of c.args.at.now.signals.now)) c.args.at.now.aspect c.args.at.now.round c.args.at.now.has in
       (h.0, omega (arith, h.1, ap (λ (ps : List (List ℕ)). length ps) c.args.at.now.parents, c.args.at.now.classes.now.classes.rounds))
 
   numbered : IsNumbered (list_of c.args.at.now.classes.now.lists c.args.at.now.round)
   numbered =
-      let h = side_in (frame_of (rules_of c.args.at.now.signals.now)) c.args.at.now.side c.args.at.now.round c.args.at.now.has in
+      let h = aspect_in (frame_of (rules_of c.args.at.now.signals.now)) c.args.at.now.aspect c.args.at.now.round c.args.at.now.has in
       c.args.at.now.classes.now.classes.numbered c.args.at.now.round h.0 (omega (arith, h.1, ap (λ (ps : List (List ℕ)). length ps) c.args.at.now.parents))
 
   -- before the end there are at most as many classes as signals
@@ -72,8 +72,8 @@ loop-signal-preserved-then-has_earlier c =
       long = c.loop-signal.invariant.long;
       kept = c.loop-signal.invariant.kept;
       stand = c.in_ok-firsts.ensures;
-      agree = agree_more f lists c.args.at.now.side c.args.at.now.round signal c.loop-signal.invariant.agree
-          (stood_agrees f lists c.args.at.now.side c.args.at.now.round signal firsts (c.in_ok-firsts.ensures (omega (arith, found.0))) found.0 found.1
+      agree = agree_more f lists c.args.at.now.aspect c.args.at.now.round signal c.loop-signal.invariant.agree
+          (stood_agrees f lists c.args.at.now.aspect c.args.at.now.round signal firsts (c.in_ok-firsts.ensures (omega (arith, found.0))) found.0 found.1
           c.loop-signal.invariant.agree);
     }
 
@@ -89,7 +89,7 @@ loop-signal-preserved-then-first-signal c =
       long = c.loop-signal.invariant.long;
       kept = c.loop-signal.invariant.kept;
       stand = c.in_ok-firsts.ensures;
-      agree = agree_more f lists c.args.at.now.side round signal c.loop-signal.invariant.agree (agree_self f lists c.args.at.now.side round signal own);
+      agree = agree_more f lists c.args.at.now.aspect round signal c.loop-signal.invariant.agree (agree_self f lists c.args.at.now.aspect round signal own);
     }
 
 pub returns-then-not-same : goal.returns-then-not-same
@@ -106,14 +106,14 @@ loop-signal-preserved c =
       long = c.in_ok-same.ensures.long ∙ c.loop-signal.invariant.long;
       kept = c.in_ok-same.ensures.kept;
       stand = c.in_ok-firsts.ensures;
-      agree = agree_more (frame_of (rules_of at.signals.now)) at.classes.now.lists at.side at.round c.loop-signal.signal c.loop-signal.invariant.agree
+      agree = agree_more (frame_of (rules_of at.signals.now)) at.classes.now.lists at.aspect at.round c.loop-signal.signal c.loop-signal.invariant.agree
           (c.in_ok-same.ensures.agrees.0 c.if-not-same.false);
     }
 
 pub returns : goal.returns
 returns c =
     let at = c.args.at.now in
-    subst (AgreeBelow (frame_of (rules_of at.signals.now)) at.classes.now.lists at.side at.round) (omega (arith, c.loop-signal-test.false, c.loop-signal.auto))
+    subst (AgreeBelow (frame_of (rules_of at.signals.now)) at.classes.now.lists at.aspect at.round) (omega (arith, c.loop-signal-test.false, c.loop-signal.auto))
     c.loop-signal.invariant.agree
 
 pub first-requires-clause-top : goal.first-requires-clause-top

@@ -8,7 +8,7 @@ use Rattle.gs_lossless.proofs.scan.apart_before.Given as goal
 abbrev pub invariant-loop-signal : goal.invariant-loop-signal
 invariant-loop-signal l = record {
   long : length l.kept.items ≡ min (class_count l.at.classes.now.lists l.at.round) l.end;
-  kept : AreFirstsKept (frame_of (rules_of l.at.signals.now)) l.at.classes.now.lists l.at.side l.at.round l.kept.items;
-  stand : StandFor (frame_of (rules_of l.at.signals.now)) l.at.classes.now.lists l.at.side l.at.round l.firsts.items;
-  agree : AgreeBelow (frame_of (rules_of l.at.signals.now)) l.at.classes.now.lists l.at.side l.at.round l.signal;
+  kept : AreFirstsKept (frame_of (rules_of l.at.signals.now)) l.at.classes.now.lists l.at.aspect l.at.round l.kept.items;
+  stand : StandFor (frame_of (rules_of l.at.signals.now)) l.at.classes.now.lists l.at.aspect l.at.round l.firsts.items;
+  agree : AgreeBelow (frame_of (rules_of l.at.signals.now)) l.at.classes.now.lists l.at.aspect l.at.round l.signal;
 }

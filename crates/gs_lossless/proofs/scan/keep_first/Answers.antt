@@ -4,7 +4,7 @@ use Rattle.std.proofs.{Common.{◌≡◌, ◌==◌, ◌∙◌, ◌-◌, ℕ, Lis
 use Rattle.gs_model.specs.Frame.{frame_of}
 use Rattle.gs_tree.specs.Trees.{rules_of}
 use Rattle.gs_lossless.specs.{Amounts.{AreAmounts}, declared.parts.Part.{Part}}
-use Rattle.gs_lossless.proofs.Scanned.{kept_here, kept_more, side_classes}
+use Rattle.gs_lossless.proofs.Scanned.{kept_here, kept_more, aspect_classes}
 use Rattle.gs_lossless.proofs.scan.keep_first.Goals as goal
 
 pub index-requires : goal.index-requires
@@ -16,7 +16,7 @@ index_mut-requires c = omega (arith, c.requires.class.0, c.requires.within, c.ar
 pub sums-requires : goal.sums-requires
 sums-requires c =
     let at = c.args.at.now in
-    omega (arith, c.first.ensures.within, side_classes (rules_of at.signals.now) at.classes.now at.parents at.side at.round at.has)
+    omega (arith, c.first.ensures.within, aspect_classes (rules_of at.signals.now) at.classes.now at.parents at.aspect at.round at.has)
 
 pub returns-then-not-is_empty : goal.returns-then-not-is_empty
 returns-then-not-is_empty c = record {
@@ -39,19 +39,16 @@ returns c =
     let kept = c.args.kept.now.items in
     let class = c.args.class in
     let fit = c.shrink_to_fit.new.self in
-    let shrunk = subst (AreAmounts f lists at.side at.round c.first.result) (sym c.shrink_to_fit.ensures.items) c.in_ok-sums.ensures in
-    let here = subst (λ (s : ℕ). AreAmounts f lists at.side at.round s fit.items) c.first.ensures.value shrunk in
+    let shrunk = subst (AreAmounts f lists at.aspect at.round c.first.result) (sym c.shrink_to_fit.ensures.items) c.in_ok-sums.ensures in
+    let here = subst (λ (s : ℕ). AreAmounts f lists at.aspect at.round s fit.items) c.first.ensures.value shrunk in
     record {
-      kept = kept_more f lists at.side at.round class kept fit c.requires.class.0 c.requires.within here c.requires.kept;
-      first = kept_here f lists at.side at.round class kept fit c.requires.class.0 c.requires.within here;
+      kept = kept_more f lists at.aspect at.round class kept fit c.requires.class.0 c.requires.within here c.requires.kept;
+      first = kept_here f lists at.aspect at.round class kept fit c.requires.class.0 c.requires.within here;
       long = length-set kept (class - 1) fit;
     }
 
-pub first-requires-clause-top : goal.first-requires-clause-top
-first-requires-clause-top c = grind (arith, common_steps)
-
-pub first-requires-clause-some : goal.first-requires-clause-some
-first-requires-clause-some c = grind (arith, common_steps)
+pub first-requires : goal.first-requires
+first-requires c = grind (arith, common_steps)
 
 pub returns-in_err-sums : goal.returns-in_err-sums
 returns-in_err-sums c = let failed = c.from_residual.ensures.0 in record {

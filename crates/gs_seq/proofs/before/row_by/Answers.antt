@@ -3,8 +3,8 @@ use Rattle.gs_model.proofs.Walked.{last_round_of}
 use Rattle.std.proofs.{Common.{◌≡◌, ◌*◌, ◌<◌, ◌≤◌, sum_by, length, ap, sym, ◌∙◌, subst, arith}, Math.Nat.{mul-le-mul_right}}
 use Rattle.std.proofs.lemmas.List.Sums.{count_by-le-length}
 use Rattle.std.specs.Prelude.{◌==◌}
-use Rattle.gs_lossless.specs.{Amounts.{AreAmounts}, declared.parts.Part.{Part}, declared.sides.Side.TheVariants.{Deals}}
-use Rattle.gs_lossless.proofs.{Descent.{list_long}, Settled.{if_ok}, SideOf.{as_asked}}
+use Rattle.gs_lossless.specs.{Amounts.{AreAmounts}, declared.parts.Part.{Part}, declared.aspects.Aspect.TheVariants.{Deals}}
+use Rattle.gs_lossless.proofs.{Descent.{list_long}, Settled.{if_ok}, AspectOf.{as_asked}}
 use Rattle.gs_model.specs.{Classes.{list_of}, Game.{round_count}, Signals.{signals}}
 use Rattle.gs_tree.specs.Trees.{rules_of}
 use Rattle.gs_seq.specs.{Games.{frame_in}, Rows.{IsRow, gathered}}
@@ -20,7 +20,7 @@ amounts c =
     subst (AreAmounts (frame_in c.args.at.now.stopped.now.game.now) c.args.at.now.seen.now.lists Deals c.args.at.now.round c.first-first.result)
     (sym c.deref.ensures.value)
     (as_asked (λ s k a m. AreAmounts (frame_in s.game.now) k.lists a m c.first-first.result c.in_ok-sums.sums.items) c.requires.signals c.requires.classes
-    c.requires.side c.in_ok-sums.ensures)
+    c.requires.aspect c.in_ok-sums.ensures)
 
 pub sums-requires : goal.sums-requires
 sums-requires c =
@@ -28,7 +28,7 @@ sums-requires c =
     let same = ap length (same_signals c.args.at.now.signals.now.game.now c.args.at.now.stopped.now.game.now c.args.at.now.round c.args.at.now.some few
     c.args.at.now.stops) in
     as_asked (λ s k a m. c.first-first.result < length (signals (rules_of s) m)) (sym c.requires.signals) (sym c.requires.classes)
-    (sym c.requires.side.0, sym c.requires.side.1) (omega (
+    (sym c.requires.aspect.0, sym c.requires.aspect.1) (omega (
       arith,
       c.first-first.ensures.within,
       list_long (rules_of c.args.at.now.signals.now) c.args.at.now.classes.now c.args.at.now.parents

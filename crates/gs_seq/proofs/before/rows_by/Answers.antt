@@ -2,15 +2,15 @@ use Rattle.std.proofs.Common.{arith}
 use Rattle.gs_seq.proofs.Stopped.{in_stopped}
 use Rattle.gs_seq.proofs.before.rows_by.Goals as goal
 
-pub of-requires-clause-side : goal.of-requires-clause-side
-of-requires-clause-side c = in_stopped c.args.at.now.signals.now.game.now c.args.at.now.stopped.now.game.now c.args.at.now.round c.args.at.now.some
+pub of-requires-clause-aspect : goal.of-requires-clause-aspect
+of-requires-clause-aspect c = in_stopped c.args.at.now.signals.now.game.now c.args.at.now.stopped.now.game.now c.args.at.now.round c.args.at.now.some
     (omega (arith, c.args.at.now.before_last)) c.args.at.now.stops
 
 pub stopped_rows-requires-clause-signals : goal.stopped_rows-requires-clause-signals
 stopped_rows-requires-clause-signals c = c.in_ok-deals.ensures.signals
 
-pub stopped_rows-requires-clause-side : goal.stopped_rows-requires-clause-side
-stopped_rows-requires-clause-side c = grind arith
+pub stopped_rows-requires-clause-aspect : goal.stopped_rows-requires-clause-aspect
+stopped_rows-requires-clause-aspect c = grind arith
 
 pub stopped_rows-requires-clause-classes : goal.stopped_rows-requires-clause-classes
 stopped_rows-requires-clause-classes c = grind arith

@@ -5,18 +5,7 @@ use Rattle.gs_tree.specs.Trees.{rules_of}
 use Rattle.gs_seq.proofs.before.rows_from.Goals as goal
 
 pub invariant_of-stopped : goal.invariant_of-stopped
-invariant_of-stopped c =
-    let s = c.in_ok-stopped.stopped in
-    record {
-      listed = s.listed;
-      ranked = s.ranked;
-      beside = s.beside;
-      dealt = s.dealt;
-      strong = s.strong;
-      masked = s.masked;
-      even = s.even;
-      counted = s.counted;
-    }
+invariant_of-stopped c = record { sound = c.in_ok-stopped.stopped.sound }
 
 -- the game that is looked at stops after the round
 pub rows_over-requires-clause-stops : goal.rows_over-requires-clause-stops

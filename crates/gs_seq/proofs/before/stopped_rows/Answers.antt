@@ -51,5 +51,5 @@ row_by-requires-clause-class c = grind arith
 pub overflow_add-before : goal.overflow_add-before
 overflow_add-before c = grind arith
 
-pub row_by-requires-clause-side : goal.row_by-requires-clause-side
-row_by-requires-clause-side c = grind arith
+pub row_by-requires-clause-aspect : goal.row_by-requires-clause-aspect
+row_by-requires-clause-aspect c = grind arith

@@ -1,7 +1,7 @@
 use Rattle.std.proofs.Common.{sym, arith}
 use Rattle.std.specs.Prelude.{IfOk}
 use Rattle.gs_model.specs.Lossless.{IsLossless}
-use Rattle.gs_lossless.proofs.SideOf.{as_asked}
+use Rattle.gs_lossless.proofs.AspectOf.{as_asked}
 use Rattle.gs_seq.specs.{Games.{frame_in}, Rows.{AreRowsIn}}
 use Rattle.gs_seq.proofs.rows.rows_in.Goals as goal
 
@@ -13,7 +13,7 @@ class_rows-requires-clause-lossless c =
 pub returns : goal.returns
 returns c =
     let at = c.in_ok-deals.ensures in
-    as_asked (λ s k a m. IfOk c.class_rows.result (λ v. AreRowsIn (frame_in s.game.now) k.lists m v.items)) at.signals at.classes at.side c.class_rows.ensures
+    as_asked (λ s k a m. IfOk c.class_rows.result (λ v. AreRowsIn (frame_in s.game.now) k.lists m v.items)) at.signals at.classes at.aspect c.class_rows.ensures
 
-pub class_rows-requires-clause-side : goal.class_rows-requires-clause-side
-class_rows-requires-clause-side c = grind arith
+pub class_rows-requires-clause-aspect : goal.class_rows-requires-clause-aspect
+class_rows-requires-clause-aspect c = grind arith

@@ -5,7 +5,7 @@ use Rattle.gs_split.proofs.MemberNumbers.{AreNumbering}
 use Rattle.gs_split.proofs.members.number_members.Given as goal
 
 abbrev pub invariant-loop-next : goal.invariant-loop-next
-invariant-loop-next l = AreNumbering (frame_of (rules_of l.at.signals.now)) l.at.classes.now.lists l.at.side l.at.round l.class l.initial.numbers
+invariant-loop-next l = AreNumbering (frame_of (rules_of l.at.signals.now)) l.at.classes.now.lists l.at.aspect l.at.round l.class l.initial.numbers
     l.seen.keys l.numbers l.next
 
 abbrev pub decreases-loop-next : goal.decreases-loop-next

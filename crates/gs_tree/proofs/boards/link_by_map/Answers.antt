@@ -16,14 +16,6 @@ counted c = omega (
   c.len-count.ensures,
 )
 
-pub link-requires-clause-before_in : goal.link-requires-clause-before_in
-link-requires-clause-before_in c =
-    let g : Game = game_of c.args.game.now in
-    let key : ℕ → List ℕ = λ i. public_cards (signal_at g (round_count g) i) in
-    let board = c.in_ok-board.board in
-    let last : c.in_ok-before.before ≡ last_place key c.loop-signal.signal board.items = c.in_ok-before.ensures.old ∙ c.loop-signal.invariant.found board in
-    last_in key c.loop-signal.signal board.items c.in_ok-before.before last
-
 pub loop-signal-preserved : goal.loop-signal-preserved
 loop-signal-preserved c =
     let g : Game = game_of c.args.game.now in
@@ -68,8 +60,13 @@ loop-signal-init c =
       found = λ q. grind (arith, c.new-seen.ensures.empty);
     }
 
-pub link-requires-clause-long : goal.link-requires-clause-long
-link-requires-clause-long c = c.loop-signal.invariant.linked.nexts_whole ∙ sym c.loop-signal.invariant.linked.firsts_whole
-
-pub link-requires-clause-signal_in : goal.link-requires-clause-signal_in
-link-requires-clause-signal_in c = omega (arith, c.loop-signal.invariant.linked.firsts_whole, c.loop-signal-test.true)
+pub link-requires : goal.link-requires
+link-requires c = record {
+  long = c.loop-signal.invariant.linked.nexts_whole ∙ sym c.loop-signal.invariant.linked.firsts_whole;
+  signal_in = omega (arith, c.loop-signal.invariant.linked.firsts_whole, c.loop-signal-test.true);
+  before_in = let g : Game = game_of c.args.game.now in
+      let key : ℕ → List ℕ = λ i. public_cards (signal_at g (round_count g) i) in
+      let board = c.in_ok-board.board in
+      let last : c.in_ok-before.before ≡ last_place key c.loop-signal.signal board.items = c.in_ok-before.ensures.old ∙ c.loop-signal.invariant.found board in
+      last_in key c.loop-signal.signal board.items c.in_ok-before.before last;
+}

@@ -73,13 +73,6 @@ index_mut-requires c =
     let w = goal.at.index_mut-requires c in
     omega (arith, code_in w.After-board_code-code (shown w.In-loop-signal (counted w.After-len-count)), c.loop-signal.last.ok.0)
 
-pub link-requires-clause-before_in : goal.link-requires-clause-before_in
-link-requires-clause-before_in c =
-    let w = goal.at.link-requires-clause-before_in c in
-    let key : ℕ → List ℕ = board (game_of c.args.game.now) in
-    last_in key c.loop-signal.signal (key c.loop-signal.signal) c.seen_last-before.result
-    (last_before w.After-seen_last-before (shown w.In-loop-signal (counted w.After-len-count)))
-
 pub loop-signal-preserved : goal.loop-signal-preserved
 loop-signal-preserved c =
     let w = goal.at.loop-signal-preserved c in
@@ -107,11 +100,15 @@ returns c =
 pub overflow_cast-count : goal.overflow_cast-count
 overflow_cast-count c = grind (arith, common_steps)
 
-pub link-requires-clause-long : goal.link-requires-clause-long
-link-requires-clause-long c = c.loop-signal.invariant.linked.nexts_whole ∙ sym c.loop-signal.invariant.linked.firsts_whole
-
-pub link-requires-clause-signal_in : goal.link-requires-clause-signal_in
-link-requires-clause-signal_in c = omega (arith, c.loop-signal.invariant.linked.firsts_whole, c.loop-signal-test.true)
+pub link-requires : goal.link-requires
+link-requires c = record {
+  long = c.loop-signal.invariant.linked.nexts_whole ∙ sym c.loop-signal.invariant.linked.firsts_whole;
+  signal_in = omega (arith, c.loop-signal.invariant.linked.firsts_whole, c.loop-signal-test.true);
+  before_in = let w = goal.at.link-requires c in
+      let key : ℕ → List ℕ = board (game_of c.args.game.now) in
+      last_in key c.loop-signal.signal (key c.loop-signal.signal) c.seen_last-before.result
+      (last_before w.After-seen_last-before (shown w.In-loop-signal (counted w.After-len-count)));
+}
 
 pub board_code-code-requires-clause-hands : goal.board_code-code-requires-clause-hands
 board_code-code-requires-clause-hands c = grind arith

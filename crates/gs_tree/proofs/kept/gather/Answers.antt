@@ -1,3 +1,4 @@
+use Rattle.std.proofs.lemmas.Grind.{common_steps}
 use Rattle.std.proofs.Common.{◌≡◌, ◌+◌, ℕ, suc, subst, arith}
 use Rattle.gs_model.specs.Game.{Game, round_count}
 use Rattle.gs_game.specs.Games.{game_of}
@@ -25,17 +26,5 @@ returns c =
     let P : ℕ → Type 0 = λ n. AreKeptCards g n h.paths h.owns.items h.publics.items h.own h.public in
     subst P done c.loop-round.invariant
 
-pub next_hands-requires-clause-limits : goal.next_hands-requires-clause-limits
-next_hands-requires-clause-limits c = c.requires.limits
-
-pub next_hands-requires-clause-dealable : goal.next_hands-requires-clause-dealable
-next_hands-requires-clause-dealable c = c.requires.dealable
-
-pub next_hands-requires-clause-all : goal.next_hands-requires-clause-all
-next_hands-requires-clause-all c = c.requires.all
-
-pub next_hands-requires-clause-tables : goal.next_hands-requires-clause-tables
-next_hands-requires-clause-tables c = c.requires.tables
-
-pub next_hands-requires-clause-round_in : goal.next_hands-requires-clause-round_in
-next_hands-requires-clause-round_in c = grind arith
+pub next_hands-requires : goal.next_hands-requires
+next_hands-requires c = grind (arith, common_steps)

@@ -5,12 +5,6 @@ use Rattle.gs_game.specs.{Games.{game_of}, Refusals.{own_card_total as own_count
 use Rattle.gs_tree.proofs.{Hands.{dealt}, Rows.{part_long}}
 use Rattle.gs_tree.proofs.kept.next_hands.Goals as goal
 
-pub next_cards-requires-clause-before : goal.next_cards-requires-clause-before
-next_cards-requires-clause-before c = c.deref.ensures.value ∙ c.requires.before.owned
-
-pub next_cards-requires-2-clause-before : goal.next_cards-requires-2-clause-before
-next_cards-requires-2-clause-before c = c.deref-2.ensures.value ∙ c.requires.before.shown
-
 pub returns : goal.returns
 returns c =
     let g : Game = game_of c.args.game.now in
@@ -30,29 +24,23 @@ returns c =
           (c.len-3.ensures ∙ c.in_ok-publics.publics.ok.0 ∙ ap (λ (x : List ℕ). length x) c.in_ok-publics.ensures) each;
     }
 
-pub next_cards-requires-2-clause-each : goal.next_cards-requires-2-clause-each
-next_cards-requires-2-clause-each c = grind (arith, common_steps)
+pub next_cards-requires-2 : goal.next_cards-requires-2
+next_cards-requires-2 c = record {
+  tables = c.requires.tables;
+  all = c.requires.all;
+  round_in = c.requires.round_in;
+  before = c.deref-2.ensures.value ∙ c.requires.before.shown;
+  each = grind (arith, common_steps);
+}
 
-pub next_cards-requires-clause-each : goal.next_cards-requires-clause-each
-next_cards-requires-clause-each c = grind (arith, common_steps)
-
-pub next_cards-requires-2-clause-all : goal.next_cards-requires-2-clause-all
-next_cards-requires-2-clause-all c = c.requires.all
-
-pub next_cards-requires-2-clause-tables : goal.next_cards-requires-2-clause-tables
-next_cards-requires-2-clause-tables c = c.requires.tables
-
-pub next_cards-requires-2-clause-round_in : goal.next_cards-requires-2-clause-round_in
-next_cards-requires-2-clause-round_in c = c.requires.round_in
-
-pub next_cards-requires-clause-tables : goal.next_cards-requires-clause-tables
-next_cards-requires-clause-tables c = c.requires.tables
-
-pub next_cards-requires-clause-round_in : goal.next_cards-requires-clause-round_in
-next_cards-requires-clause-round_in c = c.requires.round_in
-
-pub next_cards-requires-clause-all : goal.next_cards-requires-clause-all
-next_cards-requires-clause-all c = c.requires.all
+pub next_cards-requires : goal.next_cards-requires
+next_cards-requires c = record {
+  tables = c.requires.tables;
+  all = c.requires.all;
+  round_in = c.requires.round_in;
+  before = c.deref.ensures.value ∙ c.requires.before.owned;
+  each = grind (arith, common_steps);
+}
 
 pub nonzero_div-own : goal.nonzero_div-own
 nonzero_div-own c = omega arith

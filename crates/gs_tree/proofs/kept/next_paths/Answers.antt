@@ -9,14 +9,14 @@ use Rattle.gs_tree.proofs.kept.next_paths.Goals as goal
 -- the signal is one of the layer
 within : (c : In-loop-signal) → c.loop-signal.signal < length c.index.result.now.shown.items
 within c =
-    let long = layer_long (game_of c.args.game.now) c.args.tables.now.parents.items c.args.tables.now.layers.items c.args.round c.requires.tables
+    let long = layer_long c.requires.tables
     c.requires.round_in c.index.result.now c.index.ensures in
     omega (arith, long.0, long.1, c.len-signal-end.ensures, c.loop-signal-test.true)
 
 -- what the tables tell of it
 known : (c : After-index-in-loop-signal) → c.loop-signal.signal < length c.index.result.now.shown.items
     → IsTold (game_of c.args.game.now) c.args.round c.loop-signal.signal c.index-in-loop-signal.result.now c.index-parents.result.now.items c.index.result.now
-known c m = told_at (game_of c.args.game.now) c.args.tables.now.parents.items c.args.tables.now.layers.items c.args.round c.requires.tables c.requires.round_in
+known c m = told_at c.requires.tables c.requires.round_in
     c.index-parents.result.now c.index.result.now c.loop-signal.signal c.index-in-loop-signal.result.now c.index-parents.ensures c.index.ensures m
     c.index-in-loop-signal.ensures
 
@@ -33,8 +33,7 @@ index-requires-in-loop-signal c =
     omega (
       arith,
       c.index-parents.result.now.ok.0,
-      row_covers (game_of c.args.game.now) c.args.tables.now.parents.items c.args.tables.now.layers.items
-          c.args.round c.requires.tables c.requires.round_in c.index-parents.result.now c.index.result.now c.loop-signal.signal c.index-parents.ensures
+      row_covers c.requires.tables c.requires.round_in c.index-parents.result.now c.index.result.now c.loop-signal.signal c.index-parents.ensures
           c.index.ensures (within (goal.at.index-requires-in-loop-signal c).In-loop-signal),
     )
 

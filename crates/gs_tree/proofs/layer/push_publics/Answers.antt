@@ -29,24 +29,20 @@ loop-public-preserved c =
       firsts = c.loop-public.invariant.firsts;
     }
 
-pub returns-clause-shown : goal.returns-clause-shown
-returns-clause-shown c =
-    let all : List (List ℕ) = groups c.args.rest.now c.args.size in
-    let over : length all ≤ c.loop-public.public-index = omega
-    (arith, ap (λ (l : List (List ℕ)). length l) (c.deref-public-items.ensures.value ∙ c.in_ok-groups.ensures.all)) in
-    c.loop-public.invariant.shown
-    ∙ ap (λ l. map seen_of c.args.layer.now.shown.items ++ map (showing (cards_of c.args.own)) l) (take_all c.loop-public.public-index all over)
-
-pub returns-clause-firsts : goal.returns-clause-firsts
-returns-clause-firsts c = c.loop-public.invariant.firsts
-
-pub returns-clause-edges : goal.returns-clause-edges
-returns-clause-edges c =
-    let all : List (List ℕ) = groups c.args.rest.now c.args.size in
-    let over : length all ≤ c.loop-public.public-index = omega
-    (arith, ap (λ (l : List (List ℕ)). length l) (c.deref-public-items.ensures.value ∙ c.in_ok-groups.ensures.all)) in
-    c.loop-public.invariant.edges
-    ∙ ap (λ l. c.args.layer.now.edges ++ map (λ g. c.args.own_ways * ways c.args.rest.now g) l) (take_all c.loop-public.public-index all over)
+pub returns : goal.returns
+returns c = record {
+  shown = let all : List (List ℕ) = groups c.args.rest.now c.args.size in
+      let over : length all ≤ c.loop-public.public-index = omega
+      (arith, ap (λ (l : List (List ℕ)). length l) (c.deref-public-items.ensures.value ∙ c.in_ok-groups.ensures.all)) in
+      c.loop-public.invariant.shown
+      ∙ ap (λ l. map seen_of c.args.layer.now.shown.items ++ map (showing (cards_of c.args.own)) l) (take_all c.loop-public.public-index all over);
+  firsts = c.loop-public.invariant.firsts;
+  edges = let all : List (List ℕ) = groups c.args.rest.now c.args.size in
+      let over : length all ≤ c.loop-public.public-index = omega
+      (arith, ap (λ (l : List (List ℕ)). length l) (c.deref-public-items.ensures.value ∙ c.in_ok-groups.ensures.all)) in
+      c.loop-public.invariant.edges
+      ∙ ap (λ l. c.args.layer.now.edges ++ map (λ g. c.args.own_ways * ways c.args.rest.now g) l) (take_all c.loop-public.public-index all over);
+}
 
 pub returns-in_err-push-2-clause-firsts : goal.returns-in_err-push-2-clause-firsts
 returns-in_err-push-2-clause-firsts c = c.loop-public.invariant.firsts
@@ -67,19 +63,15 @@ of-requires c =
     c.public-item.result c.deref-public-items.ensures.value c.in_ok-groups.ensures.each c.loop-public-test.true c.public-item.is in
     omega (arith, h.sized, c.requires.small)
 
-pub few_ways-requires-clause-in_range : goal.few_ways-requires-clause-in_range
-few_ways-requires-clause-in_range c =
-    item_has (All (λ (card : ℕ). card < length c.args.rest.now)) c.in_ok-groups.field-0.items c.deref-public-items.result.now c.loop-public.public-index
-    c.public-item.result c.deref-public-items.ensures.value c.in_ok-groups.ensures.within c.loop-public-test.true c.public-item.is
-
-pub few_ways-requires-clause-few_copies : goal.few_ways-requires-clause-few_copies
-few_ways-requires-clause-few_copies c = c.requires.few_copies
-
-pub few_ways-requires-clause-few_cards : goal.few_ways-requires-clause-few_cards
-few_ways-requires-clause-few_cards c =
-    let h = item_has (IsGroup c.args.rest.now c.args.size) c.in_ok-groups.field-0.items c.deref-public-items.result.now c.loop-public.public-index
-    c.public-item.result c.deref-public-items.ensures.value c.in_ok-groups.ensures.each c.loop-public-test.true c.public-item.is in
-    omega (arith, h.sized, c.requires.small)
+pub few_ways-requires : goal.few_ways-requires
+few_ways-requires c = record {
+  in_range = item_has (All (λ (card : ℕ). card < length c.args.rest.now)) c.in_ok-groups.field-0.items c.deref-public-items.result.now c.loop-public.public-index
+      c.public-item.result c.deref-public-items.ensures.value c.in_ok-groups.ensures.within c.loop-public-test.true c.public-item.is;
+  few_cards = let h = item_has (IsGroup c.args.rest.now c.args.size) c.in_ok-groups.field-0.items c.deref-public-items.result.now c.loop-public.public-index
+      c.public-item.result c.deref-public-items.ensures.value c.in_ok-groups.ensures.each c.loop-public-test.true c.public-item.is in
+      omega (arith, h.sized, c.requires.small);
+  few_copies = c.requires.few_copies;
+}
 
 pub push_cards-requires-clause-few_copies : goal.push_cards-requires-clause-few_copies
 push_cards-requires-clause-few_copies c = c.requires.few_copies

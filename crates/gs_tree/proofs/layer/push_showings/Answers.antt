@@ -33,17 +33,6 @@ loop-own-preserved c =
       firsts = c.in_ok-push_publics.ensures.firsts ∙ c.loop-own.invariant.firsts;
     }
 
-pub returns-clause-edges : goal.returns-clause-edges
-returns-clause-edges c =
-    let left : List ℕ = c.args.left.now in
-    let owns : List (List ℕ) = groups left c.args.round.now.private in
-    let size : ℕ = c.args.round.now.public in
-    let edges : List ℕ → List ℕ = λ o. map (λ g. ways left o * ways (left_after left o) g) (groups (left_after left o) size) in
-    let over : length owns ≤ c.loop-own.own-index = omega
-    (arith, ap (λ (l : List (List ℕ)). length l) (c.deref-own-items.ensures.value ∙ c.in_ok-groups.ensures.all)) in
-    c.loop-own.invariant.edges ∙ ap (λ l. c.args.layer.now.edges ++ flat_map edges l) (take_all c.loop-own.own-index owns over)
-    ∙ ap (λ l. c.args.layer.now.edges ++ l) (sym (edges_of left size owns))
-
 pub returns-then-round-eq0-clause-shown : goal.returns-then-round-eq0-clause-shown
 returns-then-round-eq0-clause-shown c =
     let left : List ℕ = c.args.left.now in
@@ -57,32 +46,17 @@ returns-then-round-eq0-clause-edges c =
     let P : List ℕ → Type 0 = λ l. OnOk c.push_publics.result (c.push_publics.new.layer.edges ≡ c.args.layer.now.edges ++ l) in
     subst P (sym (edges_alone c.args.left.now (round_rules c.args.round.now) c.if-round-eq0.true)) c.push_publics.ensures.edges
 
-pub push_publics-requires-in-loop-own-clause-counted : goal.push_publics-requires-in-loop-own-clause-counted
-push_publics-requires-in-loop-own-clause-counted c =
-    ap (λ (l : List ℕ). length l) c.deref.ensures.value ∙ c.take_cards.ensures.len
-    ∙ ap (λ (l : List ℕ). length l) c.in_ok-rest.ensures.items ∙ c.requires.counted
-
-pub push_publics-requires-in-loop-own-clause-small : goal.push_publics-requires-in-loop-own-clause-small
-push_publics-requires-in-loop-own-clause-small c = c.requires.small_public
-
-pub push_publics-requires-in-loop-own-clause-few_ways : goal.push_publics-requires-in-loop-own-clause-few_ways
-push_publics-requires-in-loop-own-clause-few_ways c = c.few_ways-own_ways.ensures.few
-
-pub push_publics-requires-in-loop-own-clause-few_copies : goal.push_publics-requires-in-loop-own-clause-few_copies
-push_publics-requires-in-loop-own-clause-few_copies c = subst (All (λ (n : ℕ). n ≤ 9)) (sym c.deref.ensures.value) c.take_cards.ensures.few
+pub push_publics-requires-in-loop-own : goal.push_publics-requires-in-loop-own
+push_publics-requires-in-loop-own c = record {
+  counted = ap (λ (l : List ℕ). length l) c.deref.ensures.value ∙ c.take_cards.ensures.len
+      ∙ ap (λ (l : List ℕ). length l) c.in_ok-rest.ensures.items ∙ c.requires.counted;
+  few_copies = subst (All (λ (n : ℕ). n ≤ 9)) (sym c.deref.ensures.value) c.take_cards.ensures.few;
+  small = c.requires.small_public;
+  few_ways = c.few_ways-own_ways.ensures.few;
+}
 
 pub returns-in_err-push_publics-clause-firsts : goal.returns-in_err-push_publics-clause-firsts
 returns-in_err-push_publics-clause-firsts c = c.push_publics-in-loop-own.ensures.firsts ∙ c.loop-own.invariant.firsts
-
-pub returns-clause-shown : goal.returns-clause-shown
-returns-clause-shown c =
-    let left : List ℕ = c.args.left.now in
-    let owns : List (List ℕ) = groups left c.args.round.now.private in
-    let size : ℕ = c.args.round.now.public in
-    let shows : List ℕ → List Seen = λ o. map (showing o) (groups (left_after left o) size) in
-    let over : length owns ≤ c.loop-own.own-index = omega
-    (arith, ap (λ (l : List (List ℕ)). length l) (c.deref-own-items.ensures.value ∙ c.in_ok-groups.ensures.all)) in
-    c.loop-own.invariant.shown ∙ ap (λ l. map seen_of c.args.layer.now.shown.items ++ flat_map shows l) (take_all c.loop-own.own-index owns over)
 
 pub of-requires : goal.of-requires
 of-requires c =
@@ -90,28 +64,41 @@ of-requires c =
     c.own-item.result c.deref-own-items.ensures.value c.in_ok-groups.ensures.each c.loop-own-test.true c.own-item.is in
     omega (arith, h.sized, c.requires.small_private)
 
-pub few_ways-own_ways-requires-clause-in_range : goal.few_ways-own_ways-requires-clause-in_range
-few_ways-own_ways-requires-clause-in_range c =
-    item_has (All (λ (card : ℕ). card < length c.args.left.now)) c.in_ok-groups.field-0.items c.deref-own-items.result.now c.loop-own.own-index
-    c.own-item.result c.deref-own-items.ensures.value c.in_ok-groups.ensures.within c.loop-own-test.true c.own-item.is
-
-pub few_ways-own_ways-requires-clause-few_copies : goal.few_ways-own_ways-requires-clause-few_copies
-few_ways-own_ways-requires-clause-few_copies c = c.requires.few_copies
-
 pub take_cards-requires : goal.take_cards-requires
 take_cards-requires c = subst (All (λ (n : ℕ). n ≤ 9)) (sym c.in_ok-rest.ensures.items) c.requires.few_copies
 
-pub few_ways-own_ways-requires-clause-few_cards : goal.few_ways-own_ways-requires-clause-few_cards
-few_ways-own_ways-requires-clause-few_cards c =
-    let h = item_has (IsGroup c.args.left.now c.args.round.now.private) c.in_ok-groups.field-0.items c.deref-own-items.result.now c.loop-own.own-index
-    c.own-item.result c.deref-own-items.ensures.value c.in_ok-groups.ensures.each c.loop-own-test.true c.own-item.is in
-    omega (arith, h.sized, c.requires.small_private)
+pub few_ways-own_ways-requires : goal.few_ways-own_ways-requires
+few_ways-own_ways-requires c = record {
+  in_range = item_has (All (λ (card : ℕ). card < length c.args.left.now)) c.in_ok-groups.field-0.items c.deref-own-items.result.now c.loop-own.own-index
+      c.own-item.result c.deref-own-items.ensures.value c.in_ok-groups.ensures.within c.loop-own-test.true c.own-item.is;
+  few_cards = let h = item_has (IsGroup c.args.left.now c.args.round.now.private) c.in_ok-groups.field-0.items c.deref-own-items.result.now c.loop-own.own-index
+      c.own-item.result c.deref-own-items.ensures.value c.in_ok-groups.ensures.each c.loop-own-test.true c.own-item.is in
+      omega (arith, h.sized, c.requires.small_private);
+  few_copies = c.requires.few_copies;
+}
 
 pub push_publics-requires-clause-few_copies : goal.push_publics-requires-clause-few_copies
 push_publics-requires-clause-few_copies c = grind arith
 
-pub returns-clause-firsts : goal.returns-clause-firsts
-returns-clause-firsts c = grind arith
+pub returns : goal.returns
+returns c = record {
+  shown = let left : List ℕ = c.args.left.now in
+      let owns : List (List ℕ) = groups left c.args.round.now.private in
+      let size : ℕ = c.args.round.now.public in
+      let shows : List ℕ → List Seen = λ o. map (showing o) (groups (left_after left o) size) in
+      let over : length owns ≤ c.loop-own.own-index = omega
+      (arith, ap (λ (l : List (List ℕ)). length l) (c.deref-own-items.ensures.value ∙ c.in_ok-groups.ensures.all)) in
+      c.loop-own.invariant.shown ∙ ap (λ l. map seen_of c.args.layer.now.shown.items ++ flat_map shows l) (take_all c.loop-own.own-index owns over);
+  firsts = grind arith;
+  edges = let left : List ℕ = c.args.left.now in
+      let owns : List (List ℕ) = groups left c.args.round.now.private in
+      let size : ℕ = c.args.round.now.public in
+      let edges : List ℕ → List ℕ = λ o. map (λ g. ways left o * ways (left_after left o) g) (groups (left_after left o) size) in
+      let over : length owns ≤ c.loop-own.own-index = omega
+      (arith, ap (λ (l : List (List ℕ)). length l) (c.deref-own-items.ensures.value ∙ c.in_ok-groups.ensures.all)) in
+      c.loop-own.invariant.edges ∙ ap (λ l. c.args.layer.now.edges ++ flat_map edges l) (take_all c.loop-own.own-index owns over)
+      ∙ ap (λ l. c.args.layer.now.edges ++ l) (sym (edges_of left size owns));
+}
 
 pub loop-own-init : goal.loop-own-init
 loop-own-init c = grind (arith, common_steps)

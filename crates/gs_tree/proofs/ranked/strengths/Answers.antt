@@ -8,13 +8,6 @@ use Rattle.gs_tree.specs.Walk.{last_count}
 use Rattle.gs_tree.proofs.{Parts.{paths_long}, Pushed.{mapped_more}}
 use Rattle.gs_tree.proofs.ranked.strengths.Goals as goal
 
-pub strength_of-requires-clause-signal_in : goal.strength_of-requires-clause-signal_in
-strength_of-requires-clause-signal_in c =
-    let k = c.args.hands.now in
-    let long : length k.paths ≡ last_count (game_of c.args.game.now) = paths_long (game_of c.args.game.now) (round_count (game_of c.args.game.now)) k.paths
-    k.owns.items k.publics.items k.own k.public c.requires.hands in
-    omega (arith, long, c.len-count.ensures, c.loop-signal-test.true)
-
 pub loop-signal-preserved : goal.loop-signal-preserved
 loop-signal-preserved c =
     let g : Game = game_of c.args.game.now in
@@ -30,11 +23,8 @@ loop-signal-preserved c =
           c.strength_of.result c.loop-signal.invariant.within c.strength_of.ensures.within);
     }
 
-pub returns-clause-value : goal.returns-clause-value
-returns-clause-value c = grind (arith, common_steps)
-
-pub returns-clause-within : goal.returns-clause-within
-returns-clause-within c = grind (arith, common_steps)
+pub returns : goal.returns
+returns c = grind (arith, common_steps)
 
 pub overflow_cast-count : goal.overflow_cast-count
 overflow_cast-count c = grind (arith, common_steps)
@@ -42,11 +32,13 @@ overflow_cast-count c = grind (arith, common_steps)
 pub loop-signal-init : goal.loop-signal-init
 loop-signal-init c = grind arith
 
-pub strength_of-requires-clause-hands : goal.strength_of-requires-clause-hands
-strength_of-requires-clause-hands c = grind arith
-
-pub strength_of-requires-clause-dealable : goal.strength_of-requires-clause-dealable
-strength_of-requires-clause-dealable c = grind arith
-
-pub strength_of-requires-clause-deck : goal.strength_of-requires-clause-deck
-strength_of-requires-clause-deck c = grind arith
+pub strength_of-requires : goal.strength_of-requires
+strength_of-requires c = record {
+  deck = grind arith;
+  hands = grind arith;
+  dealable = grind arith;
+  signal_in = let k = c.args.hands.now in
+      let long : length k.paths ≡ last_count (game_of c.args.game.now) = paths_long (game_of c.args.game.now) (round_count (game_of c.args.game.now)) k.paths
+      k.owns.items k.publics.items k.own k.public c.requires.hands in
+      omega (arith, long, c.len-count.ensures, c.loop-signal-test.true);
+}

@@ -63,16 +63,15 @@ loop-i-preserved c =
       );
     }
 
-pub returns-clause-small : goal.returns-clause-small
-returns-clause-small c = at_three c.loop-i.ways c.loop-i.i (omega (arith, c.requires.own_few)) c.loop-i.invariant.small
-
 pub shared-ways-requires : goal.shared-ways-requires
 shared-ways-requires c = grind (arith, common_steps)
 
-pub returns-clause-value : goal.returns-clause-value
-returns-clause-value c =
-    c.loop-i.invariant.counted ∙ ap (ways (left_after (left_after (left_after c.args.deck.now.counts c.args.held.now) c.args.board.now) c.args.before.now))
-    (take_all c.loop-i.i c.args.own.now c.loop-i-test.false)
+pub returns : goal.returns
+returns c = record {
+  value = c.loop-i.invariant.counted ∙ ap (ways (left_after (left_after (left_after c.args.deck.now.counts c.args.held.now) c.args.board.now) c.args.before.now))
+      (take_all c.loop-i.i c.args.own.now c.loop-i-test.false);
+  small = at_three c.loop-i.ways c.loop-i.i (omega (arith, c.requires.own_few)) c.loop-i.invariant.small;
+}
 
 pub count-requires : goal.count-requires
 count-requires c = grind arith

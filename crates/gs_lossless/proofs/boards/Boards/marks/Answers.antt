@@ -27,15 +27,6 @@ pub index-other-requires : goal.index-other-requires
 index-other-requires c =
     omega (arith, (like (goal.at.index-other-requires c).After-index-like).within, c.args.self.now.list.ok.0)
 
-pub mark_board-requires-clause-other_hands : goal.mark_board-requires-clause-other_hands
-mark_board-requires-clause-other_hands c =
-    let keys : List ℕ = c.args.keys.now in
-    let hands : List ℕ = c.index-like.result.now.hands.items in
-    let theirs : AreHands c.index-other.result.now keys hands = subst (λ (b : Board). AreHands b keys hands) (sym c.index-other.ensures)
-    ((like (goal.at.mark_board-requires-clause-other_hands c).After-index-like).hands c.index-other.result.now) in
-    ap (λ (l : List ℕ). length l) c.deref-in-loop-place-4.ensures.value ∙ theirs.long
-    ∙ ap (λ (l : List Seat). length l) (sym c.deref-in-loop-place-3.ensures.value)
-
 pub loop-place-init : goal.loop-place-init
 loop-place-init c =
     let g : Game = rules_of c.args.self.now.signals.now in
@@ -92,18 +83,22 @@ list_hands-requires c =
     c.loop-place.place c.board-item.result c.args.self.now.each c.deref-board-items.ensures.value c.loop-place-test.true c.board-item.is in
     λ k d l. subst (λ n. (get_or c.board-item.result.seats.items k d).signal < n) (sym c.requires) (board.within k d l)
 
-pub mark_board-requires-clause-within : goal.mark_board-requires-clause-within
-mark_board-requires-clause-within c =
-    let board = read_board (rules_of c.args.self.now.signals.now) c.args.self.now.by_rank c.args.self.now.list.items c.deref-board-items.result.now
-    c.loop-place.place c.board-item.result c.args.self.now.each c.deref-board-items.ensures.value c.loop-place-test.true c.board-item.is in
-    let long = ap (λ (l : List ℕ). length l) c.deref_mut.ensures.value ∙ c.loop-place.invariant.marks_are.long in
-    subst (All (λ (s : Seat). s.signal < length c.deref_mut.result.now)) (sym c.deref-in-loop-place.ensures.value)
-    (λ k d l. subst (λ n. (get_or c.board-item.result.seats.items k d).signal < n) (sym long) (board.within k d l))
-
-pub mark_board-requires-clause-hands : goal.mark_board-requires-clause-hands
-mark_board-requires-clause-hands c =
-    ap (λ (l : List ℕ). length l) c.deref-in-loop-place-2.ensures.value ∙ c.in_ok-list_hands.ensures.long
-    ∙ ap (λ (l : List Seat). length l) (sym c.deref-in-loop-place.ensures.value)
+pub mark_board-requires : goal.mark_board-requires
+mark_board-requires c = record {
+  hands = ap (λ (l : List ℕ). length l) c.deref-in-loop-place-2.ensures.value ∙ c.in_ok-list_hands.ensures.long
+      ∙ ap (λ (l : List Seat). length l) (sym c.deref-in-loop-place.ensures.value);
+  other_hands = let keys : List ℕ = c.args.keys.now in
+      let hands : List ℕ = c.index-like.result.now.hands.items in
+      let theirs : AreHands c.index-other.result.now keys hands = subst (λ (b : Board). AreHands b keys hands) (sym c.index-other.ensures)
+      ((like (goal.at.mark_board-requires c).After-index-like).hands c.index-other.result.now) in
+      ap (λ (l : List ℕ). length l) c.deref-in-loop-place-4.ensures.value ∙ theirs.long
+      ∙ ap (λ (l : List Seat). length l) (sym c.deref-in-loop-place-3.ensures.value);
+  within = let board = read_board (rules_of c.args.self.now.signals.now) c.args.self.now.by_rank c.args.self.now.list.items c.deref-board-items.result.now
+      c.loop-place.place c.board-item.result c.args.self.now.each c.deref-board-items.ensures.value c.loop-place-test.true c.board-item.is in
+      let long = ap (λ (l : List ℕ). length l) c.deref_mut.ensures.value ∙ c.loop-place.invariant.marks_are.long in
+      subst (All (λ (s : Seat). s.signal < length c.deref_mut.result.now)) (sym c.deref-in-loop-place.ensures.value)
+      (λ k d l. subst (λ n. (get_or c.board-item.result.seats.items k d).signal < n) (sym long) (board.within k d l));
+}
 
 pub index-like-requires : goal.index-like-requires
 index-like-requires c = omega (arith, c.in_ok-kind.ensures.kind.within, c.kind_of.new.kinds.list.ok.0)

@@ -11,4 +11,4 @@ boards_of-requires-clause-once c = λ t.
     let read : c.deref.result.now ≡ g.bonus = c.deref.ensures.value
     ∙ ap (λ (x : Described). x.bonus.items) (c.game-2.ensures ∙ ap (λ (x : ValidGame). x.game) c.game.ensures) in
     once_is g c.deref.result.now c.args.signals.now.strengths.items read (c.are_ones-by_rank.ensures t) c.args.signals.now.game.now.dealable.bonuses
-    c.args.signals.now.strong c.args.signals.now.ranked
+    c.args.signals.now.sound.strong c.args.signals.now.sound.ranked

@@ -11,8 +11,8 @@ begins : (c : After-index) → c.index.result.now.firsts.items ≡ map (first_ch
 begins c =
     let l : Layer = c.index.result.now in
     let ls : List Layer = c.args.self.now.tables.layers.items in
-    firsts_of (rules_of c.args.self.now) c.args.self.now.tables.parents.items ls c.args.round l c.args.self.now.listed
-    (omega (arith, c.args.self.now.counted, c.requires.before_last)) (c.index.ensures ∙ ap (λ k. get_or ls k l) c.from.ensures)
+    firsts_of (rules_of c.args.self.now) c.args.self.now.tables.parents.items ls c.args.round l c.args.self.now.sound.listed
+    (omega (arith, c.args.self.now.sound.counted, c.requires.before_last)) (c.index.ensures ∙ ap (λ k. get_or ls k l) c.from.ensures)
 
 -- there is a place for the signal and for the one after it
 within : (c : After-index) → c.args.signal + 1 < vec_len c.index.result.now.firsts
@@ -31,13 +31,12 @@ index-requires-2 c = omega (arith, within (goal.at.index-requires-2 c).After-ind
 pub index-requires-3 : goal.index-requires-3
 index-requires-3 c = within (goal.at.index-requires-3 c).After-index
 
-pub returns-clause-first : goal.returns-clause-first
-returns-clause-first c = c.index-2.ensures ∙ first_at (rules_of c.args.self.now) c.args.round c.args.signal c.index-2.result.now c.index.result.now.firsts.items
-    (begins (goal.at.returns-clause-first c).After-index) (omega (arith, c.requires.in_range))
-
-pub returns-clause-end : goal.returns-clause-end
-returns-clause-end c =
-    c.index-3.ensures
-    ∙ first_at (rules_of c.args.self.now) c.args.round (c.args.signal + 1) c.index-3.result.now c.index.result.now.firsts.items
-    (begins (goal.at.returns-clause-end c).After-index) (omega (arith, c.requires.in_range))
-    ∙ first_next (rules_of c.args.self.now) c.args.round c.args.signal c.requires.in_range
+pub returns : goal.returns
+returns c = record {
+  first = c.index-2.ensures ∙ first_at (rules_of c.args.self.now) c.args.round c.args.signal c.index-2.result.now c.index.result.now.firsts.items
+      (begins (goal.at.returns c).After-index) (omega (arith, c.requires.in_range));
+  end = c.index-3.ensures
+      ∙ first_at (rules_of c.args.self.now) c.args.round (c.args.signal + 1) c.index-3.result.now c.index.result.now.firsts.items
+      (begins (goal.at.returns c).After-index) (omega (arith, c.requires.in_range))
+      ∙ first_next (rules_of c.args.self.now) c.args.round c.args.signal c.requires.in_range;
+}

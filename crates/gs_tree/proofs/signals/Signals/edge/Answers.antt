@@ -10,7 +10,7 @@ known c =
     let l : Layer = c.index.result.now in
     let ls : List Layer = s.tables.layers.items in
     let at : l ≡ get_or ls (c.args.round - 1) l = c.index.ensures ∙ ap (λ k. get_or ls (k - 1) l) c.from.ensures in
-    layer_of (rules_of s) s.tables.parents.items ls c.args.round l s.listed c.requires.some (omega (arith, s.counted, c.requires.last)) at
+    layer_of (rules_of s) s.tables.parents.items ls c.args.round l s.sound.listed c.requires.some (omega (arith, s.sound.counted, c.requires.last)) at
 
 pub of-requires : goal.of-requires
 of-requires c = omega (arith, (known (goal.at.of-requires c).After-index).edges_long, c.requires.in_range)

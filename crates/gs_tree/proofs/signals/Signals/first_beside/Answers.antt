@@ -7,10 +7,10 @@ pub returns-then-one-len : goal.returns-then-one-len
 returns-then-one-len c =
     let s = c.args.self.now in
     let firsts : List ℕ = s.boards.firsts.items in
-    row_start (rules_of s) firsts s.boards.nexts.items c.args.one c.index.result.now s.beside
-    (omega (arith, s.beside.firsts_long, c.len.ensures, c.if-one-len.true))
+    row_start (rules_of s) firsts s.boards.nexts.items c.args.one c.index.result.now s.sound.beside
+    (omega (arith, s.sound.beside.firsts_long, c.len.ensures, c.if-one-len.true))
     (c.index.ensures ∙ same_read firsts c.args.one c.index.result.now 0
-    (omega (arith, s.beside.firsts_long, c.len.ensures, c.if-one-len.true)))
+    (omega (arith, s.sound.beside.firsts_long, c.len.ensures, c.if-one-len.true)))
 
 pub returns-else-one-len : goal.returns-else-one-len
 returns-else-one-len c = grind arith

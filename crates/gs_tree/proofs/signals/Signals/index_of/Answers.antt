@@ -5,18 +5,6 @@ use Rattle.gs_tree.specs.{Texts.{signal_text}, Trees.{deck_of, rules_of}}
 use Rattle.gs_tree.proofs.Named.{text_once}
 use Rattle.gs_tree.proofs.signals.Signals.index_of.Goals as goal
 
-pub returns-then-is_text_of-clause-only : goal.returns-then-is_text_of-clause-only
-returns-then-is_text_of-clause-only c =
-    let g : Game = rules_of c.args.self.now in
-    let d = deck_of c.args.self.now in
-    let n : ℕ = c.loop-signal.signal in
-    let here : c.args.text.now ≡ signal_text d (signal_at g c.args.round n) =
-    sym c.as_bytes-bytes.ensures.value ∙ c.is_text_of.ensures.0 c.if-is_text_of.true
-    ∙ ap (λ (x : Described). signal_text x.deck (signal_at (game_of x) c.from.result n)) c.game-game.ensures
-    ∙ ap (λ k. signal_text d (signal_at g k n)) c.from.ensures in
-    let within : n < length (signals g c.args.round) = omega (arith, c.loop-signal-test.true, c.count-signal-end.ensures.value) in
-    λ i l e. ap Some (text_once g d c.args.round n i c.deck-deck.ensures.valid c.deck-deck.ensures.valid.counted within l (sym here ∙ e))
-
 pub loop-signal-preserved : goal.loop-signal-preserved
 loop-signal-preserved c =
     let g : Game = rules_of c.args.self.now in
@@ -44,8 +32,19 @@ is_text_of-requires-clause-signal_in c =
 pub returns-clause-only : goal.returns-clause-only
 returns-clause-only c = grind arith
 
-pub returns-then-is_text_of-clause-found : goal.returns-then-is_text_of-clause-found
-returns-then-is_text_of-clause-found c = grind arith
+pub returns-then-is_text_of : goal.returns-then-is_text_of
+returns-then-is_text_of c = record {
+  found = grind arith;
+  only = let g : Game = rules_of c.args.self.now in
+      let d = deck_of c.args.self.now in
+      let n : ℕ = c.loop-signal.signal in
+      let here : c.args.text.now ≡ signal_text d (signal_at g c.args.round n) =
+      sym c.as_bytes-bytes.ensures.value ∙ c.is_text_of.ensures.0 c.if-is_text_of.true
+      ∙ ap (λ (x : Described). signal_text x.deck (signal_at (game_of x) c.from.result n)) c.game-game.ensures
+      ∙ ap (λ k. signal_text d (signal_at g k n)) c.from.ensures in
+      let within : n < length (signals g c.args.round) = omega (arith, c.loop-signal-test.true, c.count-signal-end.ensures.value) in
+      λ i l e. ap Some (text_once g d c.args.round n i c.deck-deck.ensures.valid c.deck-deck.ensures.valid.counted within l (sym here ∙ e));
+}
 
 pub is_text_of-requires-clause-tables : goal.is_text_of-requires-clause-tables
 is_text_of-requires-clause-tables c = grind arith

@@ -8,61 +8,46 @@ use Rattle.gs_game.specs.{Games.{game_of}, Limits.{IsWithinLimits}, declared.gam
 use Rattle.gs_tree.specs.{Boards.{AreBoards}, Kept.{AreKeptCards}, Masks.{AreMasks, HasMasks}, Plain.{IsPlain}, Tables.{AreTables}, Walk.{last_count}}
 use Rattle.gs_tree.proofs.signals.Signals.of.Goals as goal
 
-pub invariant_of-result-clause-dealt : goal.invariant_of-result-clause-dealt
-invariant_of-result-clause-dealt c =
-    let h = c.in_ok-hands.hands in
-    subst (λ (x : Described). AreKeptCards (game_of x) (round_count (game_of x)) h.paths h.owns.items h.publics.items h.own h.public) c.game-2.ensures
-    c.in_ok-hands.ensures
+pub invariant_of-result : goal.invariant_of-result
+invariant_of-result c = record {
+  sound = record {
+    listed =
+        let t = c.in_ok-tables.tables in
+        subst (λ (x : Described). AreTables (game_of x) t.parents.items t.layers.items) c.game.ensures c.in_ok-tables.ensures.tables;
+    ranked =
+        subst (λ (x : Described). c.in_ok-strengths.strengths.items ≡ map (signal_strength (game_of x)) (signals (game_of x) (round_count (game_of x))))
+        c.game-3.ensures c.in_ok-strengths.ensures.value;
+    beside =
+        let b = c.in_ok-boards.boards in
+        subst (λ (x : Described). AreBoards (game_of x) b.firsts.items b.nexts.items) c.game-4.ensures c.in_ok-boards.ensures;
+    dealt =
+        let h = c.in_ok-hands.hands in
+        subst (λ (x : Described). AreKeptCards (game_of x) (round_count (game_of x)) h.paths h.owns.items h.publics.items h.own h.public) c.game-2.ensures
+        c.in_ok-hands.ensures;
+    strong = subst (λ (x : Described). All (IsStrength (ranking_of x.ranking)) c.in_ok-strengths.strengths.items) c.game-3.ensures c.in_ok-strengths.ensures.within;
+    masked =
+        subst (λ (x : Described). MatchOption c.in_ok-masks.masks (HasMasks (game_of x) → last_count (game_of x) ≡ 0) (λ v. AreMasks (game_of x) v.items))
+        c.game-6.ensures c.in_ok-masks.ensures;
+    even = subst (λ (x : Described). IsTrue c.is_plain-plain.result → IsPlain (game_of x)) c.game-5.ensures c.is_plain-plain.ensures.plain;
+    counted = subst (λ (x : Described). length c.in_ok-tables.tables.layers.items ≡ round_count (game_of x)) c.game.ensures c.in_ok-tables.ensures.all;
+  };
+}
 
-pub invariant_of-result-clause-strong : goal.invariant_of-result-clause-strong
-invariant_of-result-clause-strong c =
-    subst (λ (x : Described). All (IsStrength (ranking_of x.ranking)) c.in_ok-strengths.strengths.items) c.game-3.ensures c.in_ok-strengths.ensures.within
+pub masks_of-requires : goal.masks_of-requires
+masks_of-requires c = record {
+  hands = let h = c.in_ok-hands.hands in
+      subst (λ (x : Described). AreKeptCards (game_of x) (round_count (game_of x)) h.paths h.owns.items h.publics.items h.own h.public)
+      (c.game-2.ensures ∙ sym c.game-6.ensures) c.in_ok-hands.ensures;
+  limits = subst (λ (x : Described). IsWithinLimits (game_of x)) (sym c.game-6.ensures) c.args.game.now.limits;
+}
 
-pub invariant_of-result-clause-masked : goal.invariant_of-result-clause-masked
-invariant_of-result-clause-masked c =
-    subst (λ (x : Described). MatchOption c.in_ok-masks.masks (HasMasks (game_of x) → last_count (game_of x) ≡ 0) (λ v. AreMasks (game_of x) v.items))
-    c.game-6.ensures c.in_ok-masks.ensures
-
-pub invariant_of-result-clause-listed : goal.invariant_of-result-clause-listed
-invariant_of-result-clause-listed c =
-    let t = c.in_ok-tables.tables in
-    subst (λ (x : Described). AreTables (game_of x) t.parents.items t.layers.items) c.game.ensures c.in_ok-tables.ensures.tables
-
-pub invariant_of-result-clause-counted : goal.invariant_of-result-clause-counted
-invariant_of-result-clause-counted c =
-    subst (λ (x : Described). length c.in_ok-tables.tables.layers.items ≡ round_count (game_of x)) c.game.ensures c.in_ok-tables.ensures.all
-
-pub invariant_of-result-clause-even : goal.invariant_of-result-clause-even
-invariant_of-result-clause-even c =
-    subst (λ (x : Described). IsTrue c.is_plain-plain.result → IsPlain (game_of x)) c.game-5.ensures c.is_plain-plain.ensures.plain
-
-pub invariant_of-result-clause-ranked : goal.invariant_of-result-clause-ranked
-invariant_of-result-clause-ranked c =
-    subst (λ (x : Described). c.in_ok-strengths.strengths.items ≡ map (signal_strength (game_of x)) (signals (game_of x) (round_count (game_of x))))
-    c.game-3.ensures c.in_ok-strengths.ensures.value
-
-pub invariant_of-result-clause-beside : goal.invariant_of-result-clause-beside
-invariant_of-result-clause-beside c =
-    let b = c.in_ok-boards.boards in
-    subst (λ (x : Described). AreBoards (game_of x) b.firsts.items b.nexts.items) c.game-4.ensures c.in_ok-boards.ensures
-
-pub masks_of-requires-clause-hands : goal.masks_of-requires-clause-hands
-masks_of-requires-clause-hands c =
-    let h = c.in_ok-hands.hands in
-    subst (λ (x : Described). AreKeptCards (game_of x) (round_count (game_of x)) h.paths h.owns.items h.publics.items h.own h.public)
-    (c.game-2.ensures ∙ sym c.game-6.ensures) c.in_ok-hands.ensures
-
-pub masks_of-requires-clause-limits : goal.masks_of-requires-clause-limits
-masks_of-requires-clause-limits c = subst (λ (x : Described). IsWithinLimits (game_of x)) (sym c.game-6.ensures) c.args.game.now.limits
-
-pub link_boards-requires-clause-limits : goal.link_boards-requires-clause-limits
-link_boards-requires-clause-limits c = subst (λ (x : Described). IsWithinLimits (game_of x)) (sym c.game-4.ensures) c.args.game.now.limits
-
-pub link_boards-requires-clause-hands : goal.link_boards-requires-clause-hands
-link_boards-requires-clause-hands c =
-    let h = c.in_ok-hands.hands in
-    subst (λ (x : Described). AreKeptCards (game_of x) (round_count (game_of x)) h.paths h.owns.items h.publics.items h.own h.public)
-    (c.game-2.ensures ∙ sym c.game-4.ensures) c.in_ok-hands.ensures
+pub link_boards-requires : goal.link_boards-requires
+link_boards-requires c = record {
+  hands = let h = c.in_ok-hands.hands in
+      subst (λ (x : Described). AreKeptCards (game_of x) (round_count (game_of x)) h.paths h.owns.items h.publics.items h.own h.public)
+      (c.game-2.ensures ∙ sym c.game-4.ensures) c.in_ok-hands.ensures;
+  limits = subst (λ (x : Described). IsWithinLimits (game_of x)) (sym c.game-4.ensures) c.args.game.now.limits;
+}
 
 pub is_plain-plain-requires : goal.is_plain-plain-requires
 is_plain-plain-requires c =

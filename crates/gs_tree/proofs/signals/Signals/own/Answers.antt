@@ -6,10 +6,10 @@ use Rattle.gs_tree.proofs.signals.Signals.own.Goals as goal
 
 pub part-requires : goal.part-requires
 part-requires c = rw c.deref.ensures.value (own_room (rules_of c.args.self.now) (round_count (rules_of c.args.self.now)) c.args.self.now.hands.paths
-    c.args.self.now.hands.owns.items c.args.self.now.hands.publics.items c.args.self.now.hands.own c.args.self.now.hands.public c.args.self.now.dealt
+    c.args.self.now.hands.owns.items c.args.self.now.hands.publics.items c.args.self.now.hands.own c.args.self.now.hands.public c.args.self.now.sound.dealt
     c.args.signal c.requires)
 
 pub returns : goal.returns
 returns c = c.part.ensures ∙ rw c.deref.ensures.value
     (own_part (rules_of c.args.self.now) (round_count (rules_of c.args.self.now)) c.args.self.now.hands.paths c.args.self.now.hands.owns.items
-    c.args.self.now.hands.publics.items c.args.self.now.hands.own c.args.self.now.hands.public c.args.self.now.dealt c.args.signal c.requires)
+    c.args.self.now.hands.publics.items c.args.self.now.hands.own c.args.self.now.hands.public c.args.self.now.sound.dealt c.args.signal c.requires)

@@ -66,10 +66,10 @@ overflow_add-end c =
     let g : Game = rules_of s in
     let h = read_turn w.After-from (all_rounds w.After-deref-round-items) in
     let ss : List Signal = signals g (round_count g) in
-    let long : length s.hands.owns.items ≡ length ss * s.hands.own = ap (λ (x : List ℕ). length x) s.dealt.owned
-    ∙ parts_length own_cards s.hands.own ss [] s.dealt.own_each in
+    let long : length s.hands.owns.items ≡ length ss * s.hands.own = ap (λ (x : List ℕ). length x) s.sound.dealt.owned
+    ∙ parts_length own_cards s.hands.own ss [] s.sound.dealt.own_each in
     let room : c.args.two * s.hands.own + s.hands.own ≤ length ss * s.hands.own = part_in c.args.two (length ss) s.hands.own c.requires.two_in in
-    let each : length c.own-own.result.now ≡ s.hands.own = ap (λ (x : List ℕ). length x) c.own-own.ensures ∙ s.dealt.own_each c.args.two c.requires.two_in in
+    let each : length c.own-own.result.now ≡ s.hands.own = ap (λ (x : List ℕ). length x) c.own-own.ensures ∙ s.sound.dealt.own_each c.args.two c.requires.two_in in
     omega (arith, h.step.within, each, room, long, s.hands.owns.ok.0, s.hands.owns.small)
 
 pub slice_bounds-ways_beside-end-in-loop-round : goal.slice_bounds-ways_beside-end-in-loop-round
@@ -82,18 +82,16 @@ slice_bounds-ways_beside-end-in-loop-round-2 c =
     let w = goal.at.slice_bounds-ways_beside-end-in-loop-round-2 c in
     omega (arith, (read_turn w.After-from (all_rounds w.After-deref-round-items)).step.within)
 
-pub ways_beside-ways-requires-clause-own_in : goal.ways_beside-ways-requires-clause-own_in
-ways_beside-ways-requires-clause-own_in c =
-    let w = goal.at.ways_beside-ways-requires-clause-own_in c in
-    let kinds_are : length (rules_of c.args.self.now).copies ≡ kinds c.deck-deck.result.now = c.deck-deck.ensures.valid.counted
-    ∙ sym (ap kinds c.deck-deck.ensures.deck) in
-    let P : ℕ → Type 0 = λ n. All (λ card. card < n) (between c.loop-round.start (c.loop-round.start + c.from.result) c.own-own.result.now) in
-    subst P kinds_are (read_turn w.After-from (all_rounds w.After-deref-round-items)).own_in
-
-pub ways_beside-ways-requires-clause-own_few : goal.ways_beside-ways-requires-clause-own_few
-ways_beside-ways-requires-clause-own_few c =
-    let w = goal.at.ways_beside-ways-requires-clause-own_few c in
-    (read_turn w.After-from (all_rounds w.After-deref-round-items)).few
+pub ways_beside-ways-requires : goal.ways_beside-ways-requires
+ways_beside-ways-requires c = record {
+  own_in = let w = goal.at.ways_beside-ways-requires c in
+      let kinds_are : length (rules_of c.args.self.now).copies ≡ kinds c.deck-deck.result.now = c.deck-deck.ensures.valid.counted
+      ∙ sym (ap kinds c.deck-deck.ensures.deck) in
+      let P : ℕ → Type 0 = λ n. All (λ card. card < n) (between c.loop-round.start (c.loop-round.start + c.from.result) c.own-own.result.now) in
+      subst P kinds_are (read_turn w.After-from (all_rounds w.After-deref-round-items)).own_in;
+  own_few = let w = goal.at.ways_beside-ways-requires c in
+      (read_turn w.After-from (all_rounds w.After-deref-round-items)).few;
+}
 
 pub overflow_mul-ways : goal.overflow_mul-ways
 overflow_mul-ways c =

@@ -9,4 +9,4 @@ pub returns : goal.returns
 returns c =
     let items : Vec ℕ → List ℕ = λ v. v.items in
     ap (map items) c.deref.ensures.value ∙ rows_all (rules_of c.args.self.now) c.args.self.now.tables.parents.items c.args.self.now.tables.layers.items
-    (round_count (rules_of c.args.self.now)) c.args.self.now.listed c.args.self.now.counted
+    (round_count (rules_of c.args.self.now)) c.args.self.now.sound.listed c.args.self.now.sound.counted

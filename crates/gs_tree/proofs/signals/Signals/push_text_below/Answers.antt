@@ -17,15 +17,15 @@ seen : (c : After-index-shown) → c.index-layer.result.now ≡ get_or c.args.se
 seen c at =
     let s = c.args.self.now in
     seen_read (rules_of c.args.self.now) s.tables.parents.items s.tables.layers.items c.args.round c.args.signal
-    (kinds c.deck-deck.result.now) c.index-layer.result.now c.index-shown.result.now s.listed (omega (arith, c.requires.later))
-    (omega (arith, s.counted, c.requires.last)) at c.requires.in_range c.index-shown.ensures
+    (kinds c.deck-deck.result.now) c.index-layer.result.now c.index-shown.result.now s.sound.listed (omega (arith, c.requires.later))
+    (omega (arith, s.sound.counted, c.requires.last)) at c.requires.in_range c.index-shown.ensures
     (c.deck-deck.ensures.valid.counted ∙ sym (ap kinds c.deck-deck.ensures.deck))
 
 pub index-shown-requires : goal.index-shown-requires
 index-shown-requires c =
     let s = c.args.self.now in
-    shown_long (rules_of c.args.self.now) s.tables.parents.items s.tables.layers.items c.args.round c.args.signal c.index-layer.result.now s.listed
-    (omega (arith, c.requires.later)) (omega (arith, s.counted, c.requires.last)) (at_layer (goal.at.index-shown-requires c).After-index-layer)
+    shown_long (rules_of c.args.self.now) s.tables.parents.items s.tables.layers.items c.args.round c.args.signal c.index-layer.result.now s.sound.listed
+    (omega (arith, c.requires.later)) (omega (arith, s.sound.counted, c.requires.last)) (at_layer (goal.at.index-shown-requires c).After-index-layer)
     c.requires.in_range
 
 pub push_seen-requires : goal.push_seen-requires

@@ -21,14 +21,14 @@ overflow_mul-result c =
 pub returns-then-self : goal.returns-then-self
 returns-then-self c =
     let z = c.args.self.now in
-    c.pair_weight.ensures ∙ pair_weight_is (rules_of z) (z.even c.if-self.true) c.args.one c.args.two c.requires.one_in c.requires.two_in c.requires.same
+    c.pair_weight.ensures ∙ pair_weight_is (rules_of z) (z.sound.even c.if-self.true) c.args.one c.args.two c.requires.one_in c.requires.two_in c.requires.same
 
 pub returns-in-Some : goal.returns-in-Some
 returns-in-Some c =
     let z = c.args.self.now in
     let g : Game = rules_of z in
     let masks : List ℕ = c.in-Some.masks.items in
-    let h : AreMasks g masks = subst (λ m. MatchOption m (HasMasks g → last_count g ≡ 0) (λ (v : Vec ℕ). AreMasks g v.items)) c.in-Some.is z.masked in
+    let h : AreMasks g masks = subst (λ m. MatchOption m (HasMasks g → last_count g ≡ 0) (λ (v : Vec ℕ). AreMasks g v.items)) c.in-Some.is z.sound.masked in
     let one : c.index.result.now ≡ get_or masks c.args.one 0 = c.index.ensures
     ∙ get_or_default_zero masks c.args.one c.index.result.now (omega (arith, h.long, c.requires.one_in)) in
     let two : c.index-in-Some.result.now ≡ get_or masks c.args.two 0 = c.index-in-Some.ensures

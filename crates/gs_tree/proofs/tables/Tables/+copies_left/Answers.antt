@@ -1,3 +1,4 @@
+use Rattle.std.proofs.lemmas.Grind.{common_steps}
 use Rattle.std.proofs.Common.{◌≡◌, ℕ, List, length, get_or, ap, ◌∙◌, arith}
 use Rattle.gs_model.specs.{Cards.{left_after}, Game.{Game}, Signals.{parents, signal_at}}
 use Rattle.gs_model.proofs.Ranges.{length-parents}
@@ -60,11 +61,5 @@ take_cards-requires t c = c.in_ok-left.ensures.few
 pub returns-clause-len : goal.returns-clause-len
 returns-clause-len t c = c.take_cards-2.ensures.len ∙ c.take_cards.ensures.len ∙ c.in_ok-left.ensures.len
 
-pub returns-then-round-eq0-clause-left : goal.returns-then-round-eq0-clause-left
-returns-then-round-eq0-clause-left t c = grind arith
-
-pub returns-then-round-eq0-clause-len : goal.returns-then-round-eq0-clause-len
-returns-then-round-eq0-clause-len t c = grind arith
-
-pub returns-then-round-eq0-clause-few : goal.returns-then-round-eq0-clause-few
-returns-then-round-eq0-clause-few t c = grind arith
+pub returns-then-round-eq0 : goal.returns-then-round-eq0
+returns-then-round-eq0 c = grind (arith, common_steps)

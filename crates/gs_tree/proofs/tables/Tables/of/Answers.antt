@@ -12,26 +12,6 @@ use Rattle.gs_tree.proofs.tables.Tables.of.Goals as goal
 counting : (m n : ℕ) → m ≡ n → suc m ≡ n + 1
 counting m n e = omega arith
 
-pub grow-requires-clause-few : goal.grow-requires-clause-few
-grow-requires-clause-few c =
-    let n : length c.loop-next.tables.layers.items ≡ c.loop-next.next-index = c.loop-next.invariant.rounds in
-    c.requires.limits.signals_in (suc (length c.loop-next.tables.layers.items))
-    (omega (arith, n, ap (λ (x : List Round). length x) c.deref-next-items.ensures.value, length-map c.args.game.now.rounds.items round_rules))
-
-pub grow-requires-clause-private : goal.grow-requires-clause-private
-grow-requires-clause-private c =
-    let s = small_round c.args.game.now.rounds.items c.loop-next.next-index c.next-item.result c.requires.dealable.small
-    (omega (arith, ap (λ (x : List Round). length x) c.deref-next-items.ensures.value))
-    (c.next-item.is ∙ ap (λ (x : List Round). get_or x c.loop-next.next-index c.next-item.result) c.deref-next-items.ensures.value) in
-    omega (arith, s.0)
-
-pub grow-requires-clause-public : goal.grow-requires-clause-public
-grow-requires-clause-public c =
-    let s = small_round c.args.game.now.rounds.items c.loop-next.next-index c.next-item.result c.requires.dealable.small
-    (omega (arith, ap (λ (x : List Round). length x) c.deref-next-items.ensures.value))
-    (c.next-item.is ∙ ap (λ (x : List Round). get_or x c.loop-next.next-index c.next-item.result) c.deref-next-items.ensures.value) in
-    s.1
-
 pub overflow_cast-count : goal.overflow_cast-count
 overflow_cast-count c =
     let g : Game = game_of c.args.game.now in
@@ -63,25 +43,30 @@ loop-next-preserved c =
       counted = counted;
     }
 
-pub grow-requires-clause-round : goal.grow-requires-clause-round
-grow-requires-clause-round c =
-    let i : ℕ = c.loop-next.next-index in
-    let next : Round = c.next-item.result in
-    let rounds : List Round = c.args.game.now.rounds.items in
-    let none : Rules = record { private = 0; public = 0; tree = even } in
-    let here : i < length rounds = omega (arith, ap (λ (x : List Round). length x) c.deref-next-items.ensures.value) in
-    let at : i ≡ suc (length c.loop-next.tables.layers.items) - 1 = omega (arith, c.loop-next.invariant.rounds) in
-    ap round_rules (c.next-item.is ∙ ap (λ (x : List Round). get_or x i next) c.deref-next-items.ensures.value)
-    ∙ sym (get_or-map round_rules rounds i next none here) ∙ ap (λ k. get_or (map round_rules rounds) k none) at
+pub returns : goal.returns
+returns c = grind (arith, common_steps)
 
-pub returns-clause-all : goal.returns-clause-all
-returns-clause-all c = grind (arith, common_steps)
-
-pub grow-requires-clause-counted : goal.grow-requires-clause-counted
-grow-requires-clause-counted c = c.loop-next.invariant.counted ∙ ap (λ k. length (signals (game_of c.args.game.now) k)) (sym c.loop-next.invariant.rounds)
-
-pub grow-requires-clause-tables : goal.grow-requires-clause-tables
-grow-requires-clause-tables c = grind arith
-
-pub returns-clause-tables : goal.returns-clause-tables
-returns-clause-tables c = grind arith
+pub grow-requires : goal.grow-requires
+grow-requires c = record {
+  tables = grind arith;
+  counted = c.loop-next.invariant.counted ∙ ap (λ k. length (signals (game_of c.args.game.now) k)) (sym c.loop-next.invariant.rounds);
+  round = let i : ℕ = c.loop-next.next-index in
+      let next : Round = c.next-item.result in
+      let rounds : List Round = c.args.game.now.rounds.items in
+      let none : Rules = record { private = 0; public = 0; tree = even } in
+      let here : i < length rounds = omega (arith, ap (λ (x : List Round). length x) c.deref-next-items.ensures.value) in
+      let at : i ≡ suc (length c.loop-next.tables.layers.items) - 1 = omega (arith, c.loop-next.invariant.rounds) in
+      ap round_rules (c.next-item.is ∙ ap (λ (x : List Round). get_or x i next) c.deref-next-items.ensures.value)
+      ∙ sym (get_or-map round_rules rounds i next none here) ∙ ap (λ k. get_or (map round_rules rounds) k none) at;
+  few = let n : length c.loop-next.tables.layers.items ≡ c.loop-next.next-index = c.loop-next.invariant.rounds in
+      c.requires.limits.signals_in (suc (length c.loop-next.tables.layers.items))
+      (omega (arith, n, ap (λ (x : List Round). length x) c.deref-next-items.ensures.value, length-map c.args.game.now.rounds.items round_rules));
+  private = let s = small_round c.args.game.now.rounds.items c.loop-next.next-index c.next-item.result c.requires.dealable.small
+      (omega (arith, ap (λ (x : List Round). length x) c.deref-next-items.ensures.value))
+      (c.next-item.is ∙ ap (λ (x : List Round). get_or x c.loop-next.next-index c.next-item.result) c.deref-next-items.ensures.value) in
+      omega (arith, s.0);
+  public = let s = small_round c.args.game.now.rounds.items c.loop-next.next-index c.next-item.result c.requires.dealable.small
+      (omega (arith, ap (λ (x : List Round). length x) c.deref-next-items.ensures.value))
+      (c.next-item.is ∙ ap (λ (x : List Round). get_or x c.loop-next.next-index c.next-item.result) c.deref-next-items.ensures.value) in
+      s.1;
+}

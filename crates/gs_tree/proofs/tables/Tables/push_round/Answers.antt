@@ -85,31 +85,29 @@ loop-parent-preserved c =
       long = c.in_ok-push_children.ensures.long;
     }
 
-pub returns-clause-layer : goal.returns-clause-layer
-returns-clause-layer c =
-    let g : Game = game_of c.args.game.now in
-    let n : ℕ = length c.args.self.now.layers.items in
-    let i : ℕ = c.loop-parent.parent in
-    let ss : List Signal = signals g n in
-    let over : length ss ≤ i = omega (arith, c.requires.counted) in
-    let end : i ≡ length ss = omega (arith, c.requires.counted) in
-    let last : c.len.result ≡ first_child g n i =
-    omega (arith, c.len.ensures, c.loop-parent.grown.layer.shown.ok.0, long (goal.at.returns-clause-layer c).At-loop-parent) in
-    record {
-      shown = c.loop-parent.invariant.shown ∙ ap (flat_map (shows_of g n)) (take_all i ss over) ∙ sym (seen_grown g n);
-      edges = c.loop-parent.invariant.edges ∙ ap (flat_map (edges g n)) (take_all i ss over) ∙ sym (edges_grown g n);
-      firsts = c.in_ok-push.ensures.items ∙ ap (λ x. x ++ c.len.result ∷ []) c.loop-parent.invariant.firsts
-          ∙ ap (λ v. map (first_child g n) (range_with_len 0 i) ++ v ∷ []) last ∙ sym (map-range_with_len_more (first_child g n) 0 i i (omega arith))
-          ∙ ap (λ k. map (first_child g n) (range_with_len 0 (k + 1))) end;
-    }
-
 pub push_children-requires-clause-few_copies : goal.push_children-requires-clause-few_copies
 push_children-requires-clause-few_copies c = subst (All (λ (n : ℕ). n ≤ 9)) (sym c.deref.ensures.value) c.in_ok-left.ensures.few
 
-pub returns-clause-parents : goal.returns-clause-parents
-returns-clause-parents c =
-    parents_grown (game_of c.args.game.now) (length c.args.self.now.layers.items) c.loop-parent.parent c.loop-parent.grown.parents.items
-    (omega (arith, c.requires.counted, c.loop-parent-test.false)) c.loop-parent.invariant.parents
+pub returns : goal.returns
+returns c = record {
+  parents = parents_grown (game_of c.args.game.now) (length c.args.self.now.layers.items) c.loop-parent.parent c.loop-parent.grown.parents.items
+      (omega (arith, c.requires.counted, c.loop-parent-test.false)) c.loop-parent.invariant.parents;
+  layer = let g : Game = game_of c.args.game.now in
+      let n : ℕ = length c.args.self.now.layers.items in
+      let i : ℕ = c.loop-parent.parent in
+      let ss : List Signal = signals g n in
+      let over : length ss ≤ i = omega (arith, c.requires.counted) in
+      let end : i ≡ length ss = omega (arith, c.requires.counted) in
+      let last : c.len.result ≡ first_child g n i =
+      omega (arith, c.len.ensures, c.loop-parent.grown.layer.shown.ok.0, long (goal.at.returns c).At-loop-parent) in
+      record {
+        shown = c.loop-parent.invariant.shown ∙ ap (flat_map (shows_of g n)) (take_all i ss over) ∙ sym (seen_grown g n);
+        edges = c.loop-parent.invariant.edges ∙ ap (flat_map (edges g n)) (take_all i ss over) ∙ sym (edges_grown g n);
+        firsts = c.in_ok-push.ensures.items ∙ ap (λ x. x ++ c.len.result ∷ []) c.loop-parent.invariant.firsts
+            ∙ ap (λ v. map (first_child g n) (range_with_len 0 i) ++ v ∷ []) last ∙ sym (map-range_with_len_more (first_child g n) 0 i i (omega arith))
+            ∙ ap (λ k. map (first_child g n) (range_with_len 0 (k + 1))) end;
+      };
+}
 
 pub push_children-requires-clause-long : goal.push_children-requires-clause-long
 push_children-requires-clause-long c = grind arith
