@@ -1,15 +1,15 @@
 -- Slots one point after another, and that they are few.
-use Rattle.std.proofs.Common.{◌≡◌, ℕ, zero, suc, ◌+◌, ◌-◌, ◌*◌, ◌<◌, ◌≤◌, ◌^◌, List, [], ap, subst, arith, Bool, true, false, cond, sum_by}
+use Rattle.std.proofs.Common.{◌≡◌, ℕ, zero, suc, ◌+◌, ◌-◌, ◌*◌, ◌<◌, ◌≤◌, ◌^◌, List, [], ap, length, subst, arith, Bool, true, false, cond, sum_by}
 use Rattle.std.proofs.{Math.Nat.{mul-le-mul_right}, lemmas.List.Sums.{sum_by-append, sum_by-cons}}
 use Rattle.std.specs.{Prelude.{◌==◌}, List.{range_with_len}}
 use Rattle.gs_filter.specs.Filter.{Filter}
 use Rattle.gs_filter.proofs.ClassLaws.{greatest_within}
-use Rattle.gs_game.specs.{Games.{game_of}, declared.valid.ValidGame.{ValidGame}}
+use Rattle.gs_game.specs.{Games.{game_of}, declared.positions.Point.{Point}, declared.valid.ValidGame.{ValidGame}}
 use Rattle.gs_model.specs.{Classes.{ClassLists, IsClasses, class_count, list_of}, Frame.{Frame, last_round, move_count, player_at, point_count, round_of}}
 use Rattle.gs_model.specs.Positions.{at_point}
 use Rattle.gs_model.proofs.{Ranges.{signal_count_is}, Sparse.{range_append}, Walked.{last_round_of}}
 use Rattle.gs_seq.specs.{Games.{frame_in}, Slots.{slot_count, slots_at, slots_before}}
-use Rattle.gs_seq.proofs.Points.{few, moves_total, walked}
+use Rattle.gs_seq.proofs.Points.{Reads, few, moves_total, round_in, walked}
 
 -- ---- sums over a range
 
@@ -34,6 +34,11 @@ sum_range_le f m n l =
 -- class lists over the parents of a frame are classes of the frame
 pub over : (f : Frame) (c : Filter) → c.parents ≡ f.parents → IsClasses f.parents c.lists
 over f c e = subst (λ (ps : List (List ℕ)). IsClasses ps c.lists) e c.classes
+
+-- the round of a point that was read is one of the classes'
+pub classes_in : (g : ValidGame) (c : Filter) → c.parents ≡ (frame_in g).parents → (q : ℕ) (p : Point) → Reads (frame_in g) q p → q < point_count (frame_in g)
+    → (0 < p.round) × (p.round ≤ length c.lists)
+classes_in g c e q p r l = let h = round_in g q p r l in (h.0, omega (arith, h.1, (over (frame_in g) c e).rounds))
 
 pub class_few : (g : ValidGame) (c : Filter) → c.parents ≡ (frame_in g).parents → (round : ℕ) → 0 < round → round ≤ last_round (frame_in g)
     → class_count c.lists round ≤ 200000

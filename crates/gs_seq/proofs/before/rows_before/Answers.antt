@@ -23,19 +23,18 @@ loop-before-preserved c =
           c.in_ok-push.ensures.items c.loop-before.invariant.long c.loop-before.invariant.rows here;
     }
 
-pub returns-clause-long : goal.returns-clause-long
-returns-clause-long c =
-    let last : c.rounds-count.result ≡ last_round (frame_in c.args.lossless.now.signals.now.game.now) =
-    c.rounds-count.ensures.value ∙ sym (last_round_of (rules_of c.signals-signals.result.now))
-    ∙ ap (λ (x : Signals). last_round (frame_in x.game.now)) c.signals-signals.ensures.held in
-    omega (arith, c.loop-before.invariant.long, last, c.rounds-count.ensures.some, c.loop-before-test.false, c.loop-before.auto.before-end)
-
 pub rows_at-requires-clause-parents : goal.rows_at-requires-clause-parents
 rows_at-requires-clause-parents c = ap (λ (k : Filter). k.parents) c.classes.ensures.held ∙ c.args.lossless.now.parents
     ∙ ap (λ (x : Signals). (frame_in x.game.now).parents) (sym c.signals-signals.ensures.held)
 
-pub returns-clause-rows : goal.returns-clause-rows
-returns-clause-rows c = omega arith
+pub returns : goal.returns
+returns c = record {
+  long = let last : c.rounds-count.result ≡ last_round (frame_in c.args.lossless.now.signals.now.game.now) =
+      c.rounds-count.ensures.value ∙ sym (last_round_of (rules_of c.signals-signals.result.now))
+      ∙ ap (λ (x : Signals). last_round (frame_in x.game.now)) c.signals-signals.ensures.held in
+      omega (arith, c.loop-before.invariant.long, last, c.rounds-count.ensures.some, c.loop-before-test.false, c.loop-before.auto.before-end);
+  rows = omega arith;
+}
 
 pub rows_at-requires-clause-before_last : goal.rows_at-requires-clause-before_last
 rows_at-requires-clause-before_last c = omega arith

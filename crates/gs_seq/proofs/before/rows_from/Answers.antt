@@ -7,6 +7,9 @@ use Rattle.gs_seq.proofs.before.rows_from.Goals as goal
 pub invariant_of-stopped : goal.invariant_of-stopped
 invariant_of-stopped c = record { sound = c.in_ok-stopped.stopped.sound }
 
+pub rows_over-requires-clause-lossless : goal.rows_over-requires-clause-lossless
+rows_over-requires-clause-lossless c = c.requires.lossless
+
 -- the game that is looked at stops after the round
 pub rows_over-requires-clause-stops : goal.rows_over-requires-clause-stops
 rows_over-requires-clause-stops c =
@@ -15,20 +18,14 @@ rows_over-requires-clause-stops c =
     subst (λ (v : ValidGame). StopsAfter (game_of v.game) c.args.round (rules_of c.in_ok-stopped.stopped)) c.game.ensures
     (subst (λ (v : ValidGame). StopsAfter (game_of c.game.result.now.game) c.args.round (game_of v.game)) (sym c.in_ok-stopped.ensures) made)
 
-pub rows_over-requires-clause-lossless : goal.rows_over-requires-clause-lossless
-rows_over-requires-clause-lossless c = c.requires.lossless
-
-pub returns : goal.returns
-returns c = c.rows_over.ensures
-
 pub rows_over-requires-clause-before_last : goal.rows_over-requires-clause-before_last
 rows_over-requires-clause-before_last c = omega arith
 
 pub rows_over-requires-clause-parents : goal.rows_over-requires-clause-parents
 rows_over-requires-clause-parents c = grind arith
 
-pub rows_over-requires-clause-some : goal.rows_over-requires-clause-some
-rows_over-requires-clause-some c = omega arith
+pub returns : goal.returns
+returns c = c.rows_over.ensures
 
 pub stopped-requires : goal.stopped-requires
 stopped-requires c = grind arith

@@ -1,3 +1,4 @@
+use Rattle.std.proofs.lemmas.Grind.{common_steps}
 use Rattle.std.proofs.Common.{◌+◌, ◌∙◌, Vec, sym, arith}
 use Rattle.std.specs.declared.alloc.Global.{Global}
 use Rattle.gs_tree.specs.Trees.{rules_of}
@@ -25,8 +26,8 @@ loop-before-preserved c =
           (sym rows.ok.0 ∙ c.loop-before.invariant.long) c.loop-before.invariant.row c.in_ok-row.ensures;
     }
 
-pub row_by-requires-clause-signals : goal.row_by-requires-clause-signals
-row_by-requires-clause-signals c = c.requires.signals
+pub row_by-requires : goal.row_by-requires
+row_by-requires c = grind (arith, common_steps)
 
 pub returns : goal.returns
 returns c =
@@ -36,20 +37,8 @@ returns c =
     (omega (arith, c.loop-before-test.false, c.loop-before.auto, c.classes-count.ensures))
     c.loop-before.invariant.row
 
-pub row_by-requires-clause-ways : goal.row_by-requires-clause-ways
-row_by-requires-clause-ways c = grind arith
-
 pub loop-before-init : goal.loop-before-init
 loop-before-init c = grind arith
 
-pub row_by-requires-clause-classes : goal.row_by-requires-clause-classes
-row_by-requires-clause-classes c = grind arith
-
-pub row_by-requires-clause-class : goal.row_by-requires-clause-class
-row_by-requires-clause-class c = grind arith
-
 pub overflow_add-before : goal.overflow_add-before
 overflow_add-before c = grind arith
-
-pub row_by-requires-clause-aspect : goal.row_by-requires-clause-aspect
-row_by-requires-clause-aspect c = grind arith

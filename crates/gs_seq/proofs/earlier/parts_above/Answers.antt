@@ -19,17 +19,14 @@ overflow_sub-class c = grind arith
 pub bounds-rows-class : goal.bounds-rows-class
 bounds-rows-class c = grind arith
 
-pub push_above-requires-clause-classes : goal.push_above-requires-clause-classes
-push_above-requires-clause-classes c =
-    let k = get_or c.args.below.now c.loop-class.class-index 0 in
-    let pairs = c.requires.below c.loop-class.class-index 0 c.loop-class-test.true in
-    let here : row_at c.args.rows.now k ≡ c.deref.result.now =
-    get_or-map (λ (v : Vec Pair Global). v.items) c.args.rows.now (k - 1) c.index-rows-class.result [] (omega (arith, pairs.some, pairs.top))
-    ∙ ap (λ (v : Vec Pair Global). v.items) (sym c.index-rows-class.is) ∙ sym c.deref.ensures.value in
-    subst (All (λ (p : Pair). IsClass c.args.classes.now.lists (c.args.round + 1) p.two)) here pairs.classes
-
-pub push_above-requires-clause-before_last : goal.push_above-requires-clause-before_last
-push_above-requires-clause-before_last c = grind arith
-
-pub push_above-requires-clause-some : goal.push_above-requires-clause-some
-push_above-requires-clause-some c = grind arith
+pub push_above-requires : goal.push_above-requires
+push_above-requires c = record {
+  some = grind arith;
+  before_last = grind arith;
+  classes = let k = get_or c.args.below.now c.loop-class.class-index 0 in
+      let pairs = c.requires.below c.loop-class.class-index 0 c.loop-class-test.true in
+      let here : row_at c.args.rows.now k ≡ c.deref.result.now =
+      get_or-map (λ (v : Vec Pair Global). v.items) c.args.rows.now (k - 1) c.index-rows-class.result [] (omega (arith, pairs.some, pairs.top))
+      ∙ ap (λ (v : Vec Pair Global). v.items) (sym c.index-rows-class.is) ∙ sym c.deref.ensures.value in
+      subst (All (λ (p : Pair). IsClass c.args.classes.now.lists (c.args.round + 1) p.two)) here pairs.classes;
+}

@@ -1,20 +1,10 @@
+use Rattle.std.proofs.lemmas.Grind.{common_steps}
 use Rattle.std.proofs.Common.{◌≡◌, ◌+◌, ◌-◌, ◌∙◌, ℕ, Vec, Global, ap, get_or, sym, arith}
 use Rattle.gs_filter.specs.Filter.{Filter}
 use Rattle.gs_model.specs.Classes.{class_count}
 use Rattle.gs_seq.specs.{Games.{frame_in}, Rows.{IsRow, below_class}, declared.pair.Pair.{Pair}}
 use Rattle.gs_seq.proofs.CellLaws.{pushed_to, rows_made}
 use Rattle.gs_seq.proofs.earlier.rows_above.Goals as goal
-
-pub row_above-requires-clause-below : goal.row_above-requires-clause-below
-row_above-requires-clause-below c =
-    let b = c.in_ok-below.ensures in
-    let d = c.index.result.now in
-    let n = c.loop-before.before in
-    let back : n + 1 - 1 ≡ n = omega arith in
-    let test = c.loop-before-test.true in
-    let each = b.each (n + 1) d (omega arith, omega (arith, test, c.classes-count.ensures)) in
-    c.deref.ensures.value ∙ ap (λ (v : Vec ℕ Global). v.items) c.index.ensures ∙ ap (λ j. (get_or c.in_ok-below.below.items j d).items) (sym back) ∙ each
-    ∙ ap (λ (x : Filter). below_class x c.args.round (n + 1) (class_count x.lists (c.args.round + 1))) c.classes-classes.ensures.held
 
 pub loop-before-preserved : goal.loop-before-preserved
 loop-before-preserved c =
@@ -27,20 +17,11 @@ loop-before-preserved c =
           (sym above.ok.0 ∙ c.loop-before.invariant.long) c.loop-before.invariant.row c.in_ok-row.ensures;
     }
 
-pub classes-count-requires-clause-top : goal.classes-count-requires-clause-top
-classes-count-requires-clause-top c = grind arith
+pub classes-count-requires : goal.classes-count-requires
+classes-count-requires c = grind (arith, common_steps)
 
 pub classes_below-requires-clause-before_last : goal.classes_below-requires-clause-before_last
 classes_below-requires-clause-before_last c = grind arith
-
-pub row_above-requires-clause-rows : goal.row_above-requires-clause-rows
-row_above-requires-clause-rows c = grind arith
-
-pub row_above-requires-clause-some : goal.row_above-requires-clause-some
-row_above-requires-clause-some c = grind arith
-
-pub row_above-requires-clause-class : goal.row_above-requires-clause-class
-row_above-requires-clause-class c = grind arith
 
 pub returns : goal.returns
 returns c =
@@ -50,8 +31,21 @@ returns c =
     (omega (arith, c.loop-before-test.false, c.loop-before.auto, c.classes-count.ensures, ap (λ (x : Filter). class_count x.lists c.args.round) c.classes-classes.ensures.held))
     c.loop-before.invariant.row
 
-pub row_above-requires-clause-before_last : goal.row_above-requires-clause-before_last
-row_above-requires-clause-before_last c = omega arith
+pub row_above-requires : goal.row_above-requires
+row_above-requires c = record {
+  some = grind arith;
+  before_last = omega arith;
+  class = grind arith;
+  below = let b = c.in_ok-below.ensures in
+      let d = c.index.result.now in
+      let n = c.loop-before.before in
+      let back : n + 1 - 1 ≡ n = omega arith in
+      let test = c.loop-before-test.true in
+      let each = b.each (n + 1) d (omega arith, omega (arith, test, c.classes-count.ensures)) in
+      c.deref.ensures.value ∙ ap (λ (v : Vec ℕ Global). v.items) c.index.ensures ∙ ap (λ j. (get_or c.in_ok-below.below.items j d).items) (sym back) ∙ each
+      ∙ ap (λ (x : Filter). below_class x c.args.round (n + 1) (class_count x.lists (c.args.round + 1))) c.classes-classes.ensures.held;
+  rows = grind arith;
+}
 
 pub index-requires : goal.index-requires
 index-requires c = grind arith
@@ -64,6 +58,3 @@ overflow_cast-before c = grind arith
 
 pub overflow_add-before : goal.overflow_add-before
 overflow_add-before c = grind arith
-
-pub classes-count-requires-clause-some : goal.classes-count-requires-clause-some
-classes-count-requires-clause-some c = omega arith

@@ -15,9 +15,6 @@ whose : (c : After-index-points-point) → (get_or c.points.result.now c.loop-po
 whose c = chooser c.args.game.now c.points.result.now c.loop-point.point _ c.index-points-point.result c.points.ensures c.point_total-point-end.ensures
     c.loop-point-test.true c.index-points-point.is
 
-pub put_first-requires-clause-own : goal.put_first-requires-clause-own
-put_first-requires-clause-own c = sym (whose (goal.at.put_first-requires-clause-own c).After-index-points-point) ∙ c.if-points-point.true
-
 pub loop-point-preserved : goal.loop-point-preserved
 loop-point-preserved c =
     let at = goal.at.loop-point-preserved c in
@@ -59,17 +56,6 @@ loop-point-preserved c =
           }
     ]
 
-pub returns-clause-firsts : goal.returns-clause-firsts
-returns-clause-firsts c =
-    let f = frame_in c.args.game.now in
-    let all : c.loop-point.point ≡ point_count f = omega (arith, c.loop-point-test.false, c.point_total-point-end.ensures, c.loop-point.auto.point-end) in
-    subst (AreFirstBefore f c.args.classes.now.lists c.args.player c.loop-point.weights.items) all c.loop-point.invariant.firsts
-
-pub put_first-requires-clause-firsts : goal.put_first-requires-clause-firsts
-put_first-requires-clause-firsts c =
-    subst (λ xs. AreFirstBefore (frame_in c.args.game.now) c.args.classes.now.lists c.args.player xs c.loop-point.point) (sym c.deref_mut.ensures.value)
-    c.loop-point.invariant.firsts
-
 pub loop-point-init : goal.loop-point-init
 loop-point-init c = grind (arith, common_steps)
 
@@ -83,23 +69,23 @@ bounds-points-point c =
     let within = subst (λ n. c.loop-point.point < n) c.point_total-point-end.ensures c.loop-point-test.true in
     place_in c.args.game.now c.points.result.now c.loop-point.point c.points.ensures within
 
-pub put_first-requires-clause-clear : goal.put_first-requires-clause-clear
-put_first-requires-clause-clear c =
-    subst (IsClear (slots_before (frame_in c.args.game.now) c.args.classes.now.lists c.args.player c.loop-point.point)) (sym c.deref_mut.ensures.value)
-    c.loop-point.invariant.clear
+pub returns : goal.returns
+returns c = record {
+  long = omega arith;
+  firsts = let f = frame_in c.args.game.now in
+      let all : c.loop-point.point ≡ point_count f = omega (arith, c.loop-point-test.false, c.point_total-point-end.ensures, c.loop-point.auto.point-end) in
+      subst (AreFirstBefore f c.args.classes.now.lists c.args.player c.loop-point.weights.items) all c.loop-point.invariant.firsts;
+}
 
-pub put_first-requires-clause-offsets : goal.put_first-requires-clause-offsets
-put_first-requires-clause-offsets c = c.requires.offsets
-
-pub put_first-requires-clause-in_range : goal.put_first-requires-clause-in_range
-put_first-requires-clause-in_range c =
-    subst (λ n. c.loop-point.point < n) c.point_total-point-end.ensures c.loop-point-test.true
-
-pub put_first-requires-clause-long : goal.put_first-requires-clause-long
-put_first-requires-clause-long c = omega arith
-
-pub returns-clause-long : goal.returns-clause-long
-returns-clause-long c = omega arith
-
-pub put_first-requires-clause-parents : goal.put_first-requires-clause-parents
-put_first-requires-clause-parents c = grind arith
+pub put_first-requires : goal.put_first-requires
+put_first-requires c = record {
+  parents = grind arith;
+  offsets = c.requires.offsets;
+  in_range = subst (λ n. c.loop-point.point < n) c.point_total-point-end.ensures c.loop-point-test.true;
+  own = sym (whose (goal.at.put_first-requires c).After-index-points-point) ∙ c.if-points-point.true;
+  long = omega arith;
+  firsts = subst (λ xs. AreFirstBefore (frame_in c.args.game.now) c.args.classes.now.lists c.args.player xs c.loop-point.point) (sym c.deref_mut.ensures.value)
+      c.loop-point.invariant.firsts;
+  clear = subst (IsClear (slots_before (frame_in c.args.game.now) c.args.classes.now.lists c.args.player c.loop-point.point)) (sym c.deref_mut.ensures.value)
+      c.loop-point.invariant.clear;
+}

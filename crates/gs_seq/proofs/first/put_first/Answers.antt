@@ -6,7 +6,7 @@ use Rattle.gs_model.specs.{Classes.{IsClass, class_count, first_member}, Frame.{
 use Rattle.gs_model.specs.{Plans.{lift, number_before}, Positions.{at_point}}
 use Rattle.gs_model.proofs.Ranges.{in_range}
 use Rattle.gs_seq.specs.{Firsts.{AgreeBefore, IsClear, IsFirstAt}, Games.{frame_in}, Slots.{plan_of, slots_before}, Sources.{MatchSource}}
-use Rattle.gs_seq.proofs.{Points.{Reads, playable, point_reads, round_in, walked_at}, SlotLaws.{over, slots_own_before}}
+use Rattle.gs_seq.proofs.{Points.{Reads, playable, point_reads, walked_at}, SlotLaws.{classes_in, over, slots_own_before}}
 use Rattle.gs_seq.proofs.first.put_first.Goals.{After-len-moves, In-loop-before}
 use Rattle.gs_seq.proofs.first.put_first.Goals as goal
 
@@ -36,16 +36,11 @@ inside c =
     let some = some_move c.args.game.now c.args.point c.requires.in_range in
     (omega (arith, r.room, r.many, some, c.loop-before.auto.weights, c.requires.long), omega (arith, r.few, c.loop-before.auto.weights, c.requires.long))
 
-pub classes-before-end-requires-clause-some : goal.classes-before-end-requires-clause-some
-classes-before-end-requires-clause-some c =
-    (round_in c.args.game.now c.args.point c.index-points-point.result (reads (goal.at.classes-before-end-requires-clause-some c).After-len-moves)
-    c.requires.in_range).0
-
-pub classes-before-end-requires-clause-top : goal.classes-before-end-requires-clause-top
-classes-before-end-requires-clause-top c =
-    let r = round_in c.args.game.now c.args.point c.index-points-point.result (reads (goal.at.classes-before-end-requires-clause-top c).After-len-moves)
-    c.requires.in_range in
-    omega (arith, r.1, (over (frame_in c.args.game.now) c.args.classes.now c.requires.parents).rounds)
+pub classes-before-end-requires : goal.classes-before-end-requires
+classes-before-end-requires c =
+    let h = classes_in c.args.game.now c.args.classes.now c.requires.parents c.args.point c.index-points-point.result
+    (reads (goal.at.classes-before-end-requires c).After-len-moves) c.requires.in_range in
+    record { some = h.0; top = h.1 }
 
 -- the player's last step before the point
 source : (c : In-loop-before)
@@ -146,33 +141,29 @@ loop-before-preserved c =
           get_or-set_other weights slot k came 0 (omega (arith, after)) ∙ c.loop-before.invariant.clear k (omega (arith, place, after)));
     }
 
-pub returns-clause-here : goal.returns-clause-here
-returns-clause-here c =
-    let r = reads (goal.at.returns-clause-here c).After-len-moves in
-    λ k h. c.loop-before.invariant.here k h.0 (omega (
-      arith,
-      h.1,
-      c.loop-before-test.false,
-      c.classes-before-end.ensures,
-      ap (class_count
-          c.args.classes.now.lists) r.round,
-    ))
-
-pub returns-clause-clear : goal.returns-clause-clear
-returns-clause-clear c =
-    let f = frame_in c.args.game.now in
-    let q = c.args.point in
-    let lists = c.args.classes.now.lists in
-    let r = reads (goal.at.returns-clause-clear c).After-len-moves in
-    let all : c.loop-before.before ≡ class_count lists (round_of f (at_point q)) =
-    omega (arith, c.loop-before-test.false, c.loop-before.auto.before-end, c.classes-before-end.ensures, ap (class_count lists) r.round) in
-    λ k l. c.loop-before.invariant.clear k (omega (arith, l, slots_own f lists c.args.player q c.requires.own, ap (λ n. n * move_count f q) all))
-
 pub bounds-points-point : goal.bounds-points-point
 bounds-points-point c = place_in c.args.game.now c.points.result.now c.args.point c.points.ensures c.requires.in_range
 
 pub loop-before-init : goal.loop-before-init
 loop-before-init c = grind arith
 
-pub returns-clause-kept : goal.returns-clause-kept
-returns-clause-kept c = grind arith
+pub returns : goal.returns
+returns c = record {
+  kept = grind arith;
+  here = let r = reads (goal.at.returns c).After-len-moves in
+      λ k h. c.loop-before.invariant.here k h.0 (omega (
+        arith,
+        h.1,
+        c.loop-before-test.false,
+        c.classes-before-end.ensures,
+        ap (class_count
+            c.args.classes.now.lists) r.round,
+      ));
+  clear = let f = frame_in c.args.game.now in
+      let q = c.args.point in
+      let lists = c.args.classes.now.lists in
+      let r = reads (goal.at.returns c).After-len-moves in
+      let all : c.loop-before.before ≡ class_count lists (round_of f (at_point q)) =
+      omega (arith, c.loop-before-test.false, c.loop-before.auto.before-end, c.classes-before-end.ensures, ap (class_count lists) r.round) in
+      λ k l. c.loop-before.invariant.clear k (omega (arith, l, slots_own f lists c.args.player q c.requires.own, ap (λ n. n * move_count f q) all));
+}

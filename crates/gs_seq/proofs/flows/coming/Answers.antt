@@ -30,39 +30,28 @@ here : (c : After-index-points-point) → (get_or c.points.result.now c.args.poi
 here c = (place_reads c.args.game.now c.points.result.now c.args.point c.index-points-point.result c.points.ensures c.requires.in_range
     c.index-points-point.is).round
 
-pub weight_above-requires-clause-some : goal.weight_above-requires-clause-some
-weight_above-requires-clause-some c = (facts (goal.at.weight_above-requires-clause-some c).In-Some).some
-
-pub weight_above-requires-clause-earlier : goal.weight_above-requires-clause-earlier
-weight_above-requires-clause-earlier c =
-    let at = goal.at.weight_above-requires-clause-earlier c in omega (arith, (facts at.In-Some).earlier, here at.After-index-points-point)
-
-pub weight_above-requires-clause-top : goal.weight_above-requires-clause-top
-weight_above-requires-clause-top c =
-    let f = frame_in c.args.game.now in
-    let q = c.args.point in
-    let w = walked_at c.args.game.now (player_at f q) q c.requires.in_range refl in
-    omega (
-      arith,
-      here (goal.at.weight_above-requires-clause-top c).After-index-points-point,
-      w.point_in q c.requires.in_range,
-      (over f c.args.classes.now c.requires.parents).rounds,
-    )
-
-pub weight_above-requires-clause-class : goal.weight_above-requires-clause-class
-weight_above-requires-clause-class c = subst (λ k. IsClass c.args.classes.now.lists k c.args.class)
-    (sym (here (goal.at.weight_above-requires-clause-class c).After-index-points-point)) c.requires.class
-
-pub weight_above-requires-clause-within : goal.weight_above-requires-clause-within
-weight_above-requires-clause-within c = λ above k. omega
-    (arith, (facts (goal.at.weight_above-requires-clause-within c).In-Some).within above k, c.requires.long)
-
-pub weight_above-requires-clause-few : goal.weight_above-requires-clause-few
-weight_above-requires-clause-few c =
-    let f = frame_in c.args.game.now in
-    let q = c.args.point in
-    let few = slots_few c.args.game.now c.args.classes.now c.requires.parents (player_at f q) q (omega (arith, c.requires.in_range)) in
-    λ above k. omega (arith, (facts (goal.at.weight_above-requires-clause-few c).In-Some).within above k, few)
+pub weight_above-requires : goal.weight_above-requires
+weight_above-requires c = record {
+  some = (facts (goal.at.weight_above-requires c).In-Some).some;
+  earlier = let at = goal.at.weight_above-requires c in omega (arith, (facts at.In-Some).earlier, here at.After-index-points-point);
+  top = let f = frame_in c.args.game.now in
+      let q = c.args.point in
+      let w = walked_at c.args.game.now (player_at f q) q c.requires.in_range refl in
+      omega (
+        arith,
+        here (goal.at.weight_above-requires c).After-index-points-point,
+        w.point_in q c.requires.in_range,
+        (over f c.args.classes.now c.requires.parents).rounds,
+      );
+  class = subst (λ k. IsClass c.args.classes.now.lists k c.args.class)
+      (sym (here (goal.at.weight_above-requires c).After-index-points-point)) c.requires.class;
+  within = λ above k. omega
+      (arith, (facts (goal.at.weight_above-requires c).In-Some).within above k, c.requires.long);
+  few = let f = frame_in c.args.game.now in
+      let q = c.args.point in
+      let few = slots_few c.args.game.now c.args.classes.now c.requires.parents (player_at f q) q (omega (arith, c.requires.in_range)) in
+      λ above k. omega (arith, (facts (goal.at.weight_above-requires c).In-Some).within above k, few);
+}
 
 pub returns-in-Some : goal.returns-in-Some
 returns-in-Some c =

@@ -1,7 +1,7 @@
 use Rattle.std.proofs.{lemmas.Grind.{common_steps}, Common.{◌≡◌, ◌+◌, ◌<◌, ◌≤◌, ℕ, sum_by, ap, sym, ◌∙◌, subst, arith, ⊎_elim}, lemmas.Bool.{cases_eq}}
 use Rattle.gs_model.specs.{Classes.{class_count, first_member}, Frame.{choices_at, last_step, round_of}, Plans.{lift, number_before}, Positions.{at_point}}
 use Rattle.gs_seq.specs.{Faults.{FlowsAt}, Games.{frame_in}, Slots.{plan_of}, Sources.{MatchSource}}
-use Rattle.gs_seq.proofs.{Leaks.{RowAt, class_sum, row_at}, Points.{Reads, point_reads, round_in}, SlotLaws.{over, slots_own_before}}
+use Rattle.gs_seq.proofs.{Leaks.{RowAt, class_sum, row_at}, Points.{Reads, point_reads}, SlotLaws.{classes_in, slots_own_before}}
 use Rattle.gs_seq.proofs.flows.first_leak_at.Goals.{After-len-moves, After-from, In-loop-before}
 use Rattle.gs_seq.proofs.flows.first_leak_at.Goals as goal
 
@@ -54,16 +54,11 @@ flows : (c : After-from) → c.total_from.result ≡ c.from.result → FlowsAt (
     (plan_of (frame_in c.args.game.now) c.args.classes.now.lists c.args.total c.args.weights.now) c.args.point (c.loop-before.before + 1)
 flows c e = sym (sums c).sum ∙ e ∙ (sums c).came
 
-pub classes-before-end-requires-clause-some : goal.classes-before-end-requires-clause-some
-classes-before-end-requires-clause-some c =
-    (round_in c.args.game.now c.args.point c.index-points-point.result (reads (goal.at.classes-before-end-requires-clause-some c).After-len-moves)
-    c.requires.in_range).0
-
-pub classes-before-end-requires-clause-top : goal.classes-before-end-requires-clause-top
-classes-before-end-requires-clause-top c =
-    let r = round_in c.args.game.now c.args.point c.index-points-point.result (reads (goal.at.classes-before-end-requires-clause-top c).After-len-moves)
-    c.requires.in_range in
-    omega (arith, r.1, (over (frame_in c.args.game.now) c.args.classes.now c.requires.parents).rounds)
+pub classes-before-end-requires : goal.classes-before-end-requires
+classes-before-end-requires c =
+    let h = classes_in c.args.game.now c.args.classes.now c.requires.parents c.args.point c.index-points-point.result
+    (reads (goal.at.classes-before-end-requires c).After-len-moves) c.requires.in_range in
+    record { some = h.0; top = h.1 }
 
 pub overflow_mul-slot : goal.overflow_mul-slot
 overflow_mul-slot c = let r = row (goal.at.overflow_mul-slot c).In-loop-before in omega (arith, r.room, r.few)

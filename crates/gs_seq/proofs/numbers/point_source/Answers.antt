@@ -27,12 +27,6 @@ returns-in_err-step c =
     λ lists a. subst (MatchSource f lists (player_at f q) (at_point q)) (sym c.from_residual.ensures)
     (none_made f (player_at f q) q c.index-points-point.result r refl own)
 
-pub source_from-requires-clause-point : goal.source_from-requires-clause-point
-source_from-requires-clause-point c =
-    let q = c.args.point in
-    let w = walked_at c.args.game.now (player_at (frame_in c.args.game.now) q) q c.requires.point refl in
-    omega (arith, w.earlier q (step_of c.in_ok-step.step) c.requires.point (step (goal.at.source_from-requires-clause-point c).In_ok-step), c.requires.point)
-
 pub returns : goal.returns
 returns c =
     let f = frame_in c.args.game.now in
@@ -59,5 +53,10 @@ bounds-points-point c = omega (arith, c.requires.point, length-points c.args.gam
 pub bounds-points-point-2 : goal.bounds-points-point-2
 bounds-points-point-2 c = omega (arith, c.requires.point, length-points c.args.game.now c.points.result.now c.points.ensures)
 
-pub source_from-requires-clause-long : goal.source_from-requires-clause-long
-source_from-requires-clause-long c = grind arith
+pub source_from-requires : goal.source_from-requires
+source_from-requires c = record {
+  point = let q = c.args.point in
+      let w = walked_at c.args.game.now (player_at (frame_in c.args.game.now) q) q c.requires.point refl in
+      omega (arith, w.earlier q (step_of c.in_ok-step.step) c.requires.point (step (goal.at.source_from-requires c).In_ok-step), c.requires.point);
+  long = grind arith;
+}

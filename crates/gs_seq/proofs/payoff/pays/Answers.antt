@@ -33,20 +33,11 @@ returns-in-Show c =
     ∙ ap (λ z. z *ℤ to_z w128 (of_z w128 c.from-in-Show.result)) (read_back c.from.result _ (record { sfits = c.from.type_inv }) c.from.ensures)
     ∙ ap (λ z. pos c.args.end.put *ℤ z) (read_back c.from-in-Show.result _ (record { sfits = c.from-in-Show.type_inv }) (c.from-in-Show.ensures ∙ signed)) ∙ sym all)
 
-pub chips_times-requires-in-Show-clause-sum : goal.chips_times-requires-in-Show-clause-sum
-chips_times-requires-in-Show-clause-sum c = grind (arith, common_steps)
+pub chips_times-requires-in-Show : goal.chips_times-requires-in-Show
+chips_times-requires-in-Show c = grind (arith, common_steps)
 
-pub chips_times-requires-in-Show-clause-chips : goal.chips_times-requires-in-Show-clause-chips
-chips_times-requires-in-Show-clause-chips c = grind arith
+pub chips_times-requires-in-Folded2 : goal.chips_times-requires-in-Folded2
+chips_times-requires-in-Folded2 c = grind (arith, common_steps)
 
-pub chips_times-requires-in-Folded2-clause-sum : goal.chips_times-requires-in-Folded2-clause-sum
-chips_times-requires-in-Folded2-clause-sum c = grind arith
-
-pub chips_times-requires-clause-sum : goal.chips_times-requires-clause-sum
-chips_times-requires-clause-sum c = grind arith
-
-pub chips_times-requires-in-Folded2-clause-chips : goal.chips_times-requires-in-Folded2-clause-chips
-chips_times-requires-in-Folded2-clause-chips c = grind arith
-
-pub chips_times-requires-clause-chips : goal.chips_times-requires-clause-chips
-chips_times-requires-clause-chips c = grind arith
+pub chips_times-requires : goal.chips_times-requires
+chips_times-requires c = grind (arith, common_steps)

@@ -14,16 +14,15 @@ rows_of-requires c =
     (λ f lists. IsSingleIn lists (last_round f)) (ap (λ (x : Signals). x.game.now) (sym c.known-lossless.ensures.held_signals))
     (sym c.known-lossless.ensures.held_classes) (c.are_made.ensures t)
 
-pub cells-requires-clause-parents : goal.cells-requires-clause-parents
-cells-requires-clause-parents c = c.requires.parents ∙ ap (λ (g : ValidGame). (frame_in g).parents) (sym c.game.ensures)
-
-pub cells-requires-clause-rows : goal.cells-requires-clause-rows
-cells-requires-clause-rows c =
-    let made = c.known-lossless.result in
-    subst (AreRows (frame_in c.game.result.now) c.args.classes.now.lists) (sym c.deref.ensures.value)
-    (carried made.signals.now.game.now c.game.result.now made.classes.now c.args.classes.now (λ f lists. AreRows f lists c.in_ok-rows.rows.items)
-    (ap (λ (x : Signals). x.game.now) c.known-lossless.ensures.held_signals ∙ sym c.game.ensures) c.known-lossless.ensures.held_classes
-    c.in_ok-rows.ensures.rows)
+pub cells-requires : goal.cells-requires
+cells-requires c = record {
+  parents = c.requires.parents ∙ ap (λ (g : ValidGame). (frame_in g).parents) (sym c.game.ensures);
+  rows = let made = c.known-lossless.result in
+      subst (AreRows (frame_in c.game.result.now) c.args.classes.now.lists) (sym c.deref.ensures.value)
+      (carried made.signals.now.game.now c.game.result.now made.classes.now c.args.classes.now (λ f lists. AreRows f lists c.in_ok-rows.rows.items)
+      (ap (λ (x : Signals). x.game.now) c.known-lossless.ensures.held_signals ∙ sym c.game.ensures) c.known-lossless.ensures.held_classes
+      c.in_ok-rows.ensures.rows);
+}
 
 pub returns : goal.returns
 returns c = subst (λ (x : ValidGame). IfOk c.cells.result (λ n. n ≡ cell_count (frame_in x) c.args.classes.now.lists)) c.game.ensures c.cells.ensures

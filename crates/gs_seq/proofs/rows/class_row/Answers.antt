@@ -1,3 +1,4 @@
+use Rattle.std.proofs.lemmas.Grind.{common_steps}
 use Rattle.std.proofs.Common.{◌≡◌, ◌∙◌, subst, sym, arith}
 use Rattle.gs_model.proofs.Walked.{last_round_of}
 use Rattle.gs_tree.specs.Trees.{rules_of}
@@ -43,17 +44,8 @@ returns c =
     if_ok c.row_of.result (λ v. v.items ≡ gathered c.from.result sums) (λ v. IsRow f lists at.round c.args.class v.items)
     (λ v e. subst (IsRow f lists at.round c.args.class) (sym e) row) c.row_of.ensures
 
-pub size-members-requires-clause-some : goal.size-members-requires-clause-some
-size-members-requires-clause-some c = grind arith
+pub size-members-requires : goal.size-members-requires
+size-members-requires c = grind (arith, common_steps)
 
-pub size-members-requires-clause-top : goal.size-members-requires-clause-top
-size-members-requires-clause-top c = grind arith
-
-pub first-first-requires-clause-some : goal.first-first-requires-clause-some
-first-first-requires-clause-some c = grind arith
-
-pub first-first-requires-clause-top : goal.first-first-requires-clause-top
-first-first-requires-clause-top c = grind arith
-
-pub size-members-requires-clause-class : goal.size-members-requires-clause-class
-size-members-requires-clause-class c = grind arith
+pub first-first-requires : goal.first-first-requires
+first-first-requires c = grind (arith, common_steps)

@@ -1,3 +1,4 @@
+use Rattle.std.proofs.lemmas.Grind.{common_steps}
 use Rattle.std.proofs.Common.{◌+◌, ◌∙◌, Vec, sym, arith}
 use Rattle.std.specs.declared.alloc.Global.{Global}
 use Rattle.gs_seq.specs.{Games.{frame_in}, Rows.{IsRow}, declared.pair.Pair.{Pair}}
@@ -29,8 +30,5 @@ returns c =
     (omega (arith, c.loop-before-test.false, c.loop-before.auto, c.classes-count.ensures))
     c.loop-before.invariant.row
 
-pub classes-count-requires-clause-some : goal.classes-count-requires-clause-some
-classes-count-requires-clause-some c = grind arith
-
-pub classes-count-requires-clause-top : goal.classes-count-requires-clause-top
-classes-count-requires-clause-top c = grind arith
+pub classes-count-requires : goal.classes-count-requires
+classes-count-requires c = grind (arith, common_steps)

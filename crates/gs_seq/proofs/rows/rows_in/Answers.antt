@@ -5,15 +5,14 @@ use Rattle.gs_lossless.proofs.AspectOf.{as_asked}
 use Rattle.gs_seq.specs.{Games.{frame_in}, Rows.{AreRowsIn}}
 use Rattle.gs_seq.proofs.rows.rows_in.Goals as goal
 
-pub class_rows-requires-clause-lossless : goal.class_rows-requires-clause-lossless
-class_rows-requires-clause-lossless c =
-    let at = c.in_ok-deals.ensures in
-    as_asked (λ s k a m. IsLossless (frame_in s.game.now) k.lists) (sym at.signals) (sym at.classes) (sym at.side.0, sym at.side.1) c.requires.lossless
-
 pub returns : goal.returns
 returns c =
     let at = c.in_ok-deals.ensures in
     as_asked (λ s k a m. IfOk c.class_rows.result (λ v. AreRowsIn (frame_in s.game.now) k.lists m v.items)) at.signals at.classes at.aspect c.class_rows.ensures
 
-pub class_rows-requires-clause-aspect : goal.class_rows-requires-clause-aspect
-class_rows-requires-clause-aspect c = grind arith
+pub class_rows-requires : goal.class_rows-requires
+class_rows-requires c = record {
+  aspect = grind arith;
+  lossless = let at = c.in_ok-deals.ensures in
+      as_asked (λ s k a m. IsLossless (frame_in s.game.now) k.lists) (sym at.signals) (sym at.classes) (sym at.aspect.0, sym at.aspect.1) c.requires.lossless;
+}

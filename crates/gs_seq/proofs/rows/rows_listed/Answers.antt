@@ -1,3 +1,4 @@
+use Rattle.std.proofs.lemmas.Grind.{common_steps}
 use Rattle.std.proofs.Common.{◌≡◌, ◌+◌, ◌-◌, ◌∷◌, [], ℕ, List, Vec, Global, ap, get_or, length, sym, ◌∙◌, subst, arith}
 use Rattle.gs_filter.specs.Filter.{Filter}
 use Rattle.gs_model.specs.{Frame.{last_round}, Lossless.{IsLossless}}
@@ -99,8 +100,5 @@ overflow_step-round c = grind arith
 pub loop-round-smaller : goal.loop-round-smaller
 loop-round-smaller c = grind arith
 
-pub returns-in_err-insert-clause-rows : goal.returns-in_err-insert-clause-rows
-returns-in_err-insert-clause-rows c = grind arith
-
-pub returns-in_err-insert-clause-all : goal.returns-in_err-insert-clause-all
-returns-in_err-insert-clause-all c = grind arith
+pub returns-in_err-insert : goal.returns-in_err-insert
+returns-in_err-insert c = grind (arith, common_steps)

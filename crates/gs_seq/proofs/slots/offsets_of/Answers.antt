@@ -1,68 +1,41 @@
-use Rattle.std.proofs.Common.{◌≡◌, ◌⊎◌, ◌+◌, ◌<◌, ◌++◌, ◌∷◌, [], ℕ, List, ap, get_or, length, subst, sym, ◌∙◌, ⊎_elim, arith, below_more}
+use Rattle.std.proofs.Common.{◌≡◌, ◌⊎◌, ◌+◌, ◌^◌, ◌<◌, ◌++◌, ◌∷◌, [], ℕ, List, ap, get_or, length, subst, sym, ◌∙◌, ⊎_elim, arith, below_more}
 use Rattle.std.proofs.lemmas.List.{get_or_append_left, get_or_push}
 use Rattle.gs_game.specs.declared.positions.Point.{Point}
 use Rattle.gs_model.specs.{Classes.{ClassLists}, Frame.{Frame, player_at, point_count}}
-use Rattle.gs_seq.specs.{Games.{frame_in}, Slots.{slots_before}}
+use Rattle.gs_seq.specs.{Games.{frame_in}, Slots.{slot_count, slots_at, slots_before}}
 use Rattle.gs_seq.proofs.{Points.{place_in, players, point_reads}, SlotLaws.{slots_le, slots_more}, slots.offsets_of.Goals.{then-player-eq1, else-player-eq1}}
 use Rattle.gs_seq.proofs.slots.offsets_of.Goals as goal
 
+-- a player's slots at a point fit, alone and after those before it
+slots_fit : (f : Frame) (lists : ClassLists) (player q here before : ℕ) → q < point_count f → slot_count f lists player < 2 ^ 32 → here ≡ slots_at f lists player q
+    → before ≡ slots_before f lists player q → (here < 2 ^ 32) × (before + here < 2 ^ 32)
+slots_fit f lists player q here before l few is at =
+    let more = slots_more f lists player q in let most = slots_le f lists player (q + 1) (point_count f) (omega (arith, l)) in
+    (omega (arith, is, more, most, few), omega (arith, is, at, more, most, few))
+
 pub overflow_cast-one : goal.overflow_cast-one
-overflow_cast-one c =
-    let f = frame_in c.args.game.now in
-    let lists = c.args.classes.now.lists in
-    let q = c.loop-point.point in
-    omega (
-      arith,
-      c.slots_at.ensures,
-      slots_more f lists 1 q,
-      slots_le f lists 1 (q + 1) (point_count f)
-          (omega (arith, c.loop-point-test.true, c.point_total-count.ensures)),
-      c.requires.one,
-    )
+overflow_cast-one c = record {
+  fits = (slots_fit (frame_in c.args.game.now) c.args.classes.now.lists 1 c.loop-point.point c.slots_at.result c.loop-point.one (omega (arith, c.loop-point-test.true, c.point_total-count.ensures))
+      c.requires.one c.slots_at.ensures c.loop-point.invariant.one_is).0;
+}
 
 pub overflow_add-one : goal.overflow_add-one
-overflow_add-one c =
-    let f = frame_in c.args.game.now in
-    let lists = c.args.classes.now.lists in
-    let q = c.loop-point.point in
-    omega (
-      arith,
-      c.slots_at.ensures,
-      c.loop-point.invariant.one_is,
-      slots_more f lists 1 q,
-      slots_le f lists 1 (q + 1) (point_count f)
-          (omega (arith, c.loop-point-test.true, c.point_total-count.ensures)),
-      c.requires.one,
-    )
+overflow_add-one c = record {
+  fits = (slots_fit (frame_in c.args.game.now) c.args.classes.now.lists 1 c.loop-point.point c.slots_at.result c.loop-point.one (omega (arith, c.loop-point-test.true, c.point_total-count.ensures))
+      c.requires.one c.slots_at.ensures c.loop-point.invariant.one_is).1;
+}
 
 pub overflow_cast-two : goal.overflow_cast-two
-overflow_cast-two c =
-    let f = frame_in c.args.game.now in
-    let lists = c.args.classes.now.lists in
-    let q = c.loop-point.point in
-    omega (
-      arith,
-      c.slots_at-in-loop-point.ensures,
-      slots_more f lists 2 q,
-      slots_le f lists 2 (q + 1) (point_count f)
-          (omega (arith, c.loop-point-test.true, c.point_total-count.ensures)),
-      c.requires.two,
-    )
+overflow_cast-two c = record {
+  fits = (slots_fit (frame_in c.args.game.now) c.args.classes.now.lists 2 c.loop-point.point c.slots_at-in-loop-point.result c.loop-point.two (omega (arith, c.loop-point-test.true, c.point_total-count.ensures))
+      c.requires.two c.slots_at-in-loop-point.ensures c.loop-point.invariant.two_is).0;
+}
 
 pub overflow_add-two : goal.overflow_add-two
-overflow_add-two c =
-    let f = frame_in c.args.game.now in
-    let lists = c.args.classes.now.lists in
-    let q = c.loop-point.point in
-    omega (
-      arith,
-      c.slots_at-in-loop-point.ensures,
-      c.loop-point.invariant.two_is,
-      slots_more f lists 2 q,
-      slots_le f lists 2 (q + 1) (point_count f)
-          (omega (arith, c.loop-point-test.true, c.point_total-count.ensures)),
-      c.requires.two,
-    )
+overflow_add-two c = record {
+  fits = (slots_fit (frame_in c.args.game.now) c.args.classes.now.lists 2 c.loop-point.point c.slots_at-in-loop-point.result c.loop-point.two (omega (arith, c.loop-point-test.true, c.point_total-count.ensures))
+      c.requires.two c.slots_at-in-loop-point.ensures c.loop-point.invariant.two_is).1;
+}
 
 second : (n : ℕ) → (n ≡ 1) ⊎ (n ≡ 2) → (n ≡ 1 → ⊥) → n ≡ 2
 second n whose other = ⊎_elim (λ one. absurd (other one)) (λ two. two) whose
@@ -118,20 +91,20 @@ bounds-points-point c =
     let within = subst (λ n. c.loop-point.point < n) c.point_total-count.ensures c.loop-point-test.true in
     place_in c.args.game.now c.points.result.now c.loop-point.point c.points.ensures within
 
-pub slots_at-requires-clause-in_range : goal.slots_at-requires-clause-in_range
-slots_at-requires-clause-in_range c = subst (λ n. c.loop-point.point < n) c.point_total-count.ensures c.loop-point-test.true
-
 pub returns : goal.returns
 returns c = grind arith
 
-pub slots_at-requires-in-loop-point-clause-in_range : goal.slots_at-requires-in-loop-point-clause-in_range
-slots_at-requires-in-loop-point-clause-in_range c = subst (λ n. c.loop-point.point < n) c.point_total-count.ensures c.loop-point-test.true
+pub slots_at-requires : goal.slots_at-requires
+slots_at-requires c = record {
+  parents = c.requires.parents;
+  in_range = subst (λ n. c.loop-point.point < n) c.point_total-count.ensures c.loop-point-test.true;
+}
 
-pub slots_at-requires-clause-parents : goal.slots_at-requires-clause-parents
-slots_at-requires-clause-parents c = c.requires.parents
-
-pub slots_at-requires-in-loop-point-clause-parents : goal.slots_at-requires-in-loop-point-clause-parents
-slots_at-requires-in-loop-point-clause-parents c = c.requires.parents
+pub slots_at-requires-in-loop-point : goal.slots_at-requires-in-loop-point
+slots_at-requires-in-loop-point c = record {
+  parents = c.requires.parents;
+  in_range = subst (λ n. c.loop-point.point < n) c.point_total-count.ensures c.loop-point-test.true;
+}
 
 pub offset_bounds-points-point : goal.offset_bounds-points-point
 offset_bounds-points-point c = omega arith

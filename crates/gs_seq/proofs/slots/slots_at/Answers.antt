@@ -1,4 +1,4 @@
-use Rattle.gs_seq.proofs.{Points.{length-points, point_reads, round_in, walked}, SlotLaws.{class_few, moves_few, over}}
+use Rattle.gs_seq.proofs.{Points.{length-points, point_reads, walked}, SlotLaws.{class_few, classes_in, moves_few}}
 use Rattle.std.proofs.{Common.{◌≡◌, ◌*◌, ◌<◌, ◌≤◌, ◌^◌, true, false, refl, ap, sym, ◌∙◌, arith}, Math.Nat.{mul-le-mul_right}, lemmas.Bool.Decides.{Decides-eqb}}
 use Rattle.std.specs.Prelude.{◌==◌}
 use Rattle.gs_model.specs.{Classes.{class_count}, Frame.{move_count, player_at, round_of}, Positions.{at_point}}
@@ -6,22 +6,12 @@ use Rattle.gs_model.proofs.Basics.{not_eq}
 use Rattle.gs_seq.specs.Games.{frame_in}
 use Rattle.gs_seq.proofs.slots.slots_at.Goals as goal
 
-pub classes-requires-clause-some : goal.classes-requires-clause-some
-classes-requires-clause-some c =
+pub classes-requires : goal.classes-requires
+classes-requires c =
     let r = point_reads c.args.game.now c.points.result.now c.args.point c.index-points-point.result c.points.ensures c.requires.in_range
     c.index-points-point.is in
-    (round_in c.args.game.now c.args.point c.index-points-point.result r c.requires.in_range).0
-
-pub classes-requires-clause-top : goal.classes-requires-clause-top
-classes-requires-clause-top c =
-    let f = frame_in c.args.game.now in
-    let r = point_reads c.args.game.now c.points.result.now c.args.point c.index-points-point.result c.points.ensures c.requires.in_range
-    c.index-points-point.is in
-    omega (
-      arith,
-      (round_in c.args.game.now c.args.point c.index-points-point.result r c.requires.in_range).1,
-      (over f c.args.classes.now c.requires.parents).rounds,
-    )
+    let h = classes_in c.args.game.now c.args.classes.now c.requires.parents c.args.point c.index-points-point.result r c.requires.in_range in
+    record { some = h.0; top = h.1 }
 
 pub overflow_mul-result : goal.overflow_mul-result
 overflow_mul-result c =

@@ -1,3 +1,4 @@
+use Rattle.std.proofs.lemmas.Grind.{common_steps}
 use Rattle.std.proofs.Common.{◌≡◌, ◌∙◌, ap, of_z, pos, sym, to_z, arith}
 use Rattle.std.specs.{Int.{w128}, Prelude.{◌*ℤ◌}}
 use Rattle.gs_game.specs.Seen.{end_of}
@@ -38,38 +39,20 @@ returns-in-Show c =
     ∙ ap (λ z. z *ℤ to_z w128 (of_z w128 c.signed_along.result)) (read_back c.from.result _ (record { sfits = c.from.type_inv }) c.from.ensures)
     ∙ ap (λ z. pos c.args.end.put *ℤ z) (read_back c.signed_along.result _ (record { sfits = c.signed_along.type_inv }) c.signed_along.ensures.value) ∙ sym all)
 
-pub weights_along-requires-clause-slim : goal.weights_along-requires-clause-slim
-weights_along-requires-clause-slim c = grind arith
+pub weights_along-requires : goal.weights_along-requires
+weights_along-requires c = grind (arith, common_steps)
 
-pub chips_times-requires-in-Folded2-clause-chips : goal.chips_times-requires-in-Folded2-clause-chips
-chips_times-requires-in-Folded2-clause-chips c = grind arith
+pub chips_times-requires-in-Folded2 : goal.chips_times-requires-in-Folded2
+chips_times-requires-in-Folded2 c = grind (arith, common_steps)
 
-pub signed_along-requires-clause-slim : goal.signed_along-requires-clause-slim
-signed_along-requires-clause-slim c = grind arith
+pub signed_along-requires : goal.signed_along-requires
+signed_along-requires c = grind (arith, common_steps)
 
-pub chips_times-requires-clause-sum : goal.chips_times-requires-clause-sum
-chips_times-requires-clause-sum c = grind arith
+pub chips_times-requires : goal.chips_times-requires
+chips_times-requires c = grind (arith, common_steps)
 
-pub weights_along-requires-clause-numbers : goal.weights_along-requires-clause-numbers
-weights_along-requires-clause-numbers c = grind arith
+pub weights_along-requires-in-Folded2 : goal.weights_along-requires-in-Folded2
+weights_along-requires-in-Folded2 c = grind (arith, common_steps)
 
-pub chips_times-requires-clause-chips : goal.chips_times-requires-clause-chips
-chips_times-requires-clause-chips c = grind arith
-
-pub weights_along-requires-in-Folded2-clause-slim : goal.weights_along-requires-in-Folded2-clause-slim
-weights_along-requires-in-Folded2-clause-slim c = grind arith
-
-pub chips_times-requires-in-Show-clause-sum : goal.chips_times-requires-in-Show-clause-sum
-chips_times-requires-in-Show-clause-sum c = grind arith
-
-pub weights_along-requires-in-Folded2-clause-numbers : goal.weights_along-requires-in-Folded2-clause-numbers
-weights_along-requires-in-Folded2-clause-numbers c = grind arith
-
-pub chips_times-requires-in-Folded2-clause-sum : goal.chips_times-requires-in-Folded2-clause-sum
-chips_times-requires-in-Folded2-clause-sum c = grind arith
-
-pub signed_along-requires-clause-numbers : goal.signed_along-requires-clause-numbers
-signed_along-requires-clause-numbers c = grind arith
-
-pub chips_times-requires-in-Show-clause-chips : goal.chips_times-requires-in-Show-clause-chips
-chips_times-requires-in-Show-clause-chips c = grind arith
+pub chips_times-requires-in-Show : goal.chips_times-requires-in-Show
+chips_times-requires-in-Show c = grind (arith, common_steps)

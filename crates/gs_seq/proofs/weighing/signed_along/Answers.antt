@@ -18,23 +18,22 @@ part c =
     ∙ ap (λ z. pos c.number_of-number.result *ℤ z) (signed_kept c.args.row.now c.requires.slim c.loop-pair.pair-index no_pair c.loop-pair-test.true)
     ∙ ap (λ n. pos n *ℤ p.signed) c.number_of-number.ensures)
 
-pub number_of-number-requires-clause-some : goal.number_of-number-requires-clause-some
-number_of-number-requires-clause-some c = (c.requires.numbers c.loop-pair.pair-index no_pair c.loop-pair-test.true).0
+pub number_of-number-requires : goal.number_of-number-requires
+number_of-number-requires c = record {
+  some = (c.requires.numbers c.loop-pair.pair-index no_pair c.loop-pair-test.true).0;
+  within = (c.requires.numbers c.loop-pair.pair-index no_pair c.loop-pair-test.true).1;
+}
 
-pub number_of-number-requires-clause-within : goal.number_of-number-requires-clause-within
-number_of-number-requires-clause-within c = (c.requires.numbers c.loop-pair.pair-index no_pair c.loop-pair-test.true).1
-
-pub times-requires-clause-few : goal.times-requires-clause-few
-times-requires-clause-few c = omega (arith, c.number_of-number.ensures, (c.requires.numbers c.loop-pair.pair-index no_pair c.loop-pair-test.true).2)
-
-pub times-requires-clause-fits : goal.times-requires-clause-fits
-times-requires-clause-fits c =
-    let p = get_or c.args.row.now c.loop-pair.pair-index no_pair in
-    subst (λ z. c.number_of-number.result * unsigned_abs z < 2 ^ 127)
-    (sym (signed_kept c.args.row.now c.requires.slim c.loop-pair.pair-index no_pair c.loop-pair-test.true))
-    (subst (λ n. n * unsigned_abs (p.signed) < 2 ^ 127) (sym c.number_of-number.ensures)
-    (product_small c.args.row.now c.args.numbers.now (λ p. p.signed) c.requires.slim c.requires.numbers c.requires.slim.moderate c.loop-pair.pair-index no_pair
-    c.loop-pair-test.true))
+pub times-requires : goal.times-requires
+times-requires c = record {
+  few = omega (arith, c.number_of-number.ensures, (c.requires.numbers c.loop-pair.pair-index no_pair c.loop-pair-test.true).2);
+  fits = let p = get_or c.args.row.now c.loop-pair.pair-index no_pair in
+      subst (λ z. c.number_of-number.result * unsigned_abs z < 2 ^ 127)
+      (sym (signed_kept c.args.row.now c.requires.slim c.loop-pair.pair-index no_pair c.loop-pair-test.true))
+      (subst (λ n. n * unsigned_abs (p.signed) < 2 ^ 127) (sym c.number_of-number.ensures)
+      (product_small c.args.row.now c.args.numbers.now (λ p. p.signed) c.requires.slim c.requires.numbers c.requires.slim.moderate c.loop-pair.pair-index no_pair
+      c.loop-pair-test.true));
+}
 
 pub plus-sum-requires : goal.plus-sum-requires
 plus-sum-requires c =
@@ -46,13 +45,13 @@ loop-pair-preserved c = read_back c.plus-sum.result _ (record { sfits = c.plus-s
     ∙ along_more c.args.row.now c.args.numbers.now (λ p. p.signed) c.requires.slim c.requires.numbers c.requires.slim.moderate c.loop-pair.pair-index no_pair
     c.loop-pair-test.true _ _ c.loop-pair.invariant (part (goal.at.loop-pair-preserved c).After-times))
 
-pub returns-clause-value : goal.returns-clause-value
-returns-clause-value c = c.loop-pair.invariant ∙ ap (sum_z (λ (p : Pair). pos (number_to c.args.numbers.now p) *ℤ p.signed))
-    (take_all c.loop-pair.pair-index c.args.row.now (omega (arith, c.loop-pair-test.false)))
-
-pub returns-clause-small : goal.returns-clause-small
-returns-clause-small c = omega (
-  arith,
-  along_small c.args.row.now c.args.numbers.now (λ p. p.signed) c.requires.slim c.requires.numbers c.requires.slim.moderate c.loop-pair.pair-index,
-  ap unsigned_abs c.loop-pair.invariant,
-)
+pub returns : goal.returns
+returns c = record {
+  value = c.loop-pair.invariant ∙ ap (sum_z (λ (p : Pair). pos (number_to c.args.numbers.now p) *ℤ p.signed))
+      (take_all c.loop-pair.pair-index c.args.row.now (omega (arith, c.loop-pair-test.false)));
+  small = omega (
+    arith,
+    along_small c.args.row.now c.args.numbers.now (λ p. p.signed) c.requires.slim c.requires.numbers c.requires.slim.moderate c.loop-pair.pair-index,
+    ap unsigned_abs c.loop-pair.invariant,
+  );
+}

@@ -1,3 +1,4 @@
+use Rattle.std.proofs.lemmas.Grind.{common_steps}
 use Rattle.std.proofs.Common.{◌≡◌, sym, ◌∙◌, subst, ap, arith}
 use Rattle.gs_lossless.specs.declared.checking.Lossless.{Lossless}
 use Rattle.gs_seq.specs.{Abstracts.{abstract_frame}, Sources.{IsClassAbove}}
@@ -11,11 +12,8 @@ returns-clause-value c =
     subst (λ k. IsClassAbove k c.args.from c.args.to c.args.class c.class_above.result) same c.class_above.ensures.above (abstract_frame a) (form_in_range a)
     (sym a.lossless.now.parents)
 
-pub class_above-requires-clause-class : goal.class_above-requires-clause-class
-class_above-requires-clause-class c = grind arith
+pub class_above-requires : goal.class_above-requires
+class_above-requires c = grind (arith, common_steps)
 
 pub returns-clause-class : goal.returns-clause-class
 returns-clause-class c = grind arith
-
-pub class_above-requires-clause-top : goal.class_above-requires-clause-top
-class_above-requires-clause-top c = grind arith

@@ -1,3 +1,4 @@
+use Rattle.std.proofs.lemmas.Grind.{common_steps}
 use Rattle.std.proofs.Common.{◌≤◌, ◌∙◌, length, sym, ap, arith}
 use Rattle.gs_game.specs.declared.valid.ValidGame.{ValidGame}
 use Rattle.gs_model.specs.{Classes.{IsClass}, Frame.{player_at, round_of}, Positions.{at_point}}
@@ -19,11 +20,8 @@ pub returns : goal.returns
 returns c = carried (λ f ls. IsComing f ls c.args.total c.args.weights.now c.args.point c.args.class c.coming.result)
     (ap frame_in c.game-game.ensures) c.classes.ensures.lists c.coming.ensures
 
-pub point_source-source-requires-clause-long : goal.point_source-source-requires-clause-long
-point_source-source-requires-clause-long c = grind arith
-
-pub point_source-source-requires-clause-point : goal.point_source-source-requires-clause-point
-point_source-source-requires-clause-point c = grind arith
+pub point_source-source-requires : goal.point_source-source-requires
+point_source-source-requires c = grind (arith, common_steps)
 
 pub coming-requires-clause-in_range : goal.coming-requires-clause-in_range
 coming-requires-clause-in_range c = grind arith

@@ -1,3 +1,4 @@
+use Rattle.std.proofs.lemmas.Grind.{common_steps}
 use Rattle.std.proofs.{Common.{ap, subst, sym, arith, ◌∙◌}, lemmas.Int.{to_z-of_z}}
 use mir.Syntax.{w128}
 use Rattle.gs_model.specs.Classes.{IsClass}
@@ -7,11 +8,8 @@ use Rattle.gs_seq.proofs.form.Abstract.end_sum.Goals as goal
 pub pairs-row-requires-clause-class : goal.pairs-row-requires-clause-class
 pairs-row-requires-clause-class c = subst (λ r. IsClass (lists_of c.args.self.now) r c.args.class) (sym c.end_in.ensures.round) c.requires.class
 
-pub row_worth-requires-clause-row : goal.row_worth-requires-clause-row
-row_worth-requires-clause-row c = grind arith
-
-pub row_worth-requires-clause-other : goal.row_worth-requires-clause-other
-row_worth-requires-clause-other c = grind arith
+pub row_worth-requires : goal.row_worth-requires
+row_worth-requires c = grind (arith, common_steps)
 
 pub plan_at-at-requires-clause-plan : goal.plan_at-at-requires-clause-plan
 plan_at-at-requires-clause-plan c = grind arith
@@ -26,11 +24,5 @@ returns c =
     ∙ ap (λ (p : Plan). end_sum f lists c.args.player (class_plan f lists p) c.plan_at-at.result.end c.args.class) at.plan
     ∙ ap (λ z. end_sum f lists c.args.player (class_plan f lists c.args.other.now) z c.args.class) at.end
 
-pub row_worth-requires-clause-end : goal.row_worth-requires-clause-end
-row_worth-requires-clause-end c = omega arith
-
 pub pairs-row-requires-clause-top : goal.pairs-row-requires-clause-top
 pairs-row-requires-clause-top c = omega arith
-
-pub row_worth-requires-clause-some : goal.row_worth-requires-clause-some
-row_worth-requires-clause-some c = omega arith

@@ -20,14 +20,12 @@ overflow_cast-result c = record {
   );
 }
 
-pub returns-clause-value : goal.returns-clause-value
-returns-clause-value c = omega (arith, counted (goal.at.returns-clause-value c).After-len)
-
-pub returns-clause-some : goal.returns-clause-some
-returns-clause-some c = omega (arith, counted (goal.at.returns-clause-some c).After-len, (form_moves c.args.self.now c.args.point c.requires).some)
-
-pub returns-clause-few : goal.returns-clause-few
-returns-clause-few c = omega (arith, counted (goal.at.returns-clause-few c).After-len, (form_moves c.args.self.now c.args.point c.requires).few)
+pub returns : goal.returns
+returns c = record {
+  value = omega (arith, counted (goal.at.returns c).After-len);
+  some = omega (arith, counted (goal.at.returns c).After-len, (form_moves c.args.self.now c.args.point c.requires).some);
+  few = omega (arith, counted (goal.at.returns c).After-len, (form_moves c.args.self.now c.args.point c.requires).few);
+}
 
 pub bounds-points-point : goal.bounds-points-point
 bounds-points-point c = form_inside c.args.self.now c.game.result.now c.points.result.now c.args.point c.game.ensures c.points.ensures c.requires

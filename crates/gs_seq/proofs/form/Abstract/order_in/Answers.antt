@@ -6,21 +6,6 @@ use Rattle.gs_tree.specs.{Trees.{rules_of}, declared.signals.Signals.{Signals}}
 use Rattle.gs_seq.proofs.form.Abstract.order_in.Goals.{in_default-via-in-Some+else-round-rounds, in_default-via-in_default}
 use Rattle.gs_seq.proofs.form.Abstract.order_in.Goals as goal
 
-pub returns-in-Some-clause-last : goal.returns-in-Some-clause-last
-returns-in-Some-clause-last c =
-    let g = c.args.self.now.lossless.now.signals.now.game.now in
-    omega (
-      arith,
-      c.if-round-rounds.true,
-      c.rounds.ensures.value,
-      ap (λ (x : Signals). round_count (rules_of x)) c.signals.ensures.held,
-      last_round_of
-          (game_of g.game),
-    )
-
-pub returns-in-Some-clause-single : goal.returns-in-Some-clause-single
-returns-in-Some-clause-single c = c.args.self.now.single c.in-Some.order c.in-Some.is
-
 pub returns-in_default-clause-listed : goal.returns-in_default-clause-listed
 returns-in_default-clause-listed c =
     let a = c.args.self.now in
@@ -38,8 +23,18 @@ returns-in_default-clause-listed c =
       | in_default-via-in_default w ↦ omega (arith, c.requires, a.listed w.in_default.is)
     ]
 
-pub returns-in-Some-clause-listed : goal.returns-in-Some-clause-listed
-returns-in-Some-clause-listed c = grind arith
-
-pub returns-in-Some-clause-signals : goal.returns-in-Some-clause-signals
-returns-in-Some-clause-signals c = grind arith
+pub returns-in-Some : goal.returns-in-Some
+returns-in-Some c = record {
+  signals = grind arith;
+  last = let g = c.args.self.now.lossless.now.signals.now.game.now in
+      omega (
+        arith,
+        c.if-round-rounds.true,
+        c.rounds.ensures.value,
+        ap (λ (x : Signals). round_count (rules_of x)) c.signals.ensures.held,
+        last_round_of
+            (game_of g.game),
+      );
+  single = c.args.self.now.single c.in-Some.order c.in-Some.is;
+  listed = grind arith;
+}

@@ -22,13 +22,13 @@ along c = record {
       c.row.ensures;
 }
 
-pub row_paid-requires-clause-slim : goal.row_paid-requires-clause-slim
-row_paid-requires-clause-slim c = row_slim c.args.self.now c.args.player c.args.end c.args.class _ (along (goal.at.row_paid-requires-clause-slim c).After-row)
-    c.args.numbers.now c.requires.wide c.requires.few
-
-pub row_paid-requires-clause-numbers : goal.row_paid-requires-clause-numbers
-row_paid-requires-clause-numbers c = row_numbers c.args.self.now c.args.player c.args.end c.args.class _
-    (along (goal.at.row_paid-requires-clause-numbers c).After-row) c.args.numbers.now c.requires.wide c.requires.few
+pub row_paid-requires : goal.row_paid-requires
+row_paid-requires c = record {
+  slim = row_slim c.args.self.now c.args.player c.args.end c.args.class _ (along (goal.at.row_paid-requires c).After-row)
+      c.args.numbers.now c.requires.wide c.requires.few;
+  numbers = row_numbers c.args.self.now c.args.player c.args.end c.args.class _
+      (along (goal.at.row_paid-requires c).After-row) c.args.numbers.now c.requires.wide c.requires.few;
+}
 
 pub returns-in-None : goal.returns-in-None
 returns-in-None c = read_back c.row_paid.result _ (record { sfits = c.row_paid.type_inv }) (c.row_paid.ensures
@@ -45,37 +45,33 @@ given_wholes c = subst
 abbrev no_pair : Pair
 no_pair = record { two = 0; weight = 0; signed = pos 0 }
 
-pub times_pays-requires-clause-few : goal.times_pays-requires-clause-few
-times_pays-requires-clause-few c =
-    let a = c.args.self.now in
-    let g = given_in a in
-    let row = (given_wholes (goal.at.times_pays-requires-clause-few c).In-Some).wholes_are.each c.args.class no_pair c.requires.class in
-    omega (
-      arith,
-      whole_few (abstract_frame a) g.in_range (lists_of a) g.classes c.args.player (g.walked c.args.player c.requires.some c.requires.two) g.modest
-          c.args.end c.requires.end c.args.class row.0 row.1,
-      ap (λ (p : Pair). p.weight) row.2,
-    )
-
-pub times_pays-requires-clause-moderate : goal.times_pays-requires-clause-moderate
-times_pays-requires-clause-moderate c =
-    let a = c.args.self.now in
-    let g = given_in a in
-    let row = (given_wholes (goal.at.times_pays-requires-clause-moderate c).In-Some).wholes_are.each c.args.class no_pair c.requires.class in
-    omega (
-      arith,
-      whole_moderate (abstract_frame a) g.in_range (lists_of a) g.classes c.args.player (g.walked c.args.player c.requires.some c.requires.two) g.modest
-          c.args.end c.requires.end c.args.class row.0 row.1,
-      ap (λ (p : Pair). p.weight) row.2,
-      ap (λ (p : Pair). unsigned_abs p.signed) row.2,
-    )
-
-pub times_pays-requires-clause-number : goal.times_pays-requires-clause-number
-times_pays-requires-clause-number c = omega (
-  arith,
-  c.number_of-number.ensures,
-  c.requires.few (c.args.class - 1) (omega (arith, c.requires.class.0, c.requires.class.1)),
-)
+pub times_pays-requires : goal.times_pays-requires
+times_pays-requires c = record {
+  few = let a = c.args.self.now in
+      let g = given_in a in
+      let row = (given_wholes (goal.at.times_pays-requires c).In-Some).wholes_are.each c.args.class no_pair c.requires.class in
+      omega (
+        arith,
+        whole_few (abstract_frame a) g.in_range (lists_of a) g.classes c.args.player (g.walked c.args.player c.requires.some c.requires.two) g.modest
+            c.args.end c.requires.end c.args.class row.0 row.1,
+        ap (λ (p : Pair). p.weight) row.2,
+      );
+  moderate = let a = c.args.self.now in
+      let g = given_in a in
+      let row = (given_wholes (goal.at.times_pays-requires c).In-Some).wholes_are.each c.args.class no_pair c.requires.class in
+      omega (
+        arith,
+        whole_moderate (abstract_frame a) g.in_range (lists_of a) g.classes c.args.player (g.walked c.args.player c.requires.some c.requires.two) g.modest
+            c.args.end c.requires.end c.args.class row.0 row.1,
+        ap (λ (p : Pair). p.weight) row.2,
+        ap (λ (p : Pair). unsigned_abs p.signed) row.2,
+      );
+  number = omega (
+    arith,
+    c.number_of-number.ensures,
+    c.requires.few (c.args.class - 1) (omega (arith, c.requires.class.0, c.requires.class.1)),
+  );
+}
 
 pub returns-in-Some : goal.returns-in-Some
 returns-in-Some c =

@@ -1,3 +1,4 @@
+use Rattle.std.proofs.lemmas.Grind.{common_steps}
 use Rattle.std.proofs.Common.{◌≡◌, ◌<◌, ◌+◌, ◌∙◌, arith, below_more, length, of_z, pos, to_z}
 use Rattle.std.proofs.lemmas.List.{get_or-set_other, get_or-set_same}
 use Rattle.std.specs.Int.{w128}
@@ -27,17 +28,8 @@ loop-before-preserved c =
       behind = λ i l. get_or-set_other sums n i put (pos 0) (omega (arith, l)) ∙ c.loop-before.invariant.behind i (omega (arith, l));
     }
 
-pub returns-clause-behind : goal.returns-clause-behind
-returns-clause-behind c = grind arith
+pub returns : goal.returns
+returns c = grind (arith, common_steps)
 
-pub returns-clause-here : goal.returns-clause-here
-returns-clause-here c = grind arith
-
-pub paid-requires-clause-few : goal.paid-requires-clause-few
-paid-requires-clause-few c = grind arith
-
-pub paid-requires-clause-wholes : goal.paid-requires-clause-wholes
-paid-requires-clause-wholes c = grind arith
-
-pub paid-requires-clause-end : goal.paid-requires-clause-end
-paid-requires-clause-end c = grind arith
+pub paid-requires : goal.paid-requires
+paid-requires c = grind (arith, common_steps)

@@ -1,3 +1,4 @@
+use Rattle.std.proofs.lemmas.Grind.{common_steps}
 use Rattle.std.proofs.Common.{◌∙◌, arith}
 use Rattle.gs_seq.proofs.{EndTotals.{end_within, ends_are_all, range_begun}, Forms.{given_in}, Signed.{read_back}}
 use Rattle.gs_seq.proofs.form.Abstract.payoff.Goals as goal
@@ -18,11 +19,5 @@ returns c =
     (omega (arith, c.end_total-end-end.ensures, c.loop-end-test.false, c.loop-end.auto.end-end)) _
     c.loop-end.invariant
 
-pub payoff_at-requires-clause-y : goal.payoff_at-requires-clause-y
-payoff_at-requires-clause-y c = grind arith
-
-pub payoff_at-requires-clause-x : goal.payoff_at-requires-clause-x
-payoff_at-requires-clause-x c = grind arith
-
-pub payoff_at-requires-clause-end : goal.payoff_at-requires-clause-end
-payoff_at-requires-clause-end c = grind arith
+pub payoff_at-requires : goal.payoff_at-requires
+payoff_at-requires c = grind (arith, common_steps)

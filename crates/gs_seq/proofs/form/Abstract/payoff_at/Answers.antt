@@ -1,3 +1,4 @@
+use Rattle.std.proofs.lemmas.Grind.{common_steps}
 use Rattle.std.proofs.Common.{◌≡◌, ◌+◌, ◌∙◌, ap, arith, of_z, subst, to_z}
 use Rattle.std.specs.{Int.{w128}, List.{range_with_len}}
 use Rattle.gs_model.specs.{Pairs.{class_number}, Sums.{sum_z}}
@@ -40,8 +41,8 @@ loop-before-preserved c =
     (next (goal.at.loop-before-preserved c).After-end_sum-worth) _ _ c.loop-before.invariant
     (read_back c.scaled.result _ (record { sfits = c.scaled.type_inv }) c.scaled.ensures))
 
-pub end_sum-worth-requires-clause-other : goal.end_sum-worth-requires-clause-other
-end_sum-worth-requires-clause-other c = grind arith
+pub end_sum-worth-requires : goal.end_sum-worth-requires
+end_sum-worth-requires c = grind (arith, common_steps)
 
 pub returns : goal.returns
 returns c =
@@ -58,6 +59,3 @@ returns c =
 
 pub number_at_end-number-requires-clause-plan : goal.number_at_end-number-requires-clause-plan
 number_at_end-number-requires-clause-plan c = grind arith
-
-pub end_sum-worth-requires-clause-end : goal.end_sum-worth-requires-clause-end
-end_sum-worth-requires-clause-end c = omega arith

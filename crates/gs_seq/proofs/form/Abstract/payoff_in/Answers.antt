@@ -2,20 +2,6 @@ use Rattle.std.proofs.Common.{◌∙◌, arith}
 use Rattle.gs_seq.proofs.{EndTotals.{end_within, ends_are_all, range_begun}, Forms.{given_in}, Signed.{read_back}}
 use Rattle.gs_seq.proofs.form.Abstract.payoff_in.Goals as goal
 
-pub payoff_read-requires-clause-sums : goal.payoff_read-requires-clause-sums
-payoff_read-requires-clause-sums c = omega (
-  arith,
-  c.requires.sums c.loop-end.end (omega (arith, c.end_total-end-end.ensures, c.loop-end-test.true)),
-  c.loop-end.auto.sums,
-)
-
-pub payoff_read-requires-clause-numbers : goal.payoff_read-requires-clause-numbers
-payoff_read-requires-clause-numbers c = omega (
-  arith,
-  c.requires.numbers c.loop-end.end (omega (arith, c.end_total-end-end.ensures, c.loop-end-test.true)),
-  c.loop-end.auto.numbers,
-)
-
 pub plus-sum-requires : goal.plus-sum-requires
 plus-sum-requires c =
     end_within _ _ (given_in c.args.self.now) _ _ c.requires.x.plan.plan c.requires.y.plan.plan c.loop-end.end
@@ -32,11 +18,19 @@ returns c =
     (omega (arith, c.end_total-end-end.ensures, c.loop-end-test.false, c.loop-end.auto.end-end)) _
     c.loop-end.invariant
 
-pub payoff_read-requires-clause-y : goal.payoff_read-requires-clause-y
-payoff_read-requires-clause-y c = grind arith
-
-pub payoff_read-requires-clause-x : goal.payoff_read-requires-clause-x
-payoff_read-requires-clause-x c = grind arith
-
-pub payoff_read-requires-clause-end : goal.payoff_read-requires-clause-end
-payoff_read-requires-clause-end c = grind arith
+pub payoff_read-requires : goal.payoff_read-requires
+payoff_read-requires c = record {
+  x = grind arith;
+  y = grind arith;
+  end = grind arith;
+  sums = omega (
+    arith,
+    c.requires.sums c.loop-end.end (omega (arith, c.end_total-end-end.ensures, c.loop-end-test.true)),
+    c.loop-end.auto.sums,
+  );
+  numbers = omega (
+    arith,
+    c.requires.numbers c.loop-end.end (omega (arith, c.end_total-end-end.ensures, c.loop-end-test.true)),
+    c.loop-end.auto.numbers,
+  );
+}

@@ -1,3 +1,4 @@
+use Rattle.std.proofs.lemmas.Grind.{common_steps}
 use Rattle.std.proofs.Common.{rules, ◌≡◌, ◌+◌, ◌-◌, ℕ, List, ap, ◌∙◌, arith, get_or, pos, FitsSigned, of_z, subst, sym, to_z}
 use Rattle.std.specs.{Int.{w128}, List.{range_with_len}, Prelude.{ℤ}}
 use Rattle.gs_model.specs.{Classes.{IsClass}, Frame.{round_of}, Pairs.{class_number}, Positions.{at_end}, Sums.{sum_z}}
@@ -69,17 +70,14 @@ returns c =
     c.loop-before.invariant
     ∙ ap (λ n. sum_z (class_term f ls (class_plan f ls c.args.x.now) (class_plan f ls c.args.y.now) c.args.end) (range_with_len 1 n)) all
 
-pub plan_at-own-requires-clause-plan : goal.plan_at-own-requires-clause-plan
-plan_at-own-requires-clause-plan c = grind arith
+pub plan_at-own-requires : goal.plan_at-own-requires
+plan_at-own-requires c = grind (arith, common_steps)
 
-pub end_sums-requires-clause-other : goal.end_sums-requires-clause-other
-end_sums-requires-clause-other c = grind arith
+pub end_sums-requires : goal.end_sums-requires
+end_sums-requires c = grind (arith, common_steps)
 
 pub end_class_total-before-end-requires : goal.end_class_total-before-end-requires
 end_class_total-before-end-requires c = omega arith
-
-pub plan_at-own-requires-clause-end : goal.plan_at-own-requires-clause-end
-plan_at-own-requires-clause-end c = grind arith
 
 pub overflow_cast-before : goal.overflow_cast-before
 overflow_cast-before c = omega arith
@@ -87,14 +85,5 @@ overflow_cast-before c = omega arith
 pub offset_bounds-sums-before : goal.offset_bounds-sums-before
 offset_bounds-sums-before c = omega arith
 
-pub plan_at-own-requires-clause-some : goal.plan_at-own-requires-clause-some
-plan_at-own-requires-clause-some c = grind arith
-
 pub overflow_add-before : goal.overflow_add-before
 overflow_add-before c = grind arith
-
-pub end_sums-requires-clause-wide : goal.end_sums-requires-clause-wide
-end_sums-requires-clause-wide c = omega arith
-
-pub end_sums-requires-clause-end : goal.end_sums-requires-clause-end
-end_sums-requires-clause-end c = grind arith

@@ -1,3 +1,4 @@
+use Rattle.std.proofs.lemmas.Grind.{common_steps}
 use Rattle.std.proofs.Common.{◌<◌, ap, sym, ◌∙◌, subst, arith}
 use Rattle.gs_game.specs.declared.valid.ValidGame.{ValidGame}
 use Rattle.gs_model.specs.Frame.{end_count}
@@ -26,8 +27,5 @@ returns-clause-form c = record {
       (carried (λ f ls. AreOffsets f ls c.offsets.result.now) (sym (ap frame_in c.game-game.ensures)) (sym c.classes-classes.ensures.lists) c.offsets.ensures);
 }
 
-pub end_source-source-requires-clause-end : goal.end_source-source-requires-clause-end
-end_source-source-requires-clause-end c = grind arith
-
-pub end_source-source-requires-clause-long : goal.end_source-source-requires-clause-long
-end_source-source-requires-clause-long c = grind arith
+pub end_source-source-requires : goal.end_source-source-requires
+end_source-source-requires c = grind (arith, common_steps)

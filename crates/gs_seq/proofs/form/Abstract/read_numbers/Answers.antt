@@ -1,3 +1,4 @@
+use Rattle.std.proofs.lemmas.Grind.{common_steps}
 use Rattle.std.proofs.Common.{◌≡◌, ◌≢◌, ℕ, ◌+◌, ◌<◌, ◌≤◌, ◌^◌, ◌∙◌, List, ap, arith, get_or, length, set, subst, sym, ⊎_elim}
 use Rattle.std.proofs.{lemmas.Bool.{cases_eq}, lemmas.Grind.{get_or-set_at}, lemmas.List.{get_or-set_other}}
 use Rattle.gs_model.specs.{Classes.{IsClass}, Frame.{round_of}, Pairs.{class_number}, Positions.{at_end}}
@@ -50,11 +51,8 @@ loop-before-preserved c =
 pub plan_at-at-requires-clause-plan : goal.plan_at-at-requires-clause-plan
 plan_at-at-requires-clause-plan c = grind arith
 
-pub returns-clause-numbers : goal.returns-clause-numbers
-returns-clause-numbers c = grind arith
-
-pub returns-clause-few : goal.returns-clause-few
-returns-clause-few c = grind arith
+pub returns : goal.returns
+returns c = grind (arith, common_steps)
 
 pub bounds-numbers-before : goal.bounds-numbers-before
 bounds-numbers-before c = omega arith

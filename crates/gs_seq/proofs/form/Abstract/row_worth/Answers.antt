@@ -47,9 +47,6 @@ loop-pair-init c =
     come_begun (pair_term (abstract_frame c.args.self.now) (lists_of c.args.self.now) c.args.player
     (class_plan (abstract_frame c.args.self.now) (lists_of c.args.self.now) c.args.other.now.plan.now) c.args.other.now.end) c.args.row _ begins
 
-pub number_at-number-requires-clause-class : goal.number_at-number-requires-clause-class
-number_at-number-requires-clause-class c = (here (goal.at.number_at-number-requires-clause-class c).In-Some).known.class
-
 pub add_pays-sum-requires : goal.add_pays-sum-requires
 add_pays-sum-requires c =
     let at = goal.at.add_pays-sum-requires c in
@@ -85,5 +82,8 @@ returns c =
     (number_at c.args.self.now c.args.player c.args.other.now.plan.now c.args.other.now.end) c.loop-pair.pair-iterator _
     c.loop-pair.invariant c.in-None.ensures.steps.0
 
-pub number_at-number-requires-clause-form : goal.number_at-number-requires-clause-form
-number_at-number-requires-clause-form c = grind arith
+pub number_at-number-requires : goal.number_at-number-requires
+number_at-number-requires c = record {
+  form = grind arith;
+  class = (here (goal.at.number_at-number-requires c).In-Some).known.class;
+}

@@ -21,8 +21,8 @@ overflow_add-result c = omega (arith, (facts (goal.at.overflow_add-result c).Aft
 pub overflow_add-result-2 : goal.overflow_add-result-2
 overflow_add-result-2 c = omega (arith, (facts (goal.at.overflow_add-result-2 c).After-index).few, c.from.ensures)
 
-pub returns-clause-value : goal.returns-clause-value
-returns-clause-value c = omega (arith, (facts (goal.at.returns-clause-value c).After-index).is, c.from.ensures)
-
-pub returns-clause-within : goal.returns-clause-within
-returns-clause-within c = omega (arith, (facts (goal.at.returns-clause-within c).After-index).within, c.from.ensures)
+pub returns : goal.returns
+returns c = record {
+  value = omega (arith, (facts (goal.at.returns c).After-index).is, c.from.ensures);
+  within = omega (arith, (facts (goal.at.returns c).After-index).within, c.from.ensures);
+}

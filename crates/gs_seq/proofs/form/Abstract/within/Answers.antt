@@ -61,19 +61,6 @@ wholes_of-requires c =
     subst (All (λ (v : Vec (Vec Pair Global) Global). All (λ (r : Vec Pair Global). IsSlim r.items) v.items)) (sym c.deref.ensures.value)
     (rows_slim s.signals.now.game.now s.classes.now s.parents c.in_ok-rows.rows.items c.in_ok-rows.ensures.rows)
 
-pub cells-requires-clause-rows : goal.cells-requires-clause-rows
-cells-requires-clause-rows c =
-    let s = c.args.lossless.now in
-    let game = c.game-game.result.now in
-    let classes = c.classes-classes.result.now in
-    let same : s.signals.now.game.now ≡ game = sym (c.game-game.ensures ∙ ap (λ (x : Signals). x.game.now) c.signals-signals.ensures.held) in
-    subst (AreRows (frame_in game) classes.lists) (sym c.deref-2.ensures.value)
-    (carried s.signals.now.game.now game s.classes.now classes (λ f lists. AreRows f lists c.in_ok-rows.rows.items) same
-    (sym c.classes-classes.ensures.held) c.in_ok-rows.ensures.rows)
-
-pub returns-then-count-most-clause-refused : goal.returns-then-count-most-clause-refused
-returns-then-count-most-clause-refused c = let at = (goal.at.returns-then-count-most-clause-refused c).In_ok-count in (few at, count at, c.if-count-most.true)
-
 pub invariant_of-result : goal.invariant_of-result
 invariant_of-result c =
     let at = (goal.at.invariant_of-result c).After-game-game in
@@ -90,27 +77,35 @@ invariant_of-result c =
       listed = λ none. c.in_ok-rows.ensures.all (c.is_some.ensures ∙ ap is_some none);
     }
 
-pub returns-clause-small : goal.returns-clause-small
-returns-clause-small c = let at = (goal.at.returns-clause-small c).In_ok-count in record
-    { sequences = few at; cells = omega (arith, count at, c.if-count-most.false) }
-
 pub offsets_of-requires-clause-parents : goal.offsets_of-requires-clause-parents
 offsets_of-requires-clause-parents c = over (goal.at.offsets_of-requires-clause-parents c).After-game-game
 
 pub few_slots-requires : goal.few_slots-requires
 few_slots-requires c = over (goal.at.few_slots-requires c).After-game-game
 
-pub cells-requires-clause-parents : goal.cells-requires-clause-parents
-cells-requires-clause-parents c = over (goal.at.cells-requires-clause-parents c).After-game-game
+pub cells-requires : goal.cells-requires
+cells-requires c = record {
+  parents = over (goal.at.cells-requires c).After-game-game;
+  rows = let s = c.args.lossless.now in
+      let game = c.game-game.result.now in
+      let classes = c.classes-classes.result.now in
+      let same : s.signals.now.game.now ≡ game = sym (c.game-game.ensures ∙ ap (λ (x : Signals). x.game.now) c.signals-signals.ensures.held) in
+      subst (AreRows (frame_in game) classes.lists) (sym c.deref-2.ensures.value)
+      (carried s.signals.now.game.now game s.classes.now classes (λ f lists. AreRows f lists c.in_ok-rows.rows.items) same
+      (sym c.classes-classes.ensures.held) c.in_ok-rows.ensures.rows);
+}
 
-pub returns-clause-held : goal.returns-clause-held
-returns-clause-held c = grind arith
+pub returns-then-count-most : goal.returns-then-count-most
+returns-then-count-most c = record {
+  held = omega arith;
+  small = omega arith;
+  refused = let at = (goal.at.returns-then-count-most c).In_ok-count in (few at, count at, c.if-count-most.true);
+}
 
-pub returns-then-count-most-clause-small : goal.returns-then-count-most-clause-small
-returns-then-count-most-clause-small c = omega arith
-
-pub returns-then-count-most-clause-held : goal.returns-then-count-most-clause-held
-returns-then-count-most-clause-held c = omega arith
-
-pub returns-clause-refused : goal.returns-clause-refused
-returns-clause-refused c = omega arith
+pub returns : goal.returns
+returns c = record {
+  held = grind arith;
+  small = let at = (goal.at.returns c).In_ok-count in record
+      { sequences = few at; cells = omega (arith, count at, c.if-count-most.false) };
+  refused = omega arith;
+}

@@ -10,17 +10,14 @@ invariant_of-self-2 c =
     let first : deals_left c.self.inside.deals ≡ c.in_ok-deal.deal ∷ rest = ap deals_left c.in-Some.is ∙ c.in_ok-deal.ensures.steps in
     All-tail IsSlight c.in_ok-deal.deal rest (subst (All IsSlight) first c.self.invariant)
 
-pub returns-clause-steps : goal.returns-clause-steps
-returns-clause-steps c = grind (arith, common_steps)
+pub returns : goal.returns
+returns c = grind (arith, common_steps)
 
-pub returns-then-not-is_empty-clause-steps : goal.returns-then-not-is_empty-clause-steps
-returns-then-not-is_empty-clause-steps c = grind (arith, common_steps)
+pub returns-then-not-is_empty : goal.returns-then-not-is_empty
+returns-then-not-is_empty c = grind (arith, common_steps)
 
-pub returns-in_err-deal-clause-goes : goal.returns-in_err-deal-clause-goes
-returns-in_err-deal-clause-goes c = grind arith
-
-pub returns-in_err-deal-clause-steps : goal.returns-in_err-deal-clause-steps
-returns-in_err-deal-clause-steps c = grind (arith, common_steps)
+pub returns-in_err-deal : goal.returns-in_err-deal
+returns-in_err-deal c = grind (arith, common_steps)
 
 pub pair_of-requires : goal.pair_of-requires
 pair_of-requires c = grind arith
@@ -33,12 +30,6 @@ invariant_of-self-in_err-deal c = grind arith
 
 pub returns-in_default-clause-steps : goal.returns-in_default-clause-steps
 returns-in_default-clause-steps c = grind (arith, common_steps)
-
-pub returns-clause-goes : goal.returns-clause-goes
-returns-clause-goes c = grind (arith, common_steps)
-
-pub returns-then-not-is_empty-clause-goes : goal.returns-then-not-is_empty-clause-goes
-returns-then-not-is_empty-clause-goes c = grind (arith, common_steps)
 
 pub bounds-self-inside-0 : goal.bounds-self-inside-0
 bounds-self-inside-0 c = grind arith
