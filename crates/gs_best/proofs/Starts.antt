@@ -5,7 +5,7 @@ use Rattle.gs_model.specs.{Classes.{IsClass, class_count, classes_in}, Frame.{Fr
 use Rattle.gs_model.specs.{Positions.{Target, at_end, at_point}, Sums.{sum_z}}
 use Rattle.gs_seq.proofs.Forms.{form_classes, form_in_range}
 use Rattle.gs_best.specs.{ClassTotals.{IsFollowed}, Places.{IsFollowedFrom}, LaterRows.{IsRowOf}, Sides.{frame_at, lists_at, plan_at, totals_at}}
-use Rattle.gs_best.specs.{declared.row.Row.{Row}, declared.side.Side.{Side}}
+use Rattle.gs_best.specs.{declared.class_row.ClassRow.{ClassRow}, declared.side.Side.{Side}}
 use Rattle.gs_best.proofs.{Chips.{form_modest}, Modest.{figures, known_modest}, Players.{apart, either_player, other_walked, walked}, Stepping.{from_some}}
 use Rattle.gs_best.proofs.{Gathered.{sum_shift}, TotalBounds.{round_few}}
 
@@ -20,7 +20,7 @@ from_first (at_end z) = tt
 
 module _ (s : Side) (values : List ℤ) (g : Target) (i : IsInside (frame_at s) g) where
   -- the sum of the numbers of its row is the sum of its class totals
-  pub row_sum : (r : Row) → IsRowOf (frame_at s) (lists_at s) (totals_at s values) g r → (count : ℕ) → count ≡ class_count (lists_at s) r.round
+  pub row_sum : (r : ClassRow) → IsRowOf (frame_at s) (lists_at s) (totals_at s values) g r → (count : ℕ) → count ≡ class_count (lists_at s) r.round
       → sum_z (λ k. get_or r.values.now k (pos 0)) (range_with_len r.start (r.start + count - r.start))
       ≡ sum_z (totals_at s values g) (classes_in (lists_at s) (round_of (frame_at s) g))
   row_sum r held count all =
@@ -36,7 +36,7 @@ module _ (s : Side) (values : List ℤ) (g : Target) (i : IsInside (frame_at s) 
     followed : IsFollowedFrom (frame_at s) (lists_at s) s.player (totals_at s values) move 0
     followed = from_some (frame_at s) (lists_at s) s.player (plan_at s) (totals_at s values) move 0 h
 
-    pub row_small : (r : Row) → IsRowOf (frame_at s) (lists_at s) (totals_at s values) g r → (count : ℕ) → count ≡ class_count (lists_at s) r.round
+    pub row_small : (r : ClassRow) → IsRowOf (frame_at s) (lists_at s) (totals_at s values) g r → (count : ℕ) → count ≡ class_count (lists_at s) r.round
         → (k : ℕ) → r.start ≤ k → k < r.start + count → unsigned_abs (get_or r.values.now k (pos 0)) < 2 ^ 90
     row_small r held count all k lo hi =
         let c = k - r.start + 1 in

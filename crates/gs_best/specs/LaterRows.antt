@@ -3,7 +3,7 @@ use Rattle.std.specs.Prelude.{ℕ, ◌+◌, ◌-◌, ◌^◌, ◌<◌, ◌≤◌
 use Rattle.gs_model.specs.{BestAnswers.{Values}, Classes.{ClassLists, IsClass, class_count}, FrameFacts.{IsFrom, IsInside}}
 use Rattle.gs_model.specs.{Frame.{Frame, last_round, point_count, round_of}, Positions.{Target, at_point}}
 use Rattle.gs_best.specs.{ClassTotals.{gathered_below}, Rows.{AreModestClasses}, Sides.{totals_at}, Tables.{AreStarts, start_of}}
-use Rattle.gs_best.specs.{declared.row.Row.{Row}, declared.side.Side.{Side}}
+use Rattle.gs_best.specs.{declared.class_row.ClassRow.{ClassRow}, declared.side.Side.{Side}}
 
 -- a list from place `start` on, as a row by class
 abbrev pub row_from : List ℤ → ℕ → ℕ → ℤ
@@ -33,13 +33,13 @@ abbrev pub AreModestFrom : Frame → ClassLists → Values → ℕ → Type 0
 AreModestFrom f lists v from = (g : Target) (c : ℕ) → IsInside f g → IsFrom from g → IsClass lists (round_of f g) c → unsigned_abs (v g c) < 2 ^ 90
 
 -- a row of round `to` or a later one lies inside its list, and its numbers are modest
-pub record IsLaterRow (f : Frame) (lists : ClassLists) (to : ℕ) (r : Row) : Type 0 where
+pub record IsLaterRow (f : Frame) (lists : ClassLists) (to : ℕ) (r : ClassRow) : Type 0 where
   pub later : to ≤ r.round
   pub top : r.round ≤ last_round f
   pub room : r.start + class_count lists r.round ≤ length r.values.now
   pub modest : AreModestClasses r.values.now r.start (class_count lists r.round)
 
 -- the row has what a table holds at a position
-pub record IsRowOf (f : Frame) (lists : ClassLists) (v : Values) (t : Target) (r : Row) : Type 0 where
+pub record IsRowOf (f : Frame) (lists : ClassLists) (v : Values) (t : Target) (r : ClassRow) : Type 0 where
   pub round_is : r.round ≡ round_of f t
   pub values_are : (c : ℕ) → IsClass lists (round_of f t) c → row_from r.values.now r.start c ≡ v t c

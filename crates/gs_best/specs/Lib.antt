@@ -5,7 +5,7 @@ pub mod Places
 pub mod LaterRows
 pub mod Rooms
 pub mod Sides
-pub mod Spots
+pub mod WalkPoints
 pub mod Runs
 pub mod Filled
 pub mod Sizes

@@ -6,7 +6,7 @@ ghost use Rattle.gs_seq.specs.Abstracts.{abstract_frame, lists_of};
 ghost use Rattle.gs_best.specs.{ClassTotals.{gathered_below}, LaterRows.{AreGathered, row_from, IsLaterRow}};
 
 use crate::below::classes_below;
-use crate::row::Row;
+use crate::class_row::ClassRow;
 use gs_seq::{Abstract, plus};
 
 /// Returns the sum of the numbers of a list from the place `first` up to `end`, which is not one of them.
@@ -25,7 +25,7 @@ pub(crate) fn sum_between(values: &[i128], first: usize, end: usize) -> i128
 }
 
 /// Returns the sum of a row over the classes below a class of round `from`.
-pub(crate) fn sum_below(form: &Abstract, row: Row<'_>, from: u8, class: u32) -> i128
+pub(crate) fn sum_below(form: &Abstract, row: ClassRow<'_>, from: u8, class: u32) -> i128
     requires some { 0 < from }
     requires row { IsLaterRow (abstract_frame form.now) (lists_of form.now) from row }
     requires class { IsClass (lists_of form.now) from class }
@@ -38,7 +38,7 @@ pub(crate) fn sum_below(form: &Abstract, row: Row<'_>, from: u8, class: u32) -> 
 }
 
 /// Writes for each class of round `from` the sum of a row over the classes below it.
-fn gather(form: &Abstract, row: Row<'_>, from: u8, sums: &mut [i128])
+fn gather(form: &Abstract, row: ClassRow<'_>, from: u8, sums: &mut [i128])
     requires some { 0 < from }
     requires row { IsLaterRow (abstract_frame form.now) (lists_of form.now) from row }
     requires wide { class_count (lists_of form.now) from ≤ length sums.old }
@@ -53,7 +53,7 @@ fn gather(form: &Abstract, row: Row<'_>, from: u8, sums: &mut [i128])
 /// otherwise the sums are written into `sums`.
 pub(crate) fn read_row<'r>(
     form: &Abstract,
-    row: Row<'r>,
+    row: ClassRow<'r>,
     from: u8,
     sums: &'r mut [i128],
 ) -> &'r [i128]

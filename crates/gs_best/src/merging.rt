@@ -3,15 +3,15 @@
 ghost use Rattle.std.specs.Prelude.{◌≤◌, length};
 ghost use Rattle.gs_model.specs.Frame.{move_count};
 ghost use Rattle.gs_best.specs.{ClassTotals.{total_worth}, Rooms.{IsWide, IsWideEarlier}};
-ghost use Rattle.gs_best.specs.{Rows.{AreGreatest, AreSums, IsMerged}, Spots.{frame_on, lists_on, totals_on}};
+ghost use Rattle.gs_best.specs.{Rows.{AreGreatest, AreSums, IsMerged}, WalkPoints.{frame_on, lists_on, totals_on}};
 
 use crate::raising::{add, raise};
-use crate::spot::Spot;
 use crate::targets::read_worths;
+use crate::walk_point::WalkPoint;
 
 /// Writes for each class of a point's round the greatest worth of a move, and the first move that has it.
 fn best_moves(
-    at: &Spot<'_, '_>,
+    at: &WalkPoint<'_, '_>,
     row: &mut [i128],
     numbers: &mut [u64],
     worths: &mut [i128],
@@ -34,7 +34,7 @@ fn best_moves(
 
 /// Writes for each class of a point's round the sum of the worths of all moves.
 fn sum_moves(
-    at: &Spot<'_, '_>,
+    at: &WalkPoint<'_, '_>,
     row: &mut [i128],
     numbers: &mut [u64],
     worths: &mut [i128],
@@ -55,7 +55,7 @@ fn sum_moves(
 
 /// Writes the class totals of a point for each class of its round and, if the player chooses there, the first best moves.
 pub(crate) fn merge_moves(
-    at: &Spot<'_, '_>,
+    at: &WalkPoint<'_, '_>,
     row: &mut [i128],
     numbers: &mut [u64],
     worths: &mut [i128],

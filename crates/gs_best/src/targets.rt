@@ -4,12 +4,12 @@ ghost use Rattle.std.specs.Prelude.{◌+◌, ◌<◌, ◌≤◌, length};
 ghost use Rattle.gs_game.specs.Seen.{target_of};
 ghost use Rattle.gs_model.specs.{Classes.{class_count}, Frame.{move_count}, FrameFacts.{IsInside}};
 ghost use Rattle.gs_best.specs.{Rows.{AreWorths}, ClassTotals.{total_worth}, LaterRows.{AreLaidFrom, IsLaidBehind, IsRowOf, later_totals}};
-ghost use Rattle.gs_best.specs.{Rooms.{IsWide, IsWideEarlier}, Sides.{frame_at, lists_at}, Spots.{frame_on, lists_on, totals_on}};
+ghost use Rattle.gs_best.specs.{Rooms.{IsWide, IsWideEarlier}, Sides.{frame_at, lists_at}, WalkPoints.{frame_on, lists_on, totals_on}};
 
+use crate::class_row::ClassRow;
 use crate::gathering::read_row;
-use crate::row::Row;
 use crate::side::Side;
-use crate::spot::Spot;
+use crate::walk_point::WalkPoint;
 use gs_game::Target;
 
 /// Returns the class totals at a position. Those of a point are read where they stand: `totals` has them from the place `from` of a table on. Those of an
@@ -22,7 +22,7 @@ pub(crate) fn row_to<'r>(
     target: Target,
     row: &'r mut [i128],
     numbers: &mut [u64],
-) -> Row<'r>
+) -> ClassRow<'r>
     requires inside { IsInside (frame_at side.now) (target_of target) }
     requires laid { AreLaidFrom (frame_at side.now) (lists_at side.now) starts.now from totals.now }
     requires behind { IsLaidBehind (frame_at side.now) (lists_at side.now) from (target_of target) }
@@ -33,7 +33,7 @@ pub(crate) fn row_to<'r>(
 {
     let form = side.form;
     match target {
-        Target::Point(point) => Row {
+        Target::Point(point) => ClassRow {
             round: form.round_at(point),
             values: totals,
             start: starts[point as usize] as usize - from,
@@ -41,7 +41,7 @@ pub(crate) fn row_to<'r>(
         Target::End(end) => {
             let round = form.end_round(end);
             form.end_sums(side.player, side.other, end, row, numbers);
-            Row {
+            ClassRow {
                 round,
                 values: row,
                 start: 0,
@@ -52,7 +52,7 @@ pub(crate) fn row_to<'r>(
 
 /// Returns what a move of a point is worth to each class of the point's round. May overwrite `row`, `numbers` and `worths`.
 pub(crate) fn read_worths<'r>(
-    at: &'r Spot<'_, '_>,
+    at: &'r WalkPoint<'_, '_>,
     choice: u8,
     row: &'r mut [i128],
     numbers: &mut [u64],

@@ -3,19 +3,19 @@
 ghost use Rattle.std.specs.Prelude.{◌≡◌, ◌+◌, ◌<◌, ◌≤◌, ℕ, IfOk, drop, length, slice_index};
 ghost use Rattle.gs_model.specs.Frame.{point_count};
 ghost use Rattle.gs_best.specs.{ClassTotals.{AreBestTotals, total_worth}, Places.{AreBestFrom}, Rooms.{HasRows, IsLaid}, Filled.{IsFilled}};
-ghost use Rattle.gs_best.specs.{LaterRows.{AreLaidFrom}, Rows.{IsMerged}, Spots.{frame_on, lists_on, totals_on}, Tables.{start_of}};
+ghost use Rattle.gs_best.specs.{LaterRows.{AreLaidFrom}, Rows.{IsMerged}, WalkPoints.{frame_on, lists_on, totals_on}, Tables.{start_of}};
 ghost use Rattle.gs_best.specs.Sides.{frame_at, lists_at, picks_at, plan_at, totals_at};
 
 use crate::merging::merge_moves;
 use crate::side::Side;
-use crate::spot::Spot;
 use crate::tables::{Scratch, Table, room_for};
+use crate::walk_point::WalkPoint;
 use std::alloc::{AllocError, Global};
 
 /// Writes the class totals of a point, and the first best moves if the player chooses there, into the lists from the place `start` on. `totals` ends with
 /// the point's row.
 fn fill_row(
-    at: &Spot<'_, '_>,
+    at: &WalkPoint<'_, '_>,
     start: usize,
     totals: &mut [i128],
     picks: &mut [u8],
@@ -65,7 +65,7 @@ fn fill_point(
     let count = side.form.class_total(round) as usize;
     let from = start + count;
     let (front, later) = totals.split_at_mut(from);
-    let at = Spot {
+    let at = WalkPoint {
         side: *side,
         starts,
         from,

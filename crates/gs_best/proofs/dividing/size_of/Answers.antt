@@ -1,3 +1,4 @@
+use Rattle.std.proofs.lemmas.Grind.{common_steps}
 use Rattle.std.proofs.Common.{◌≡◌, ap, ◌∙◌, arith}
 use Rattle.gs_filter.specs.Filter.{Filter}
 use Rattle.gs_lossless.specs.declared.checking.Lossless.{Lossless}
@@ -13,21 +14,17 @@ is c =
     let held : c.classes.result.now ≡ a.lossless.now.classes.now = c.classes.ensures.held ∙ ap (λ (l : Lossless). l.classes.now) c.lossless.ensures in
     c.size.ensures ∙ ap (λ (k : Filter). class_size k.lists c.args.round c.args.class) held
 
-pub returns-clause-value : goal.returns-clause-value
-returns-clause-value c = is (goal.at.returns-clause-value c).After-size
+pub returns : goal.returns
+returns c = record {
+  value = is (goal.at.returns c).After-size;
+  members = let a = c.args.form.now in
+      omega (
+        arith,
+        is (goal.at.returns c).After-size,
+        some_member (abstract_frame a) (lists_of a) (form_classes a) c.args.round c.args.class
+            c.requires.some c.requires.top c.requires.class,
+      );
+}
 
-pub returns-clause-members : goal.returns-clause-members
-returns-clause-members c =
-    let a = c.args.form.now in
-    omega (
-      arith,
-      is (goal.at.returns-clause-members c).After-size,
-      some_member (abstract_frame a) (lists_of a) (form_classes a) c.args.round c.args.class
-          c.requires.some c.requires.top c.requires.class,
-    )
-
-pub size-requires-clause-top : goal.size-requires-clause-top
-size-requires-clause-top c = grind arith
-
-pub size-requires-clause-class : goal.size-requires-clause-class
-size-requires-clause-class c = grind arith
+pub size-requires : goal.size-requires
+size-requires c = grind (arith, common_steps)

@@ -24,12 +24,11 @@ payoff_in-requires-clause-numbers c =
           c.deref_mut-2.ensures.value,
     )
 
-pub returns-clause-room : goal.returns-clause-room
-returns-clause-room c =
-    rows_written (abstract_frame c.args.form.now) (lists_of c.args.form.now) c.args.scratch.now c.payoff_in.new.numbers c.payoff_in.new.sums c.requires.room
-
-pub returns-clause-paid : goal.returns-clause-paid
-returns-clause-paid c = to_z-of_z w128 c.payoff_in.result (record { sfits = c.payoff_in.type_inv }) ∙ c.payoff_in.ensures
+pub returns : goal.returns
+returns c = record {
+  paid = to_z-of_z w128 c.payoff_in.result (record { sfits = c.payoff_in.type_inv }) ∙ c.payoff_in.ensures;
+  room = rows_written (abstract_frame c.args.form.now) (lists_of c.args.form.now) c.args.scratch.now c.payoff_in.new.numbers c.payoff_in.new.sums c.requires.room;
+}
 
 pub payoff_in-requires-clause-x : goal.payoff_in-requires-clause-x
 payoff_in-requires-clause-x c = c.requires.one

@@ -1,6 +1,7 @@
+use Rattle.std.proofs.lemmas.Grind.{common_steps}
 use Rattle.std.proofs.Common.{◌≡◌, ◌<◌, subst, arith}
 use Rattle.gs_model.specs.Frame.{move_count}
-use Rattle.gs_best.specs.{Rows.{AreGreatest}, ClassTotals.{total_worth}, Spots.{frame_on, lists_on, totals_on}}
+use Rattle.gs_best.specs.{Rows.{AreGreatest}, ClassTotals.{total_worth}, WalkPoints.{frame_on, lists_on, totals_on}}
 use Rattle.gs_best.proofs.Greatest.{greatest_step}
 use Rattle.gs_best.proofs.merging.best_moves.Goals as goal
 
@@ -23,23 +24,8 @@ returns c =
 pub loop-choice-init : goal.loop-choice-init
 loop-choice-init c = grind arith
 
-pub read_worths-read-requires-clause-wide : goal.read_worths-read-requires-clause-wide
-read_worths-read-requires-clause-wide c = grind arith
+pub read_worths-read-requires : goal.read_worths-read-requires
+read_worths-read-requires c = record { choice = grind arith; row = grind arith; numbers = grind arith; wide = grind arith }
 
-pub read_worths-read-requires-clause-numbers : goal.read_worths-read-requires-clause-numbers
-read_worths-read-requires-clause-numbers c = grind arith
-
-pub read_worths-read-requires-clause-row : goal.read_worths-read-requires-clause-row
-read_worths-read-requires-clause-row c = grind arith
-
-pub raise-requires-clause-worths : goal.raise-requires-clause-worths
-raise-requires-clause-worths c = grind arith
-
-pub raise-requires-clause-best : goal.raise-requires-clause-best
-raise-requires-clause-best c = grind arith
-
-pub raise-requires-clause-moves : goal.raise-requires-clause-moves
-raise-requires-clause-moves c = grind arith
-
-pub read_worths-read-requires-clause-choice : goal.read_worths-read-requires-clause-choice
-read_worths-read-requires-clause-choice c = grind arith
+pub raise-requires : goal.raise-requires
+raise-requires c = grind (arith, common_steps)

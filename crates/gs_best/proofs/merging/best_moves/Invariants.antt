@@ -1,5 +1,5 @@
 use Rattle.std.proofs.Common.{◌<◌}
-use Rattle.gs_best.specs.{Rows.{AreGreatest}, ClassTotals.{total_worth}, Spots.{frame_on, lists_on, totals_on}}
+use Rattle.gs_best.specs.{Rows.{AreGreatest}, ClassTotals.{total_worth}, WalkPoints.{frame_on, lists_on, totals_on}}
 use Rattle.gs_best.proofs.merging.best_moves.Given as goal
 
 abbrev pub invariant-loop-choice : goal.invariant-loop-choice

@@ -1,3 +1,4 @@
+use Rattle.std.proofs.lemmas.Grind.{common_steps}
 use Rattle.std.proofs.Common.{arith}
 use Rattle.std.proofs.{Common.{sym, ap, ◌∙◌}, Math.IntN.{*ℤ_comm}, lemmas.Int.{to_z-of_z}}
 use Rattle.std.specs.Prelude.{◌*ℤ◌}
@@ -16,8 +17,5 @@ returns c =
       value = ap (λ z. x.num *ℤ z) (sym den) ∙ c.new.ensures ∙ ap (λ z. z *ℤ x.den) num ∙ *ℤ_comm c.args.num x.den ∙ ap (λ z. z *ℤ c.args.num) b.is;
     }
 
-pub new-requires-clause-positive : goal.new-requires-clause-positive
-new-requires-clause-positive c = grind arith
-
-pub new-requires-clause-fits : goal.new-requires-clause-fits
-new-requires-clause-fits c = grind arith
+pub new-requires : goal.new-requires
+new-requires c = grind (arith, common_steps)

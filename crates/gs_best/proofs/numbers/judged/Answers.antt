@@ -53,39 +53,34 @@ plus-gap2-requires c =
     (to_z-of_z w128 c.args.paid c.ranges.paid)) in
     omega (arith, e, abs_sum x1 c.args.paid, scaled_small c.args.totals.1 c.args.best.1 c.requires.two.1 c.requires.second, c.requires.paid)
 
-pub fraction-requires-clause-positive : goal.fraction-requires-clause-positive
-fraction-requires-clause-positive c = positive (goal.at.fraction-requires-clause-positive c).After-scaled-scale
+pub fraction-requires-2 : goal.fraction-requires-2
+fraction-requires-2 c = record {
+  positive = positive (goal.at.fraction-requires-2 c).After-scaled-scale;
+  fits = let at = goal.at.fraction-requires-2 c in
+      let gap = ap unsigned_abs (gap_one at.After-minus-gap1 (first at.After-scaled)) in
+      omega (
+        arith,
+        gap,
+        abs_difference (pos c.args.totals.0 *ℤ c.args.best.0) c.args.paid,
+        scaled_small c.args.totals.0 c.args.best.0 c.requires.one.1 c.requires.first,
+        c.requires.paid,
+      );
+}
 
-pub fraction-requires-2-clause-positive : goal.fraction-requires-2-clause-positive
-fraction-requires-2-clause-positive c = positive (goal.at.fraction-requires-2-clause-positive c).After-scaled-scale
-
-pub fraction-requires-3-clause-positive : goal.fraction-requires-3-clause-positive
-fraction-requires-3-clause-positive c = positive (goal.at.fraction-requires-3-clause-positive c).After-scaled-scale
-
-pub fraction-requires-2-clause-fits : goal.fraction-requires-2-clause-fits
-fraction-requires-2-clause-fits c =
-    let at = goal.at.fraction-requires-2-clause-fits c in
-    let gap = ap unsigned_abs (gap_one at.After-minus-gap1 (first at.After-scaled)) in
-    omega (
-      arith,
-      gap,
-      abs_difference (pos c.args.totals.0 *ℤ c.args.best.0) c.args.paid,
-      scaled_small c.args.totals.0 c.args.best.0 c.requires.one.1 c.requires.first,
-      c.requires.paid,
-    )
-
-pub fraction-requires-3-clause-fits : goal.fraction-requires-3-clause-fits
-fraction-requires-3-clause-fits c =
-    let at = goal.at.fraction-requires-3-clause-fits c in
-    let gap = ap unsigned_abs (gap_two at.After-plus-gap2 (second at.After-scaled-2)) in
-    omega (
-      arith,
-      gap,
-      abs_sum (pos c.args.totals.1 *ℤ c.args.best.1) c.args.paid,
-      scaled_small c.args.totals.1 c.args.best.1 c.requires.two.1
-          c.requires.second,
-      c.requires.paid,
-    )
+pub fraction-requires-3 : goal.fraction-requires-3
+fraction-requires-3 c = record {
+  positive = positive (goal.at.fraction-requires-3 c).After-scaled-scale;
+  fits = let at = goal.at.fraction-requires-3 c in
+      let gap = ap unsigned_abs (gap_two at.After-plus-gap2 (second at.After-scaled-2)) in
+      omega (
+        arith,
+        gap,
+        abs_sum (pos c.args.totals.1 *ℤ c.args.best.1) c.args.paid,
+        scaled_small c.args.totals.1 c.args.best.1 c.requires.two.1
+            c.requires.second,
+        c.requires.paid,
+      );
+}
 
 pub returns : goal.returns
 returns c =
@@ -123,8 +118,11 @@ scaled-scale-requires c = grind arith
 pub scaled-requires : goal.scaled-requires
 scaled-requires c = grind arith
 
-pub fraction-requires-clause-fits : goal.fraction-requires-clause-fits
-fraction-requires-clause-fits c = grind (arith, common_steps)
+pub fraction-requires : goal.fraction-requires
+fraction-requires c = record {
+  positive = positive (goal.at.fraction-requires c).After-scaled-scale;
+  fits = grind (arith, common_steps);
+}
 
 pub overflow_mul-weight : goal.overflow_mul-weight
 overflow_mul-weight c = grind arith

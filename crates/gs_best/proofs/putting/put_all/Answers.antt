@@ -16,15 +16,14 @@ best c =
     (picks_at s t.picks.items)
     c.in_ok-weights.weights.items (filled_best s t c.requires.filled) c.in_ok-weights.ensures.puts
 
-pub returns-clause-plan : goal.returns-clause-plan
-returns-clause-plan c =
-    let s = c.args.side.now in
-    record {
-      player_is = refl;
-      plan = put_is_plan (frame_at s) (form_in_range s.form.now) (lists_at s) (form_classes s.form.now) s.player (walked s)
-          (lifted (frame_at s) (lists_at s) s.other.now)
-          c.in_ok-weights.weights.items c.in_ok-weights.ensures.long (best (goal.at.returns-clause-plan c).In_ok-weights);
-    }
-
-pub returns-clause-best : goal.returns-clause-best
-returns-clause-best c = best (goal.at.returns-clause-best c).In_ok-weights
+pub returns : goal.returns
+returns c = record {
+  plan = let s = c.args.side.now in
+      record {
+        player_is = refl;
+        plan = put_is_plan (frame_at s) (form_in_range s.form.now) (lists_at s) (form_classes s.form.now) s.player (walked s)
+            (lifted (frame_at s) (lists_at s) s.other.now)
+            c.in_ok-weights.weights.items c.in_ok-weights.ensures.long (best (goal.at.returns c).In_ok-weights);
+      };
+  best = best (goal.at.returns c).In_ok-weights;
+}

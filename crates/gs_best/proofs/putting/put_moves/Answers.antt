@@ -1,3 +1,4 @@
+use Rattle.std.proofs.lemmas.Grind.{common_steps}
 use Rattle.std.proofs.Common.{◌≡◌, ◌+◌, ◌<◌, length, ap, sym, ◌∙◌, subst, arith}
 use Rattle.gs_model.specs.Frame.{player_at, point_count}
 use Rattle.gs_seq.specs.{Abstracts.{abstract_frame, lists_of}, Firsts.{IsClear}, Slots.{slots_before}}
@@ -45,23 +46,8 @@ returns c =
     let all : c.loop-point.point ≡ point_count f = omega (arith, c.loop-point-test.false, c.point_total-point-end.ensures, c.loop-point.auto.point-end) in
     subst (ArePutBefore f (lists_of a) c.args.player (moves_of f (lists_of a) c.args.picks.now) c.loop-point.weights) all c.loop-point.invariant.puts
 
-pub put_point-requires-clause-moves : goal.put_point-requires-clause-moves
-put_point-requires-clause-moves c = grind arith
-
-pub put_point-requires-clause-places : goal.put_point-requires-clause-places
-put_point-requires-clause-places c = c.requires.places
-
-pub put_point-requires-clause-clear : goal.put_point-requires-clause-clear
-put_point-requires-clause-clear c = grind arith
-
-pub put_point-requires-clause-long : goal.put_point-requires-clause-long
-put_point-requires-clause-long c = omega arith
-
-pub put_point-requires-clause-own : goal.put_point-requires-clause-own
-put_point-requires-clause-own c = grind arith
-
-pub put_point-requires-clause-point : goal.put_point-requires-clause-point
-put_point-requires-clause-point c = grind arith
+pub put_point-requires : goal.put_point-requires
+put_point-requires c = grind (arith, common_steps)
 
 pub loop-point-init : goal.loop-point-init
 loop-point-init c = grind arith

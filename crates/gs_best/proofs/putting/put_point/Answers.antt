@@ -93,19 +93,6 @@ loop-before-preserved c =
     c.loop-before.invariant.kept c.loop-before.invariant.here c.loop-before.invariant.clear in
     record { kept = next.kept; here = next.here; clear = next.clear }
 
-pub returns-clause-here : goal.returns-clause-here
-returns-clause-here c = λ e le. c.loop-before.invariant.here e le.0
-    (omega (arith, le.1, all (goal.at.returns-clause-here c).After-class_total-before-end, c.loop-before-test.false))
-
-pub returns-clause-clear : goal.returns-clause-clear
-returns-clause-clear c =
-    let f = abstract_frame c.args.form.now in
-    let lists = lists_of c.args.form.now in
-    let q = c.args.point in
-    let whole : c.loop-before.before ≡ class_count lists (round_of f (at_point q)) =
-    omega (arith, c.loop-before-test.false, c.loop-before.auto.before-end, all (goal.at.returns-clause-clear c).After-class_total-before-end) in
-    λ k l. c.loop-before.invariant.clear k (omega (arith, l, slots_own f lists c.args.player q c.requires.own, ap (λ n. n * move_count f q) whole))
-
 pub bounds-weights-slot : goal.bounds-weights-slot
 bounds-weights-slot c = grind arith
 
@@ -115,8 +102,18 @@ slot-slot-requires-clause-class c = grind arith
 pub coming-came-requires-clause-class : goal.coming-came-requires-clause-class
 coming-came-requires-clause-class c = grind arith
 
-pub returns-clause-kept : goal.returns-clause-kept
-returns-clause-kept c = c.loop-before.invariant.kept
+pub returns : goal.returns
+returns c = record {
+  kept = c.loop-before.invariant.kept;
+  here = λ e le. c.loop-before.invariant.here e le.0
+      (omega (arith, le.1, all (goal.at.returns c).After-class_total-before-end, c.loop-before-test.false));
+  clear = let f = abstract_frame c.args.form.now in
+      let lists = lists_of c.args.form.now in
+      let q = c.args.point in
+      let whole : c.loop-before.before ≡ class_count lists (round_of f (at_point q)) =
+      omega (arith, c.loop-before-test.false, c.loop-before.auto.before-end, all (goal.at.returns c).After-class_total-before-end) in
+      λ k l. c.loop-before.invariant.clear k (omega (arith, l, slots_own f lists c.args.player q c.requires.own, ap (λ n. n * move_count f q) whole));
+}
 
 pub loop-before-init : goal.loop-before-init
 loop-before-init c = record {

@@ -1,3 +1,4 @@
+use Rattle.std.proofs.lemmas.Grind.{common_steps}
 use Rattle.std.proofs.{Common.{◌≡◌, ℕ, ◌<◌, cond, get_or, length, ap, ◌∙◌, arith, rules, to_z, of_z}, lemmas.Int.{to_z-of_z}}
 use Rattle.std.specs.{Prelude.{ℤ, pos, ◌+ℤ◌, ◌==◌}, Int.RustNames.{FitsSigned}}
 use mir.Syntax.{w128}
@@ -28,8 +29,5 @@ loop-class-preserved c =
       rest = rest_more sums old i _ (pos 0) c.loop-class.invariant.rest;
     }
 
-pub returns-clause-behind : goal.returns-clause-behind
-returns-clause-behind c = omega arith
-
-pub returns-clause-added : goal.returns-clause-added
-returns-clause-added c = omega arith
+pub returns : goal.returns
+returns c = grind (arith, common_steps)

@@ -1,3 +1,4 @@
+use Rattle.std.proofs.lemmas.Grind.{common_steps}
 use Rattle.std.proofs.{Common.{◌≡◌, ℕ, true, false, cond, get_or, sym, ap, ◌∙◌, arith, rules}, lemmas.Int.{to_z-of_z}}
 use Rattle.std.specs.{Prelude.{ℤ, pos}, Int.RustNames.{FitsSigned}}
 use mir.Syntax.{w128}
@@ -49,11 +50,8 @@ bounds-moves-class c = omega (arith, c.loop-class-test.true, c.requires.moves, c
 pub bounds-best-class : goal.bounds-best-class
 bounds-best-class c = omega (arith, c.loop-class-test.true, c.requires.best, c.loop-class.auto.best)
 
-pub returns-clause-best_behind : goal.returns-clause-best_behind
-returns-clause-best_behind c = grind arith
-
-pub returns-clause-raised : goal.returns-clause-raised
-returns-clause-raised c = grind arith
+pub returns : goal.returns
+returns c = grind (arith, common_steps)
 
 pub offset_bounds-best-class-then-is_raised : goal.offset_bounds-best-class-then-is_raised
 offset_bounds-best-class-then-is_raised c = omega arith
@@ -63,6 +61,3 @@ bounds-worths-class-then-is_raised c = omega arith
 
 pub offset_bounds-worths-class-then-is_raised : goal.offset_bounds-worths-class-then-is_raised
 offset_bounds-worths-class-then-is_raised c = grind arith
-
-pub returns-clause-moves_behind : goal.returns-clause-moves_behind
-returns-clause-moves_behind c = grind arith

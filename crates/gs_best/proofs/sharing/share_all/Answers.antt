@@ -22,19 +22,17 @@ loop-point-preserved c =
     c.share_point.ensures.before (start_of f lists q + k) (omega (arith, before, at)) ∙ c.loop-point.invariant q k share (omega (arith, l, other)) lc is)
     (cases_eq q p)
 
-pub returns-clause-small : goal.returns-clause-small
-returns-clause-small c =
-    let s = c.args.side.now in
-    let t = c.args.table.now in
-    shared_small s t.totals.items c.loop-point.values (picks_at s t.picks.items) c.requires.best
-    (λ q k share lq. c.loop-point.invariant q k share (omega (arith, lq, c.loop-point-test.false, c.point_total-point-end.ensures)))
-
-pub returns-clause-best : goal.returns-clause-best
-returns-clause-best c =
-    let s = c.args.side.now in
-    let t = c.args.table.now in
-    shared_best s t.totals.items c.loop-point.values (picks_at s t.picks.items) c.requires.best
-    (λ q k share lq. c.loop-point.invariant q k share (omega (arith, lq, c.loop-point-test.false, c.point_total-point-end.ensures)))
+pub returns : goal.returns
+returns c = record {
+  small = let s = c.args.side.now in
+      let t = c.args.table.now in
+      shared_small s t.totals.items c.loop-point.values (picks_at s t.picks.items) c.requires.best
+      (λ q k share lq. c.loop-point.invariant q k share (omega (arith, lq, c.loop-point-test.false, c.point_total-point-end.ensures)));
+  best = let s = c.args.side.now in
+      let t = c.args.table.now in
+      shared_best s t.totals.items c.loop-point.values (picks_at s t.picks.items) c.requires.best
+      (λ q k share lq. c.loop-point.invariant q k share (omega (arith, lq, c.loop-point-test.false, c.point_total-point-end.ensures)));
+}
 
 pub share_point-requires-clause-laid : goal.share_point-requires-clause-laid
 share_point-requires-clause-laid c = grind arith

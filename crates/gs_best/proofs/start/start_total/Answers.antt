@@ -7,7 +7,7 @@ use Rattle.gs_model.specs.{Classes.{classes_in}, Frame.{round_of}, FrameFacts.{I
 use Rattle.gs_seq.specs.Plans.{lifted}
 use Rattle.gs_seq.proofs.Forms.{form_classes, form_in_range, form_lossless}
 use Rattle.gs_best.specs.{ClassTotals.{IsBestTotal}, LaterRows.{IsRowOf}, Sides.{frame_at, lists_at, picks_at, plan_at, totals_at}}
-use Rattle.gs_best.proofs.{TotalAnswers.{best_total}, Players.{walked}, SpotRows.{laid_from}, Starts.{in_round, round_small, row_small, row_sum}}
+use Rattle.gs_best.proofs.{TotalAnswers.{best_total}, Players.{walked}, WalkRows.{laid_from}, Starts.{in_round, round_small, row_small, row_sum}}
 use Rattle.gs_best.proofs.start.start_total.Goals.{After-row_to-totals, After-sum_between}
 use Rattle.gs_best.proofs.start.start_total.Goals as goal
 
@@ -56,25 +56,23 @@ sum_is c held =
     ∙ row_sum s c.args.table.now.totals.items (frame_at s).start (walked s).start_in c.row_to-totals.result held c.class_total-count.result
     c.class_total-count.ensures.value
 
-pub returns-clause-total : goal.returns-clause-total
-returns-clause-total c =
-    let s = c.args.side.now in
-    let a = s.form.now in
-    let t = c.args.table.now in
-    let at = goal.at.returns-clause-total c in
-    let round = in_round (frame_at s) s.player (walked s) (frame_at s).start (walked s).start_in in
-    subst (IsBestTotal (frame_at s) (lists_at s) s.player (lifted (frame_at s) (lists_at s) s.other.now))
-    (sym (sum_is at.After-sum_between (held at.After-row_to-totals)))
-    (best_total (frame_at s) (form_in_range a) (lists_at s) (form_classes s.form.now) (form_lossless a) s.player (walked s) (plan_at s)
-    (totals_at s t.totals.items) (picks_at s t.picks.items) c.requires.best round.0 round.1)
-
-pub returns-clause-small : goal.returns-clause-small
-returns-clause-small c =
-    let s = c.args.side.now in
-    let t = c.args.table.now in
-    let at = goal.at.returns-clause-small c in
-    let small = round_small s t.totals.items (frame_at s).start (walked s).start_in (picks_at s t.picks.items) c.requires.best.followed in
-    omega (arith, small, ap unsigned_abs (sum_is at.After-sum_between (held at.After-row_to-totals)))
+pub returns : goal.returns
+returns c = record {
+  total = let s = c.args.side.now in
+      let a = s.form.now in
+      let t = c.args.table.now in
+      let at = goal.at.returns c in
+      let round = in_round (frame_at s) s.player (walked s) (frame_at s).start (walked s).start_in in
+      subst (IsBestTotal (frame_at s) (lists_at s) s.player (lifted (frame_at s) (lists_at s) s.other.now))
+      (sym (sum_is at.After-sum_between (held at.After-row_to-totals)))
+      (best_total (frame_at s) (form_in_range a) (lists_at s) (form_classes s.form.now) (form_lossless a) s.player (walked s) (plan_at s)
+      (totals_at s t.totals.items) (picks_at s t.picks.items) c.requires.best round.0 round.1);
+  small = let s = c.args.side.now in
+      let t = c.args.table.now in
+      let at = goal.at.returns c in
+      let small = round_small s t.totals.items (frame_at s).start (walked s).start_in (picks_at s t.picks.items) c.requires.best.followed in
+      omega (arith, small, ap unsigned_abs (sum_is at.After-sum_between (held at.After-row_to-totals)));
+}
 
 pub row_to-totals-requires-clause-numbers : goal.row_to-totals-requires-clause-numbers
 row_to-totals-requires-clause-numbers c = grind arith

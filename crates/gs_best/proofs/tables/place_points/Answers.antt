@@ -1,3 +1,4 @@
+use Rattle.std.proofs.lemmas.Grind.{common_steps}
 use Rattle.std.proofs.Common.{◌≡◌, ◌+◌, ap, ◌∙◌, arith}
 use Rattle.gs_model.specs.Classes.{class_count}
 use Rattle.gs_seq.specs.Abstracts.{abstract_frame, lists_of}
@@ -27,8 +28,5 @@ loop-point-preserved c =
       behind = rest_more c.loop-point.starts c.args.starts.now q c.loop-point.start 0 c.loop-point.invariant.behind;
     }
 
-pub returns-clause-starts : goal.returns-clause-starts
-returns-clause-starts c = grind arith
-
-pub returns-clause-behind : goal.returns-clause-behind
-returns-clause-behind c = grind arith
+pub returns : goal.returns
+returns c = grind (arith, common_steps)

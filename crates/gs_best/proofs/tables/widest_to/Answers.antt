@@ -1,3 +1,4 @@
+use Rattle.std.proofs.lemmas.Grind.{common_steps}
 use Rattle.std.proofs.{Common.{◌≡◌, ◌+◌, ap, arith, ⊎_elim}, lemmas.Bool.{cases_eq}}
 use Rattle.gs_model.specs.Classes.{class_count}
 use Rattle.gs_seq.specs.Abstracts.{lists_of}
@@ -20,8 +21,5 @@ loop-before-preserved c =
       );
     }
 
-pub returns-clause-wide : goal.returns-clause-wide
-returns-clause-wide c = grind arith
-
-pub returns-clause-least : goal.returns-clause-least
-returns-clause-least c = grind arith
+pub returns : goal.returns
+returns c = grind (arith, common_steps)

@@ -1,38 +1,8 @@
 use Rattle.std.proofs.Common.{◌≡◌, ℕ, ◌+◌, ◌-◌, List, [], length, sym, ap, subst, arith}
 use Rattle.std.specs.Vec.{with_items}
 use Rattle.gs_best.specs.{Places.{AreBestFrom}, Sides.{frame_at, lists_at, picks_at, plan_at, totals_at}}
-use Rattle.gs_best.proofs.{Slices.{kept_through, long_through}, SpotRows.{laid_from}, Stepping.{all_best}}
+use Rattle.gs_best.proofs.{Slices.{kept_through, long_through}, WalkRows.{laid_from}, Stepping.{all_best}}
 use Rattle.gs_best.proofs.walk.backward.Goals as goal
-
-pub returns-clause-best : goal.returns-clause-best
-returns-clause-best c =
-    let s = c.args.side.now in
-    let t = c.loop-point.table in
-    let none : c.loop-point.point ≡ 0 = omega (arith, c.loop-point-test.false) in
-    all_best (frame_at s) (lists_at s) s.player (plan_at s) t.totals.items (picks_at s t.picks.items)
-    (subst (AreBestFrom (frame_at s) (lists_at s) s.player (totals_at s t.totals.items) (picks_at s t.picks.items)) none c.loop-point.invariant.known)
-
-pub fill_point-requires-clause-laid : goal.fill_point-requires-clause-laid
-fill_point-requires-clause-laid c =
-    let s = c.args.side.now in
-    laid_from (frame_at s) (lists_at s) c.loop-point.table c.loop-point.invariant.laid c.deref.result.now c.deref.ensures.value []
-    c.deref_mut.result.now c.deref_mut.ensures.value
-
-pub fill_point-requires-clause-picks : goal.fill_point-requires-clause-picks
-fill_point-requires-clause-picks c =
-    omega (arith, c.loop-point.invariant.laid.holds.picks, ap (λ (l : List ℕ). length l) c.deref_mut-in-loop-point.ensures.value)
-
-pub fill_point-requires-clause-later : goal.fill_point-requires-clause-later
-fill_point-requires-clause-later c =
-    let s = c.args.side.now in
-    let t = c.loop-point.table in
-    let p = c.loop-point.point in
-    let here : p - 1 + 1 ≡ p = omega (arith, c.loop-point-test.true) in
-    subst (λ l. AreBestFrom (frame_at s) (lists_at s) s.player (totals_at s l) (picks_at s c.deref_mut-in-loop-point.result.now) (p - 1 + 1))
-    (sym c.deref_mut.ensures.value)
-    (subst (λ l. AreBestFrom (frame_at s) (lists_at s) s.player (totals_at s t.totals.items) (picks_at s l) (p - 1 + 1))
-    (sym c.deref_mut-in-loop-point.ensures.value)
-    (subst (AreBestFrom (frame_at s) (lists_at s) s.player (totals_at s t.totals.items) (picks_at s t.picks.items)) (sym here) c.loop-point.invariant.known))
 
 pub loop-point-preserved : goal.loop-point-preserved
 loop-point-preserved c =
@@ -63,14 +33,32 @@ loop-point-preserved c =
 pub loop-point-init : goal.loop-point-init
 loop-point-init c = grind arith
 
-pub fill_point-requires-clause-rows : goal.fill_point-requires-clause-rows
-fill_point-requires-clause-rows c = grind arith
+pub returns : goal.returns
+returns c = record {
+  laid = grind arith;
+  rows = grind arith;
+  best = let s = c.args.side.now in
+      let t = c.loop-point.table in
+      let none : c.loop-point.point ≡ 0 = omega (arith, c.loop-point-test.false) in
+      all_best (frame_at s) (lists_at s) s.player (plan_at s) t.totals.items (picks_at s t.picks.items)
+      (subst (AreBestFrom (frame_at s) (lists_at s) s.player (totals_at s t.totals.items) (picks_at s t.picks.items)) none c.loop-point.invariant.known);
+}
 
-pub returns-clause-rows : goal.returns-clause-rows
-returns-clause-rows c = grind arith
-
-pub returns-clause-laid : goal.returns-clause-laid
-returns-clause-laid c = grind arith
-
-pub fill_point-requires-clause-point : goal.fill_point-requires-clause-point
-fill_point-requires-clause-point c = grind arith
+pub fill_point-requires : goal.fill_point-requires
+fill_point-requires c = record {
+  point = grind arith;
+  laid = let s = c.args.side.now in
+      laid_from (frame_at s) (lists_at s) c.loop-point.table c.loop-point.invariant.laid c.deref.result.now c.deref.ensures.value []
+      c.deref_mut.result.now c.deref_mut.ensures.value;
+  picks = omega (arith, c.loop-point.invariant.laid.holds.picks, ap (λ (l : List ℕ). length l) c.deref_mut-in-loop-point.ensures.value);
+  rows = grind arith;
+  later = let s = c.args.side.now in
+      let t = c.loop-point.table in
+      let p = c.loop-point.point in
+      let here : p - 1 + 1 ≡ p = omega (arith, c.loop-point-test.true) in
+      subst (λ l. AreBestFrom (frame_at s) (lists_at s) s.player (totals_at s l) (picks_at s c.deref_mut-in-loop-point.result.now) (p - 1 + 1))
+      (sym c.deref_mut.ensures.value)
+      (subst (λ l. AreBestFrom (frame_at s) (lists_at s) s.player (totals_at s t.totals.items) (picks_at s l) (p - 1 + 1))
+      (sym c.deref_mut-in-loop-point.ensures.value)
+      (subst (AreBestFrom (frame_at s) (lists_at s) s.player (totals_at s t.totals.items) (picks_at s t.picks.items)) (sym here) c.loop-point.invariant.known));
+}

@@ -59,13 +59,6 @@ invariant_of-at c =
           (known_modest s c.args.totals.now (picks_at s c.args.picks.now) (c.args.point + 1) c.requires.later.followed));
     }
 
-pub fill_row-requires-clause-start : goal.fill_row-requires-clause-start
-fill_row-requires-clause-start c = omega (arith, c.split_at_mut-front.ensures.front_len)
-
-pub fill_row-requires-clause-picks : goal.fill_row-requires-clause-picks
-fill_row-requires-clause-picks c =
-    omega (arith, c.split_at_mut-front.ensures.front_len, (row (goal.at.fill_row-requires-clause-picks c).After-class_total-count).within, c.requires.picks)
-
 known : (c : After-fill_row) → let s = c.args.side.now in
     AreBestFrom (frame_at s) (lists_at s) s.player (totals_at s (c.fill_row.new.totals ++ c.split_at_mut-front.result.1.now))
     (picks_at s c.fill_row.new.picks) c.args.point
@@ -91,14 +84,18 @@ known c =
     (merged_later s q from front later long (next at) c.requires.point (drop start totals) (drop start picks) c.fill_row.ensures.merged)
     (subst (λ l. AreBestFrom f lists s.player (totals_at s l) (picks_at s c.args.picks.now) (q + 1)) whole c.requires.later)
 
-pub returns-clause-known : goal.returns-clause-known
-returns-clause-known c = known (goal.at.returns-clause-known c).After-fill_row
+pub returns : goal.returns
+returns c = record {
+  rows = grind arith;
+  known = known (goal.at.returns c).After-fill_row;
+}
 
-pub returns-clause-rows : goal.returns-clause-rows
-returns-clause-rows c = grind arith
-
-pub fill_row-requires-clause-rows : goal.fill_row-requires-clause-rows
-fill_row-requires-clause-rows c = grind arith
+pub fill_row-requires : goal.fill_row-requires
+fill_row-requires c = record {
+  start = omega (arith, c.split_at_mut-front.ensures.front_len);
+  picks = omega (arith, c.split_at_mut-front.ensures.front_len, (row (goal.at.fill_row-requires c).After-class_total-count).within, c.requires.picks);
+  rows = grind arith;
+}
 
 pub class_total-count-requires-clause-top : goal.class_total-count-requires-clause-top
 class_total-count-requires-clause-top c = omega arith

@@ -7,21 +7,21 @@ use Rattle.gs_seq.specs.Payoffs.{end_sum}
 use Rattle.gs_seq.proofs.SlotLaws.{sum_range_le}
 use Rattle.gs_best.specs.{Rows.{AreWorths}, Tables.{AreStarts, classes_at, start_of}, ClassTotals.{gathered_below, total_worth}}
 use Rattle.gs_best.specs.{LaterRows.{AreGathered, AreLaidFrom, row_from, IsLaidBehind, IsLaterRow, IsRowOf, later_totals}, Rooms.{IsLaid}}
-use Rattle.gs_best.specs.{Sides.{frame_at, lists_at, plan_at}, Spots.{frame_on, lists_on, totals_on}, declared.side.Side.{Side}}
-use Rattle.gs_best.specs.{declared.row.Row.{Row}, declared.spot.Spot.{Spot}, declared.tables.Table.{Table}}
+use Rattle.gs_best.specs.{Sides.{frame_at, lists_at, plan_at}, WalkPoints.{frame_on, lists_on, totals_on}, declared.side.Side.{Side}}
+use Rattle.gs_best.specs.{declared.class_row.ClassRow.{ClassRow}, declared.walk_point.WalkPoint.{WalkPoint}, declared.tables.Table.{Table}}
 use Rattle.gs_best.proofs.{Players.{walked}, Gathered.{gathered_same}, Placed.{IsRow, row_read}, Written.{behind_all}}
 
 -- ---- the point
 
-pub some_at : (at : Spot) → 0 < at.round
+pub some_at : (at : WalkPoint) → 0 < at.round
 some_at at = omega (arith, at.round_is, (walked at.side).some_round at.point at.inside)
 
 -- the totals of a later point stand behind the place from which totals are known
-pub ahead : (at : Spot) (q : ℕ) → at.point + 1 ≤ q → at.from ≤ start_of (frame_on at) (lists_on at) q
+pub ahead : (at : WalkPoint) (q : ℕ) → at.point + 1 ≤ q → at.from ≤ start_of (frame_on at) (lists_on at) q
 ahead at q l = omega (arith, at.from_is, sum_range_le (classes_at (frame_on at) (lists_on at)) (at.point + 1) q l)
 
 -- so do those of the points that a move leads to
-pub ahead_by : (at : Spot) (m : ℕ) → m < move_count (frame_on at) at.point
+pub ahead_by : (at : WalkPoint) (m : ℕ) → m < move_count (frame_on at) at.point
     → IsLaidBehind (frame_on at) (lists_on at) at.from (leads_to (frame_on at) at.point m)
 ahead_by at m lm q is = ahead at q (subst (IsFrom (at.point + 1)) is ((walked at.side).later at.point m at.inside lm))
 
@@ -43,7 +43,7 @@ laid_from f lists t laid starts same front later split = record {
 }
 
 -- the row of a point holds the point's class totals
-pub held_at_point : (s : Side) (from : ℕ) (totals : List ℤ) (r : Row) (t : Target) (q : ℕ) → t ≡ at_point q → r.round ≡ round_of (frame_at s) (at_point q)
+pub held_at_point : (s : Side) (from : ℕ) (totals : List ℤ) (r : ClassRow) (t : Target) (q : ℕ) → t ≡ at_point q → r.round ≡ round_of (frame_at s) (at_point q)
     → r.start + from ≡ start_of (frame_at s) (lists_at s) q → r.values.now ≡ totals → IsRowOf (frame_at s) (lists_at s) (later_totals s from totals) t r
 held_at_point s from totals r t q is round start same = subst (λ t. IsRowOf (frame_at s) (lists_at s) (later_totals s from totals) t r) (sym is) (record {
   round_is = round;
@@ -52,7 +52,7 @@ held_at_point s from totals r t q is round start same = subst (λ t. IsRowOf (fr
 })
 
 -- the row of an end holds what the end pays, from the first place on
-pub held_at_end : (s : Side) (from : ℕ) (totals : List ℤ) (r : Row) (t : Target) (z : ℕ) → t ≡ at_end z
+pub held_at_end : (s : Side) (from : ℕ) (totals : List ℤ) (r : ClassRow) (t : Target) (z : ℕ) → t ≡ at_end z
     → r.round ≡ round_of (frame_at s) (at_end z) → r.start ≡ 0
     → ((c : ℕ) → IsClass (lists_at s) (round_of (frame_at s) (at_end z)) c
     → get_or r.values.now (c - 1) (pos 0) ≡ end_sum (frame_at s) (lists_at s) s.player (plan_at s) z c)
@@ -63,7 +63,7 @@ held_at_end s from totals r t z is round start paid = subst (λ t. IsRowOf (fram
       let here : r.start + (c - 1) ≡ c - 1 = omega (arith, start) in ap (λ i. get_or r.values.now i (pos 0)) here ∙ paid c lc;
 })
 
-module _ (at : Spot) (m : ℕ) (lm : m < move_count (frame_on at) at.point) (r : Row)
+module _ (at : WalkPoint) (m : ℕ) (lm : m < move_count (frame_on at) at.point) (r : ClassRow)
     (held : IsRowOf (frame_on at) (lists_on at) (totals_on at) (leads_to (frame_on at) at.point m) r) where
   pub later_row : r.start + class_count (lists_on at) r.round ≤ length r.values.now → IsLaterRow (frame_on at) (lists_on at) at.round r
   later_row room =

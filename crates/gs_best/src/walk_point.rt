@@ -9,7 +9,7 @@ use crate::side::Side;
 
 /// A point with its round and the number of its classes. `later` has the class totals of all later points: those of the table from the place `from` on.
 #[derive(Clone, Copy)]
-pub(crate) struct Spot<'a, 'b> {
+pub(crate) struct WalkPoint<'a, 'b> {
     pub(crate) side: Side<'a>,
     pub(crate) starts: &'b [u32],
     pub(crate) from: usize,
