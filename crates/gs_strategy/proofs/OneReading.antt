@@ -142,7 +142,7 @@ checked_one Keeps Breaks told a x y none one (inr p) (inr q) = p.2 ∙ ap (told_
 classes_one : (g : FileGame) (d : Data) (x y : Result ClassLists Fault) → ReadsClasses g d x → ReadsClasses g d y → x ≡ y
 classes_one g d x y = then_one (class_lists_at d) (Checked (AreClasses g) (IsClassFault g) classes) x y
     (λ lists. checked_one (AreClasses g) (IsClassFault g) classes lists x y
-    (λ why p f. classes_kept (file_frame g).parents lists why p f.0 f.1)
+    (λ why p f. classes_kept (file_frame g).parents lists why p f)
     (λ v w p q. class_fault_one (file_frame g).parents lists v w p q))
 
 plan_one : (g : FileGame) (lists : ClassLists) (player : ℕ) (of_player : FilePart) (d : Data) (x y : Result Weights Fault)

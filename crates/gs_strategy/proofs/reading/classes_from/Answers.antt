@@ -25,10 +25,10 @@ returns-in-Ok-clause-checked c =
       ap (λ (l : ClassLists). Ok l) c.in-Ok.ensures.lists,
     )
 
-pub returns-in-Err-Fault-clause-checked : goal.returns-in-Err-Fault-clause-checked
-returns-in-Err-Fault-clause-checked c =
+pub returns-clause-checked : goal.returns-clause-checked
+returns-clause-checked c =
     let lists = rows c.args.lists.items in
     let why = c.in-Err-Fault.fault in
-    let broken = subst (λ p. IsFaultOf p lists why) (parents (goal.at.returns-in-Err-Fault-clause-checked c).After-deref)
+    let broken = subst (λ p. IsFaultOf p lists why) (parents (goal.at.returns-clause-checked c).After-deref)
     (rw c.in-Err-Fault.field-0-is at c.in-Err-Fault.ensures.refused) in
     inr (why, broken, refl)
