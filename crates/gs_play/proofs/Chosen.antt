@@ -9,7 +9,7 @@ use Rattle.gs_best.specs.{Tables.{moves_of}, ClassTotals.{total_worth}}
 use Rattle.gs_best.proofs.{Ranges.{sum_same}, PointStarts.{place_before}}
 use Rattle.gs_play.specs.{Lines.{StaysFirst, flat, line_at, wrapped}, Plots.{IsRowIn, cell_place, worth_place}, Tables.{IsLineSettled}}
 use Rattle.gs_play.specs.Tallies.{AreSmallAtEnds, HasTallyRoom, HasWorths, IsAddedUp, IsChosen, IsLineFound, IsPicked, IsTally, at_part, lines_at, part_table}
-use Rattle.gs_play.specs.{Tallies.{slope_part, slopes_of, zeros_of}, declared.line.Line.{Line}, declared.plot.Row.{Row}, declared.tally.Tally.{Tally}}
+use Rattle.gs_play.specs.{Tallies.{slope_part, slopes_of, zeros_of}, declared.line.Line.{Line}, declared.plot.PointRow.{PointRow}, declared.tally.Tally.{Tally}}
 use Rattle.gs_play.proofs.{Found.{AreWorthLines, other_found, own_found}, Known.{slope_few, slopes_few, zero_few, zeros_few}, Wrapped.{unwrapped}}
 use Rattle.gs_play.proofs.{Lists.{changed_table, worths_before}, PlotRows.{row_first}, Settling.{IsChanged}}
 
@@ -44,7 +44,7 @@ pub record IsFoundFor (f : Frame) (lists : ClassLists) (player q c now last : �
   pub worths : new.worths ≡ old.worths
 
 -- a row has the lines of its point
-row_lines : (f : Frame) (lists : ClassLists) (r : Row) → IsRowIn f lists r → (c : ℕ) (t : Tally)
+row_lines : (f : Frame) (lists : ClassLists) (r : PointRow) → IsRowIn f lists r → (c : ℕ) (t : Tally)
     → lines_at r (cell_place f lists r.point c) t ≡ lines_for f lists r.point c t.worths.items
 row_lines f lists r row c t =
     let cell = cell_place f lists r.point c in
@@ -52,7 +52,7 @@ row_lines f lists r row c t =
     ∙ ap (λ i. take (move_count f r.point) (drop i t.worths.items)) (row_first f lists r row cell c (omega (arith, row.cell)))
 
 -- so what is found by a row is found for a class of its point
-pub found_for : (f : Frame) (lists : ClassLists) (player : ℕ) (r : Row) → IsRowIn f lists r → (c now last : ℕ) (old new : Tally)
+pub found_for : (f : Frame) (lists : ClassLists) (player : ℕ) (r : PointRow) → IsRowIn f lists r → (c now last : ℕ) (old new : Tally)
     → IsLineFound player r (cell_place f lists r.point c) now last old new → IsFoundFor f lists player r.point c now last old new
 found_for f lists player r row c now last old new found =
     let cell = cell_place f lists r.point c in

@@ -13,7 +13,7 @@ use Rattle.gs_best.proofs.{Placed.{row_next}, Ranges.{range_add, range_le}}
 use Rattle.gs_best.specs.Tables.{classes_at, start_of}
 use Rattle.gs_play.proofs.Clear.{same_at}
 use Rattle.gs_play.specs.Plots.{AreCells, AreRowsBefore, AreSpans, AreMovesNoted, AreWider, HasEnd, IsCellOf, IsMoveNoted, IsMoveTo, IsRowIn, MatchMove}
-use Rattle.gs_play.specs.{Plots.{span_in, way_to, worth_start}, declared.plot.Row.{Row}, declared.plot.Span.{Span}}
+use Rattle.gs_play.specs.{Plots.{span_in, way_to, worth_start}, declared.plot.PointRow.{PointRow}, declared.plot.Span.{Span}}
 
 -- ---- worths
 
@@ -48,16 +48,16 @@ worths_next f lists q start count at e = row_next (worths_wide f lists) q start 
 -- ---- rows
 
 -- the row of one more point
-pub rows_more : (f : Frame) (lists : ClassLists) (rows : List Row) (r : Row) (q : ℕ) → length rows ≡ q → r.point ≡ q → IsRowIn f lists r
+pub rows_more : (f : Frame) (lists : ClassLists) (rows : List PointRow) (r : PointRow) (q : ℕ) → length rows ≡ q → r.point ≡ q → IsRowIn f lists r
     → AreRowsBefore f lists q rows → AreRowsBefore f lists (q + 1) (rows ++ r ∷ [])
 rows_more f lists rows r q long at is all p l =
-    let none : Row = record { point = 0; player = 0; round = 0; moves = 0; cell = 0; worth = 0 } in
+    let none : PointRow = record { point = 0; player = 0; round = 0; moves = 0; cell = 0; worth = 0 } in
     ⊎_elim
-    (λ (before : p < q). subst (λ (x : Row). (x.point ≡ p) × IsRowIn f lists x) (sym (get_or_append_left rows (r ∷ []) none p (omega (arith, before, long))))
+    (λ (before : p < q). subst (λ (x : PointRow). (x.point ≡ p) × IsRowIn f lists x) (sym (get_or_append_left rows (r ∷ []) none p (omega (arith, before, long))))
     (all p before))
     (λ (behind : q ≤ p).
     let e : p ≡ q = omega (arith, l, behind) in
-    subst (λ (x : Row). (x.point ≡ p) × IsRowIn f lists x) (sym (get_or_push rows r none p (omega (arith, e, long)))) (at ∙ sym e, is))
+    subst (λ (x : PointRow). (x.point ≡ p) × IsRowIn f lists x) (sym (get_or_push rows r none p (omega (arith, e, long)))) (at ∙ sym e, is))
     (cases_lt p q)
 
 -- ---- cells

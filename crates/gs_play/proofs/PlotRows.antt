@@ -1,18 +1,20 @@
 -- The rows of points: what is read from the plot of a game, and the places of a row.
-use Rattle.std.proofs.{Common.{◌≡◌, ℕ, ◌+◌, ◌-◌, ◌*◌, ◌<◌, ◌≤◌, get_or, length, sym, ap, ◌∙◌, subst, arith}, lemmas.List.{get_or_default}}
+use Rattle.std.proofs.{Common.{◌≡◌, ℕ, ◌+◌, ◌-◌, ◌*◌, ◌^◌, ◌<◌, ◌≤◌, get_or, length, sym, ap, ◌∙◌, subst, arith}, lemmas.List.{get_or_default}}
 use Rattle.gs_model.specs.{Classes.{ClassLists, IsClass}, Frame.{Frame, move_count, player_at, point_count, round_of}, Positions.{at_point}}
 use Rattle.gs_best.specs.Tables.{start_of}
-use Rattle.gs_best.proofs.PointStarts.{starts_le, starts_more}
-use Rattle.gs_play.specs.{Plots.{IsCellOf, IsPlot, IsRowIn, cell_place, row_in, worth_place, worth_start}, declared.plot.Plot.{Plot}, declared.plot.Row.{Row}}
+use Rattle.gs_seq.specs.Abstracts.{abstract_frame, lists_of}
+use Rattle.gs_seq.specs.declared.form.Abstract.{Abstract}
+use Rattle.gs_best.proofs.PointStarts.{place_before, starts_few, starts_le, starts_more}
+use Rattle.gs_play.specs.{Plots.{IsCellOf, IsPlot, IsRowIn, cell_place, row_in, worth_place, worth_start}, declared.plot.Plot.{Plot}, declared.plot.PointRow.{PointRow}}
 use Rattle.gs_play.proofs.Lists.{worths_before}
 
 -- a row of a point
-pub record IsRowAt (f : Frame) (lists : ClassLists) (q : ℕ) (row : Row) : Type 0 where
+pub record IsRowAt (f : Frame) (lists : ClassLists) (q : ℕ) (row : PointRow) : Type 0 where
   pub point : row.point ≡ q
   pub known : IsRowIn f lists row
 
 -- a row that was read is that of its point
-pub row_at : (f : Frame) (lists : ClassLists) (p : Plot) → IsPlot f lists p → (q : ℕ) → q < point_count f → (row : Row) → row ≡ get_or p.rows.items q row
+pub row_at : (f : Frame) (lists : ClassLists) (p : Plot) → IsPlot f lists p → (q : ℕ) → q < point_count f → (row : PointRow) → row ≡ get_or p.rows.items q row
     → IsRowAt f lists q row
 row_at f lists p plot q l row is =
     let known = plot.rows q l in
@@ -26,7 +28,7 @@ point_at f lists p plot cell q l is =
     let inside : cell < length p.points.items = omega (arith, l, plot.long) in
     subst (λ i. IsCellOf f lists i cell) (get_or_default p.points.items cell 0 q inside ∙ sym is) (plot.points cell inside)
 
-module _ (f : Frame) (lists : ClassLists) (q : ℕ) (row : Row) (h : IsRowAt f lists q row) where
+module _ (f : Frame) (lists : ClassLists) (q : ℕ) (row : PointRow) (h : IsRowAt f lists q row) where
   pub row_player : row.player ≡ player_at f q
   row_player = h.known.player ∙ ap (player_at f) h.point
 
@@ -37,9 +39,30 @@ module _ (f : Frame) (lists : ClassLists) (q : ℕ) (row : Row) (h : IsRowAt f l
   pub row_cell : (c : ℕ) → row.cell + (c - 1) ≡ cell_place f lists q c
   row_cell c = ap (λ n. n + (c - 1)) (h.known.cell ∙ ap (start_of f lists) h.point)
 
+-- the place of a class's cell among those of the game
+pub record IsCellAt (f : Frame) (lists : ClassLists) (q c cell : ℕ) : Type 0 where
+  pub place : cell + c - 1 ≡ cell_place f lists q c
+  pub inside : cell_place f lists q c < start_of f lists (point_count f)
+  pub few : cell + c ≤ 2 ^ 31
+
+-- the first cell of a row that was read, for each class
+pub cell_at : (a : Abstract) (p : Plot) → IsPlot (abstract_frame a) (lists_of a) p → (q c : ℕ) → q < point_count (abstract_frame a)
+    → IsClass (lists_of a) (round_of (abstract_frame a) (at_point q)) c → (row : PointRow) → row ≡ get_or p.rows.items q row
+    → IsCellAt (abstract_frame a) (lists_of a) q c row.cell
+cell_at a p plot q c lq lc row is =
+    let f = abstract_frame a in
+    let lists = lists_of a in
+    let place = row_cell f lists q row (row_at f lists p plot q lq row is) c in
+    let inside = place_before f lists q c (point_count f) lc lq in
+    record {
+      place = omega (arith, place, lc.0);
+      inside = inside;
+      few = omega (arith, place, lc.0, inside, starts_few a (point_count f) (omega arith));
+    }
+
 -- ---- the places of a row
 
-module _ (f : Frame) (lists : ClassLists) (r : Row) (row : IsRowIn f lists r) (cell : ℕ) where
+module _ (f : Frame) (lists : ClassLists) (r : PointRow) (row : IsRowIn f lists r) (cell : ℕ) where
   -- the first worth of a cell
   pub row_first : (c : ℕ) → cell - r.cell ≡ c - 1 → r.worth + (cell - r.cell) * r.moves ≡ worth_place f lists r.point c 0
   row_first c at =

@@ -10,7 +10,7 @@ use Rattle.gs_seq.proofs.Forms.{form_classes, form_in_range, form_lossless, form
 use Rattle.gs_best.specs.Tables.{AreInMoves, moves_of}
 use Rattle.gs_play.specs.{PlanSums.{ArePlansAlike}, declared.answers.Answer.{Answer}, declared.seat.Seat.{Seat}, declared.tally.Tally.{Tally}}
 use Rattle.gs_play.proofs.{Jumps.{AnswerStays, jump}, Few.{few_lines}, PlansAlike.{alike_on, firsts_alike, played_alike, puts_plan}, SumLaws.{plus_times}}
-use Rattle.gs_play.specs.{Answers.{AreRight, HasAnswer, IsRight, IsPassedOn, answer_plan, plan_after, taken_plan}, DueTurns.{IsNoneDue}}
+use Rattle.gs_play.specs.{Answers.{AreRight, IsRight, IsRenewed, IsSameTally, answer_plan, plan_after, taken_plan}, DueTurns.{IsNoneDue}}
 use Rattle.gs_play.specs.{Seats.{ArePlaying, IsAtStart, IsNextDue, IsSeat}, Tallies.{AreSmallAtEnds, HasMoved, HasTallyRoom, IsTally, TellsMoves}}
 use Rattle.gs_play.proofs.{Played.{answer_stays, faces_first, faces_later, picks_inside, plan_first, plan_later, stays_on}, Taken.{taken_puts}}
 
@@ -19,23 +19,17 @@ use Rattle.gs_play.proofs.{Played.{answer_stays, faces_first, faces_later, picks
 -- where no choice has changed since, what is taken is right by the new choices too
 pub right_kept : (f : Frame) (lists : ClassLists) (player : ℕ) (taken : ℕ → ℕ → ℕ) (old new : Tally)
     → AreRight f lists player taken (moves_of f lists old.picks.items)
-    → TellsMoves f lists old new → (q c : ℕ) → q < point_count f → player_at f q ≡ player → IsClass lists (round_of f (at_point q)) c → (HasMoved new q → ⊥)
-    → IsRight f lists taken (moves_of f lists new.picks.items) q c
-right_kept f lists player taken old new right tells q c lq own lc still =
+    → TellsMoves f lists old new → (q : ℕ) → q < point_count f → player_at f q ≡ player → (HasMoved new q → ⊥) → (c : ℕ)
+    → IsClass lists (round_of f (at_point q)) c → IsRight f lists taken (moves_of f lists new.picks.items) q c
+right_kept f lists player taken old new right tells q lq own still c lc =
     let r = right q c lq own lc in
     let same = (tells q lq still).1 c lc in
     record { on = λ reached. r.on reached ∙ sym same; off = r.off }
 
--- two tallies have the same lines and dues
-pub record IsSameTally (old new : Tally) : Type 0 where
-  pub worths : new.worths ≡ old.worths
-  pub totals : new.totals ≡ old.totals
-  pub dues : new.dues ≡ old.dues
-
--- with the same choices they are of the same class totals
-pub tally_kept : (f : Frame) (lists : ClassLists) (player : ℕ) (pays rise : ℕ → ℕ → ℤ) (now : ℕ) (old new : Tally) → IsSameTally old new → new.picks ≡ old.picks
+-- such tallies are of the same class totals
+pub tally_kept : (f : Frame) (lists : ClassLists) (player : ℕ) (pays rise : ℕ → ℕ → ℤ) (now : ℕ) (old new : Tally) → IsSameTally old new
     → IsTally f lists player pays rise now old → IsTally f lists player pays rise now new
-tally_kept f lists player pays rise now old new same picks h =
+tally_kept f lists player pays rise now old new same h =
     subst (λ x. IsTally f lists player pays rise now (record { worths = x; totals = new.totals; dues = new.dues; picks = new.picks; moved = new.moved }))
     (sym same.worths)
     (subst (λ x. IsTally f lists player pays rise now (record { worths = old.worths; totals = x; dues = new.dues; picks = new.picks; moved = new.moved }))
@@ -43,7 +37,7 @@ tally_kept f lists player pays rise now old new same picks h =
     (subst (λ x. IsTally f lists player pays rise now (record { worths = old.worths; totals = old.totals; dues = x; picks = new.picks; moved = new.moved }))
     (sym same.dues)
     (subst (λ x. IsTally f lists player pays rise now (record { worths = old.worths; totals = old.totals; dues = old.dues; picks = x; moved = new.moved }))
-    (sym picks)
+    (sym same.picks)
     (record { zeros = h.zeros; slopes = h.slopes; settled = h.settled }))))
 
 pub still_kept : (n : ℕ) (old new : Tally) → new.moved ≡ old.moved → ((q : ℕ) → q < n → HasMoved old q → ⊥) → (q : ℕ) → q < n → HasMoved new q → ⊥
@@ -281,13 +275,13 @@ module _ (a : Abstract) where
       inside_one = choices_inside 1 (omega arith) (omega arith) y b now first room none faces_one
 
       -- and finds an answer
-      module _ (new_one : Answer) (own_one : Tally) (picks_one : own_one.picks ≡ first.picks)
+      module _ (new_one : Answer) (own_one : Tally) (same_one : IsSameTally first own_one)
           (right_one : AreRight F L 1 (moves_of F L new_one.taken.items) (moves_of F L own_one.picks.items)) where
         abbrev b_one : Plan
         b_one = answer_plan F L new_one
 
         right_first : AreRight F L 1 (moves_of F L new_one.taken.items) (moves_of F L first.picks.items)
-        right_first = subst (λ (v : Vec ℕ Global). AreRight F L 1 (moves_of F L new_one.taken.items) (moves_of F L v.items)) picks_one right_one
+        right_first = subst (λ (v : Vec ℕ Global). AreRight F L 1 (moves_of F L new_one.taken.items) (moves_of F L v.items)) same_one.picks right_one
 
         plan_one : IsClassPlan F L 1 b_one
         plan_one = taken_is_plan 1 (omega arith) (omega arith) y b now first room none faces_one (moves_of F L new_one.taken.items) right_first
@@ -296,24 +290,23 @@ module _ (a : Abstract) where
         once_one = taken_once 1 (omega arith) (omega arith) y b now first room none faces_one (moves_of F L new_one.taken.items) right_first
 
         -- player 2 is told, and sweeps
-        module _ (told_two second : Tally) (tells_two : IsPassedOn F L 2 now (moves_of F L one.answer.taken.items)
-            (moves_of F L new_one.taken.items) two.tally told_two)
+        module _ (told_two second : Tally) (renewed_one : IsRenewed F L 1 now one.answer new_one two.tally told_two)
             (room_two : HasTallyRoom F L second) (none_two : HasNone now second) (kept_two : Keeps 2 now told_two second) where
           faces_two : IsTally F L 2 (end_sum F L 2 x) (end_sum F L 2 b_one) now second
           faces_two = kept_two (end_sum F L 2 x) (end_sum F L 2 b_one) (seat_few 2 (omega arith) (omega arith) x b_one now soon plans.0 plan_one refl refl)
-              (tells_two (end_sum F L 2 x) p.faces_two)
+              (renewed_one.told (end_sum F L 2 x) p.faces_two)
 
           pub inside_two : AreInMoves F L 2 (moves_of F L second.picks.items)
           inside_two = choices_inside 2 (omega arith) (omega arith) x b_one now second room_two none_two faces_two
 
           -- and finds an answer
-          module _ (new_two : Answer) (own_two : Tally) (picks_two : own_two.picks ≡ second.picks)
+          module _ (new_two : Answer) (own_two : Tally) (same_two : IsSameTally second own_two)
               (right_two : AreRight F L 2 (moves_of F L new_two.taken.items) (moves_of F L own_two.picks.items)) where
             abbrev b_two : Plan
             b_two = answer_plan F L new_two
 
             right_second : AreRight F L 2 (moves_of F L new_two.taken.items) (moves_of F L second.picks.items)
-            right_second = subst (λ (v : Vec ℕ Global). AreRight F L 2 (moves_of F L new_two.taken.items) (moves_of F L v.items)) picks_two right_two
+            right_second = subst (λ (v : Vec ℕ Global). AreRight F L 2 (moves_of F L new_two.taken.items) (moves_of F L v.items)) same_two.picks right_two
 
             plan_two : IsClassPlan F L 2 b_two
             plan_two = taken_is_plan 2 (omega arith) (omega arith) x b_one now second room_two none_two faces_two
@@ -323,24 +316,22 @@ module _ (a : Abstract) where
             once_two = taken_once 2 (omega arith) (omega arith) x b_one now second room_two none_two faces_two (moves_of F L new_two.taken.items) right_second
 
             -- player 1 is told
-            module _ (told_one : Tally) (tells_one : IsPassedOn F L 1 now (moves_of F L two.answer.taken.items)
-                (moves_of F L new_two.taken.items) own_one told_one)
-                (same_one : IsSameTally first own_one) (same_two : IsSameTally second own_two) (picks_told : told_one.picks ≡ own_one.picks) where
+            module _ (told_one : Tally) (renewed_two : IsRenewed F L 2 now two.answer new_two own_one told_one) where
               known_one : IsTally F L 1 (end_sum F L 1 y) (end_sum F L 1 b_two) now told_one
-              known_one = tells_one (end_sum F L 1 y) (tally_kept F L 1 (end_sum F L 1 y) (end_sum F L 1 b) now first own_one same_one picks_one faces_one)
+              known_one = renewed_two.told (end_sum F L 1 y) (tally_kept F L 1 (end_sum F L 1 y) (end_sum F L 1 b) now first own_one same_one faces_one)
 
               known_two : IsTally F L 2 (end_sum F L 2 x) (end_sum F L 2 b_one) now own_two
-              known_two = tally_kept F L 2 (end_sum F L 2 x) (end_sum F L 2 b_one) now second own_two same_two picks_two faces_two
+              known_two = tally_kept F L 2 (end_sum F L 2 x) (end_sum F L 2 b_one) now second own_two same_two faces_two
 
               right_told : AreRight F L 1 (moves_of F L new_one.taken.items) (moves_of F L told_one.picks.items)
-              right_told = subst (λ (v : Vec ℕ Global). AreRight F L 1 (moves_of F L new_one.taken.items) (moves_of F L v.items)) (sym picks_told) right_one
+              right_told = subst (λ (v : Vec ℕ Global). AreRight F L 1 (moves_of F L new_one.taken.items) (moves_of F L v.items)) (sym renewed_two.picks) right_one
 
               -- the next turn
               module _ (next : ℕ) (later : now < next) (due_one : IsNextDue told_one.dues.turns.items now next)
                   (due_two : IsNextDue own_two.dues.turns.items now next)
-                  (room_one : HasTallyRoom F L told_one) (room_last : HasTallyRoom F L own_two) where
+                  (room_last : HasTallyRoom F L own_two) where
                 stays_one : AnswerStays F L 1 y b_two b_one (next - now)
-                stays_one = taken_on 1 (omega arith) (omega arith) y b b_two now next later told_one room_one known_one due_one
+                stays_one = taken_on 1 (omega arith) (omega arith) y b b_two now next later told_one renewed_two.room known_one due_one
                     (moves_of F L new_one.taken.items)
                     right_told once_one
 
@@ -349,14 +340,12 @@ module _ (a : Abstract) where
                     (moves_of F L new_two.taken.items)
                     right_two once_two
 
-                pub turned : HasAnswer F L 1 now new_one → HasAnswer F L 2 now new_two
-                    → ((q : ℕ) → q < point_count F → HasMoved told_one q → ⊥) → ((q : ℕ) → q < point_count F → HasMoved own_two q → ⊥)
-                    → ArePlansAlike F L 1 (plan_after F L new_one now) x → ArePlansAlike F L 2 (plan_after F L new_two now) y
+                pub turned : ((q : ℕ) → q < point_count F → HasMoved told_one q → ⊥) → ((q : ℕ) → q < point_count F → HasMoved own_two q → ⊥)
                     → ArePlaying F L next (record { answer = new_one; tally = told_one }) (record { answer = new_two; tally = own_two })
-                turned has_one has_two still_one still_two same_x same_y =
+                turned still_one still_two =
                     next_playing F (form_in_range a) L (form_classes a) (form_walked a 1 (omega arith) (omega arith))
                     (form_walked a 2 (omega arith) (omega arith))
                     now next p.some later one.answer two.answer (record { answer = new_one; tally = told_one }) (record { answer = new_two; tally = own_two })
-                    (record { answer = has_one; room = room_one; plan = plan_one; right = right_told; still = still_one })
-                    (record { answer = has_two; room = room_last; plan = plan_two; right = right_two; still = still_two })
-                    same_x same_y p.played known_one known_two stays_one stays_two
+                    (record { answer = renewed_one.answer; room = renewed_two.room; plan = plan_one; right = right_told; still = still_one })
+                    (record { answer = renewed_two.answer; room = room_last; plan = plan_two; right = right_two; still = still_two })
+                    renewed_one.plan renewed_two.plan p.played known_one known_two stays_one stays_two

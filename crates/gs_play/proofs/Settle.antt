@@ -7,12 +7,12 @@ use Rattle.gs_best.specs.Tables.{moves_of}
 use Rattle.gs_best.proofs.PointStarts.{place_before, starts_le, starts_more}
 use Rattle.gs_play.specs.{DueTurns.{IsNoneDue}, Lines.{flat, line_at, wrapped}, Plots.{HasNoWay, IsCellOf, IsRowIn, LeadsTo, cell_place}}
 use Rattle.gs_play.specs.{Tallies.{AreSmallAtEnds, FeedsAbove, HasTallyRoom, IsLineFound, IsTally, slopes_of, up_of, zeros_of}, declared.line.Line.{Line}}
-use Rattle.gs_play.specs.{declared.plot.Row.{Row}, declared.plot.Way.{Way}, declared.tally.Tally.{Tally}}
+use Rattle.gs_play.specs.{declared.plot.PointRow.{PointRow}, declared.plot.Way.{Way}, declared.tally.Tally.{Tally}}
 use Rattle.gs_play.proofs.{Chosen.{IsFoundAgain, IsFoundFor, found_again, found_for}, Feeds.{feeds_at, up_from, up_in}, Lists.{cell_inside}}
 use Rattle.gs_play.proofs.{Kept.{kept_fed, kept_nowhere, kept_same}, PlotRows.{cell_within, class_here, class_in, place_here}}
 
 module _ (f : Frame) (lists : ClassLists) (player : ℕ) (walked : IsWalked f player) (now last : ℕ) (order : now < last) (turns : last ≤ 2 ^ 20) (cell : ℕ)
-    (r : Row) (row : IsRowIn f lists r) (is : IsCellOf f lists r.point cell) (old mid : Tally) (room : HasTallyRoom f lists old)
+    (r : PointRow) (row : IsRowIn f lists r) (is : IsCellOf f lists r.point cell) (old mid : Tally) (room : HasTallyRoom f lists old)
     (found : IsLineFound player r cell now last old mid) where
   abbrev class : ℕ
   class = class_here f lists r row cell

@@ -1,11 +1,11 @@
 -- A player's answer: the moves that it takes, and the weights so far.
 use Rattle.std.specs.Prelude.{ℕ, ⊤, ◌+◌, ◌-◌, ◌<◌, ◌≤◌, ◌≡◌, ◌≢◌, ◌==◌, ◌&&◌, Bool, List, Option, Some, None, ℤ, false, length}
 use Rattle.std.specs.Prelude.{get_or, slice_index, if◌then◌else◌}
-use Rattle.gs_model.specs.{Classes.{ClassLists, IsClass}, Frame.{Frame, last_step, move_count, player_at, point_count, round_of}, Plans.{Plan}}
+use Rattle.gs_model.specs.{Classes.{ClassLists, IsClass}, Frame.{Frame, last_step, move_count, other_player, player_at, point_count, round_of}, Plans.{Plan}}
 use Rattle.gs_model.specs.Positions.{Step, at_point}
 use Rattle.gs_seq.specs.{Payoffs.{end_sum}, Slots.{slot_count, slot_of}}
-use Rattle.gs_best.specs.{Tables.{moves_of, start_of}, ClassTotals.{earlier_class}}
-use Rattle.gs_play.specs.{Tallies.{IsTally}, declared.answers.Answer.{Answer}, declared.tally.Tally.{Tally}}
+use Rattle.gs_best.specs.{Tables.{AreInMoves, moves_of, start_of}, ClassTotals.{earlier_class}}
+use Rattle.gs_play.specs.{PlanSums.{ArePlansAlike}, Tallies.{HasTallyRoom, IsTally}, declared.answers.Answer.{Answer}, declared.tally.Tally.{Tally}}
 
 -- the answer takes its player's last step before a point, at the class above a class of the point; it comes there, too, if there is no such step
 abbrev pub IsReached : Frame → ClassLists → (ℕ → ℕ → ℕ) → Option Step → ℕ → ℕ → Type 0
@@ -60,6 +60,35 @@ abbrev pub IsPassedOn : Frame → ClassLists → ℕ → ℕ → (ℕ → ℕ �
 IsPassedOn f lists player now from to old new =
     (pays : ℕ → ℕ → ℤ) → IsTally f lists player pays (end_sum f lists player (taken_plan from)) now old
     → IsTally f lists player pays (end_sum f lists player (taken_plan to)) now new
+
+-- a player's answer can be found again from these choices, and the other player's class totals told
+pub record IsRenewable (f : Frame) (lists : ClassLists) (player now : ℕ) (picks : List ℕ) (a : Answer) (t : Tally) : Type 0 where
+  pub answer : HasAnswer f lists player now a
+  pub long : length picks ≡ start_of f lists (point_count f)
+  pub moves : AreInMoves f lists player (moves_of f lists picks)
+  pub room : HasTallyRoom f lists t
+
+-- an answer has been found again, here or there: the plan so far stays, and the other player's class totals are told. `start` and `before` are the
+-- answer and the class totals as they were
+pub record IsRenewed (f : Frame) (lists : ClassLists) (player now : ℕ) (start a : Answer) (before t : Tally) : Type 0 where
+  pub answer : HasAnswer f lists player now a
+  pub plan : ArePlansAlike f lists player (plan_after f lists a now) (plan_after f lists start now)
+  pub room : HasTallyRoom f lists t
+  pub moved : t.moved ≡ before.moved
+  pub picks : t.picks ≡ before.picks
+  pub told : IsPassedOn f lists (other_player player) now (moves_of f lists start.taken.items) (moves_of f lists a.taken.items) before t
+
+-- two tallies have the same lines, dues and choices
+pub record IsSameTally (old new : Tally) : Type 0 where
+  pub worths : new.worths ≡ old.worths
+  pub totals : new.totals ≡ old.totals
+  pub dues : new.dues ≡ old.dues
+  pub picks : new.picks ≡ old.picks
+
+-- what is taken at each class of a point is right
+abbrev pub IsRightAt : Frame → ClassLists → List ℕ → List ℕ → ℕ → Type 0
+IsRightAt f lists taken picks q =
+    (c : ℕ) → IsClass lists (round_of f (at_point q)) c → IsRight f lists (moves_of f lists taken) (moves_of f lists picks) q c
 
 -- ---- of private functions
 

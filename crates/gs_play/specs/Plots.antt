@@ -5,7 +5,7 @@ use Rattle.gs_game.specs.{Seen.{step_of}, declared.positions.Step.{Step as Store
 use Rattle.gs_model.specs.{Classes.{ClassLists, IsClass}, Frame.{Frame, end_count, last_step, leads_to, move_count, player_at, point_count, round_of}}
 use Rattle.gs_model.specs.Positions.{Step, Target, at_end, at_point}
 use Rattle.gs_best.specs.{ClassTotals.{earlier_class}, Tables.{classes_at, start_of}}
-use Rattle.gs_play.specs.{declared.plot.Plot.{Plot}, declared.plot.Row.{Row}, declared.plot.Span.{Span}, declared.plot.Way.{Way}}
+use Rattle.gs_play.specs.{declared.plot.Plot.{Plot}, declared.plot.PointRow.{PointRow}, declared.plot.Span.{Span}, declared.plot.Way.{Way}}
 
 -- the place of a point's first worth
 abbrev pub worth_start : Frame → ClassLists → ℕ → ℕ
@@ -26,7 +26,7 @@ pub record IsCellOf (f : Frame) (lists : ClassLists) (q cell : ℕ) : Type 0 whe
   pub below : cell < start_of f lists q + classes_at f lists q
 
 -- a row is that of its point
-pub record IsRowIn (f : Frame) (lists : ClassLists) (r : Row) : Type 0 where
+pub record IsRowIn (f : Frame) (lists : ClassLists) (r : PointRow) : Type 0 where
   pub inside : r.point < point_count f
   pub player : r.player ≡ player_at f r.point
   pub round : r.round ≡ round_of f (at_point r.point)
@@ -35,11 +35,11 @@ pub record IsRowIn (f : Frame) (lists : ClassLists) (r : Row) : Type 0 where
   pub worth : r.worth ≡ worth_start f lists r.point
 
 -- the row at a place of a list
-abbrev pub row_in : List Row → ℕ → Row
+abbrev pub row_in : List PointRow → ℕ → PointRow
 row_in rows q = get_or rows q (record { point = 0; player = 0; round = 0; moves = 0; cell = 0; worth = 0 })
 
 -- the rows of all points before one
-abbrev pub AreRowsBefore : Frame → ClassLists → ℕ → List Row → Type 0
+abbrev pub AreRowsBefore : Frame → ClassLists → ℕ → List PointRow → Type 0
 AreRowsBefore f lists count rows = (q : ℕ) → q < count → ((row_in rows q).point ≡ q) × IsRowIn f lists (row_in rows q)
 
 -- a way is a move of the game, with the row of its point and the round to which it leads

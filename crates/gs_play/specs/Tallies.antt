@@ -5,7 +5,7 @@ use Rattle.gs_model.specs.{BestAnswers.{Values}, Classes.{ClassLists, IsClass}, 
 use Rattle.gs_model.specs.{FrameFacts.{IsFrom, IsInside}, Positions.{Target, at_end, at_point}}
 use Rattle.gs_best.specs.{Tables.{moves_of, start_of}, ClassTotals.{earlier_class, total_worth}, Places.{IsFollowedFrom}}
 use Rattle.gs_play.specs.{DueTurns.{IsDues}, Lines.{StaysFirst, flat, line_at, wrapped}, Plots.{cell_place, worth_place, worth_start}, Tables.{AreSettledUntil}}
-use Rattle.gs_play.specs.{declared.line.Line.{Line}, declared.plot.Row.{Row}, declared.plot.Way.{Way}, declared.tally.Tally.{Tally}}
+use Rattle.gs_play.specs.{declared.line.Line.{Line}, declared.plot.PointRow.{PointRow}, declared.plot.Way.{Way}, declared.tally.Tally.{Tally}}
 
 -- the number of a line in turn 0
 abbrev pub at_part : Line → ℤ
@@ -123,11 +123,11 @@ pub record IsFed (place cell : ℕ) (more : Line) (old new : Tally) : Type 0 whe
   pub picks : new.picks ≡ old.picks
 
 -- the lines of what the moves of a cell of a row are worth
-abbrev pub lines_at : Row → ℕ → Tally → List Line
+abbrev pub lines_at : PointRow → ℕ → Tally → List Line
 lines_at r cell t = take r.moves (drop (r.worth + (cell - r.cell) * r.moves) t.worths.items)
 
 -- the class total of a cell of a row is found again from the worths of its moves
-pub record IsLineFound (player : ℕ) (r : Row) (cell now last : ℕ) (old new : Tally) : Type 0 where
+pub record IsLineFound (player : ℕ) (r : PointRow) (cell now last : ℕ) (old new : Tally) : Type 0 where
   pub own : r.player ≡ player → IsChosen (lines_at r cell old) r.point cell now last old new
   pub others : r.player ≢ player → IsAddedUp (lines_at r cell old) cell last old new
   pub worths : new.worths ≡ old.worths

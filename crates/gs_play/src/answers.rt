@@ -4,13 +4,13 @@ ghost use Rattle.std.specs.Prelude.{◌≡◌, ◌≢◌, ◌↔◌, ◌+◌, �
 ghost use Rattle.gs_model.specs.{Classes.{IsClass}, Frame.{last_step, move_count, other_player, player_at, point_count, round_of}};
 ghost use Rattle.gs_model.specs.Positions.{at_point};
 ghost use Rattle.gs_seq.specs.{Plans.{class_plan}, Slots.{slot_count}};
-ghost use Rattle.gs_best.specs.Tables.{AreInMoves, moves_of, start_of};
+ghost use Rattle.gs_best.specs.Tables.{moves_of, start_of};
 ghost use Rattle.gs_play.specs.PlanSums.{ArePlansAlike};
 ghost use Rattle.gs_play.specs.{Plots.{IsGate, IsRowIn}, Sides.{side_frame, side_lists}, Tallies.{HasMoved, HasTallyRoom}};
-ghost use Rattle.gs_play.specs.Answers.{AreKeptBut, AreRight, HasAnswer, IsElsewhere, IsPaidOff, IsReached, IsRight, IsRightMove};
-ghost use Rattle.gs_play.specs.Answers.{IsStill, IsPassedOn, IsOtherMove, IsTurnedAt, plan_after};
+ghost use Rattle.gs_play.specs.Answers.{AreKeptBut, AreRight, HasAnswer, IsElsewhere, IsPaidOff, IsReached, IsRenewable, IsRenewed, IsRight};
+ghost use Rattle.gs_play.specs.Answers.{IsRightAt, IsRightMove, IsSameTally, IsStill, IsPassedOn, IsOtherMove, IsTurnedAt, plan_after};
 
-use crate::plot::{Row, gate_of};
+use crate::plot::{PointRow, gate_of};
 use crate::pushing::{Change, push};
 use crate::side::Side;
 use crate::tally::Tally;
@@ -35,7 +35,7 @@ pub(crate) struct Answer {
 }
 
 /// Returns whether the answer comes to a class of a row: whether it takes the player's last step before the row's point, at the class above.
-fn is_reached(side: &Side<'_>, taken: &[u8], gate: Option<Step>, row: Row, class: u32) -> bool
+fn is_reached(side: &Side<'_>, taken: &[u8], gate: Option<Step>, row: PointRow, class: u32) -> bool
     requires row { IsRowIn (side_frame side.now) (side_lists side.now) row }
     requires gate { IsGate (side_frame side.now) row.point gate }
     requires class { IsClass (side_lists side.now) (round_of (side_frame side.now) (at_point row.point)) class }
@@ -143,7 +143,7 @@ fn right_move(
     taken: &[u8],
     picks: &[u8],
     gate: Option<Step>,
-    row: Row,
+    row: PointRow,
     class: u32,
 ) -> u8
     requires row { IsRowIn (side_frame side.now) (side_lists side.now) row }
@@ -174,21 +174,10 @@ fn renew_point(
 )
     requires point { point < point_count (side_frame side.now) }
     requires own { player_at (side_frame side.now) point ≡ side.now.player }
-    requires answer { HasAnswer (side_frame side.now) (side_lists side.now) side.now.player now answer.old }
-    requires long { length picks.now ≡ start_of (side_frame side.now) (side_lists side.now) (point_count (side_frame side.now)) }
-    requires moves { let f = side_frame side.now in let lists = side_lists side.now in AreInMoves f lists side.now.player (moves_of f lists picks.now) }
-    requires room { HasTallyRoom (side_frame side.now) (side_lists side.now) tally.old }
-    ensures answer { HasAnswer (side_frame side.now) (side_lists side.now) side.now.player now answer.new }
-    ensures right { let f = side_frame side.now in let lists = side_lists side.now in (c : ℕ) → IsClass lists (round_of f (at_point point)) c
-        → IsRight f lists (moves_of f lists answer.new.taken.items) (moves_of f lists picks.now) point c }
+    requires renewable { IsRenewable (side_frame side.now) (side_lists side.now) side.now.player now picks.now answer.old tally.old }
+    ensures renewed { IsRenewed (side_frame side.now) (side_lists side.now) side.now.player now answer.old answer.new tally.old tally.new }
+    ensures right { IsRightAt (side_frame side.now) (side_lists side.now) answer.new.taken.items picks.now point }
     ensures turned { IsTurnedAt (side_frame side.now) (side_lists side.now) point answer.old answer.new }
-    ensures plan { let f = side_frame side.now in let lists = side_lists side.now in
-        ArePlansAlike f lists side.now.player (plan_after f lists answer.new now) (plan_after f lists answer.old now) }
-    ensures room { HasTallyRoom (side_frame side.now) (side_lists side.now) tally.new }
-    ensures moved { tally.new.moved ≡ tally.old.moved }
-    ensures picks { tally.new.picks ≡ tally.old.picks }
-    ensures told { let f = side_frame side.now in let lists = side_lists side.now in IsPassedOn f lists (other_player side.now.player) now
-        (moves_of f lists answer.old.taken.items) (moves_of f lists answer.new.taken.items) tally.old tally.new }
 {
     let gate = gate_of(side.form, point);
     let row = side.plot.rows[point as usize];
@@ -230,26 +219,14 @@ fn renew_at(
     now: u32,
 )
     requires point { point < point_count (side_frame side.now) }
-    requires answer { HasAnswer (side_frame side.now) (side_lists side.now) side.now.player now answer.old }
     requires own { HasTallyRoom (side_frame side.now) (side_lists side.now) own.now }
-    requires moves { let f = side_frame side.now in let lists = side_lists side.now in
-        AreInMoves f lists side.now.player (moves_of f lists own.now.picks.items) }
-    requires right { let f = side_frame side.now in let lists = side_lists side.now in player_at f point ≡ side.now.player
-        → IsStill f point own.now.moved.items answer.old.turned.items → (c : ℕ) → IsClass lists (round_of f (at_point point)) c
-        → IsRight f lists (moves_of f lists answer.old.taken.items) (moves_of f lists own.now.picks.items) point c }
-    requires room { HasTallyRoom (side_frame side.now) (side_lists side.now) tally.old }
-    ensures answer { HasAnswer (side_frame side.now) (side_lists side.now) side.now.player now answer.new }
-    ensures right { let f = side_frame side.now in let lists = side_lists side.now in player_at f point ≡ side.now.player → (c : ℕ)
-        → IsClass lists (round_of f (at_point point)) c
-        → IsRight f lists (moves_of f lists answer.new.taken.items) (moves_of f lists own.now.picks.items) point c }
+    requires renewable { IsRenewable (side_frame side.now) (side_lists side.now) side.now.player now own.now.picks.items answer.old tally.old }
+    requires right { player_at (side_frame side.now) point ≡ side.now.player → IsStill (side_frame side.now) point own.now.moved.items answer.old.turned.items
+        → IsRightAt (side_frame side.now) (side_lists side.now) answer.old.taken.items own.now.picks.items point }
+    ensures renewed { IsRenewed (side_frame side.now) (side_lists side.now) side.now.player now answer.old answer.new tally.old tally.new }
+    ensures right { player_at (side_frame side.now) point ≡ side.now.player
+        → IsRightAt (side_frame side.now) (side_lists side.now) answer.new.taken.items own.now.picks.items point }
     ensures turned { IsTurnedAt (side_frame side.now) (side_lists side.now) point answer.old answer.new }
-    ensures plan { let f = side_frame side.now in let lists = side_lists side.now in
-        ArePlansAlike f lists side.now.player (plan_after f lists answer.new now) (plan_after f lists answer.old now) }
-    ensures room { HasTallyRoom (side_frame side.now) (side_lists side.now) tally.new }
-    ensures moved { tally.new.moved ≡ tally.old.moved }
-    ensures picks { tally.new.picks ≡ tally.old.picks }
-    ensures told { let f = side_frame side.now in let lists = side_lists side.now in IsPassedOn f lists (other_player side.now.player) now
-        (moves_of f lists answer.old.taken.items) (moves_of f lists answer.new.taken.items) tally.old tally.new }
 {
     answer.turned[point as usize] = false;
     if side.plot.rows[point as usize].player == side.player
@@ -268,30 +245,16 @@ pub(crate) fn renew(
     tally: &mut Tally,
     now: u32,
 )
-    requires answer { HasAnswer (side_frame side.now) (side_lists side.now) side.now.player now answer.old }
     requires own { HasTallyRoom (side_frame side.now) (side_lists side.now) own.old }
-    requires room { HasTallyRoom (side_frame side.now) (side_lists side.now) tally.old }
-    requires moves { let f = side_frame side.now in let lists = side_lists side.now in
-        AreInMoves f lists side.now.player (moves_of f lists own.old.picks.items) }
-    requires right { let f = side_frame side.now in let lists = side_lists side.now in (q c : ℕ) → q < point_count f → player_at f q ≡ side.now.player
-        → IsClass lists (round_of f (at_point q)) c → (HasMoved own.old q → ⊥)
-        → IsRight f lists (moves_of f lists answer.old.taken.items) (moves_of f lists own.old.picks.items) q c }
-    ensures answer { HasAnswer (side_frame side.now) (side_lists side.now) side.now.player now answer.new }
+    requires renewable { IsRenewable (side_frame side.now) (side_lists side.now) side.now.player now own.old.picks.items answer.old tally.old }
+    requires right { (q : ℕ) → q < point_count (side_frame side.now) → player_at (side_frame side.now) q ≡ side.now.player → (HasMoved own.old q → ⊥)
+        → IsRightAt (side_frame side.now) (side_lists side.now) answer.old.taken.items own.old.picks.items q }
+    ensures renewed { IsRenewed (side_frame side.now) (side_lists side.now) side.now.player now answer.old answer.new tally.old tally.new }
     ensures right { let f = side_frame side.now in let lists = side_lists side.now in
         AreRight f lists side.now.player (moves_of f lists answer.new.taken.items) (moves_of f lists own.new.picks.items) }
-    ensures plan { let f = side_frame side.now in let lists = side_lists side.now in
-        ArePlansAlike f lists side.now.player (plan_after f lists answer.new now) (plan_after f lists answer.old now) }
     ensures own { HasTallyRoom (side_frame side.now) (side_lists side.now) own.new }
     ensures still { (q : ℕ) → q < point_count (side_frame side.now) → HasMoved own.new q → ⊥ }
-    ensures own_worths { own.new.worths ≡ own.old.worths }
-    ensures own_totals { own.new.totals ≡ own.old.totals }
-    ensures own_dues { own.new.dues ≡ own.old.dues }
-    ensures own_picks { own.new.picks ≡ own.old.picks }
-    ensures room { HasTallyRoom (side_frame side.now) (side_lists side.now) tally.new }
-    ensures moved { tally.new.moved ≡ tally.old.moved }
-    ensures picks { tally.new.picks ≡ tally.old.picks }
-    ensures told { let f = side_frame side.now in let lists = side_lists side.now in IsPassedOn f lists (other_player side.now.player) now
-        (moves_of f lists answer.old.taken.items) (moves_of f lists answer.new.taken.items) tally.old tally.new }
+    ensures same { IsSameTally own.old own.new }
 {
     for point in 0..side.form.point_total() {
         renew_at(side, answer, own, tally, point, now);

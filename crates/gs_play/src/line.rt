@@ -4,7 +4,7 @@ ghost use Rattle.std.specs.Prelude.{◌≡◌, ◌+◌, ◌<◌, ◌≤◌, ◌^
 ghost use Rattle.gs_play.specs.Lasting.{IsNotAhead};
 ghost use Rattle.gs_play.specs.Lines.{StaysBehind, value_in, wrapped};
 
-use crate::gap::behind;
+use crate::lasting::behind;
 use gs_seq::{plus, scaled};
 
 /// A number that in each turn is `at` plus `slope` times the turn. A sum of lines wraps around at 64 bits: where it is small, it is exact.

@@ -15,7 +15,7 @@ use std::alloc::{AllocError, Global};
 
 /// A point as a row of cells, one for each class of its round.
 #[derive(Clone, Copy)]
-pub(crate) struct Row {
+pub(crate) struct PointRow {
     pub(crate) point: u32,
     /// who chooses there
     pub(crate) player: u8,
@@ -31,7 +31,7 @@ pub(crate) struct Row {
 /// A move of a point, with the row of the point and the round to which the move leads.
 #[derive(Clone, Copy)]
 pub(crate) struct Way {
-    pub(crate) row: Row,
+    pub(crate) row: PointRow,
     pub(crate) choice: u8,
     pub(crate) round: u8,
 }
@@ -47,7 +47,7 @@ pub(crate) struct Span {
 #[derive(Drop)]
 pub(crate) struct Plot {
     /// for each point its row
-    pub(crate) rows: Vec<Row>,
+    pub(crate) rows: Vec<PointRow>,
     /// the number of worths
     pub(crate) worths: usize,
     /// for each cell its point
@@ -63,14 +63,14 @@ pub(crate) struct Plot {
 }
 
 /// Returns the row of a point whose first cell and first worth stand at these places.
-fn row_of(form: &Abstract, point: u32, cell: usize, worth: usize) -> Row
+fn row_of(form: &Abstract, point: u32, cell: usize, worth: usize) -> PointRow
     requires point { point < point_count (abstract_frame form.now) }
     requires cell { cell ≡ start_of (abstract_frame form.now) (lists_of form.now) point }
     requires worth { worth ≡ worth_start (abstract_frame form.now) (lists_of form.now) point }
     ensures point { result.point ≡ point }
     ensures row { IsRowIn (abstract_frame form.now) (lists_of form.now) result }
 {
-    Row {
+    PointRow {
         point,
         player: form.chooser(point),
         round: form.round_at(point),
@@ -81,7 +81,7 @@ fn row_of(form: &Abstract, point: u32, cell: usize, worth: usize) -> Row
 }
 
 /// Returns the row of each point, and the number of worths.
-fn rows_of(alloc: Global, form: &Abstract) -> Result<(Vec<Row>, usize), AllocError>
+fn rows_of(alloc: Global, form: &Abstract) -> Result<(Vec<PointRow>, usize), AllocError>
     ensures many { IfOk result (λ r. length r.0.items ≡ point_count (abstract_frame form.now)) }
     ensures rows { IfOk result (λ r. AreRowsBefore (abstract_frame form.now) (lists_of form.now) (point_count (abstract_frame form.now)) r.0.items) }
     ensures worths { IfOk result (λ r. r.1 ≡ worth_start (abstract_frame form.now) (lists_of form.now) (point_count (abstract_frame form.now))) }
@@ -130,7 +130,7 @@ pub(crate) fn gate_of(form: &Abstract, point: u32) -> Option<Step>
 }
 
 /// Returns the cell above a class of a point in which a step was made. Returns 0 if there is no step.
-fn cell_above(form: &Abstract, rows: &[Row], point: u32, step: Option<Step>, class: u32) -> u32
+fn cell_above(form: &Abstract, rows: &[PointRow], point: u32, step: Option<Step>, class: u32) -> u32
     requires long_rows { length rows.now ≡ point_count (abstract_frame form.now) }
     requires rows { AreRowsBefore (abstract_frame form.now) (lists_of form.now) (point_count (abstract_frame form.now)) rows.now }
     requires point { point < point_count (abstract_frame form.now) }
@@ -151,7 +151,7 @@ fn cell_above(form: &Abstract, rows: &[Row], point: u32, step: Option<Step>, cla
 /// Adds for each class of a point the cell above it in which a step was made, or 0 if there is no step.
 fn add_above(
     form: &Abstract,
-    rows: &[Row],
+    rows: &[PointRow],
     point: u32,
     step: Option<Step>,
     cells: &mut Vec<u32>,
@@ -173,7 +173,7 @@ fn add_above(
 }
 
 /// Returns for each cell the cell above it in which its player took a step last, or 0 if there is none.
-fn gates_of(alloc: Global, form: &Abstract, rows: &[Row]) -> Result<Vec<u32>, AllocError>
+fn gates_of(alloc: Global, form: &Abstract, rows: &[PointRow]) -> Result<Vec<u32>, AllocError>
     requires long_rows { length rows.now ≡ point_count (abstract_frame form.now) }
     requires rows { AreRowsBefore (abstract_frame form.now) (lists_of form.now) (point_count (abstract_frame form.now)) rows.now }
     ensures { let f = abstract_frame form.now in

@@ -9,7 +9,7 @@ ghost use Rattle.gs_play.specs.Tallies.{AreSmallAtEnds, FeedsAbove, HasTallyRoom
 
 use crate::dues::{past_due, renew, set_due};
 use crate::line::{Line, above, sum};
-use crate::plot::{Row, Way};
+use crate::plot::{PointRow, Way};
 use crate::side::Side;
 use crate::tally::{Tally, add_up, choose};
 use gs_seq::Abstract;
@@ -31,7 +31,7 @@ pub(crate) fn feed(form: &Abstract, tally: &mut Tally, way: Way, class: u32, mor
 }
 
 /// Finds the class total of a cell of a row again from the worths of its moves.
-fn find(side: &Side<'_>, tally: &mut Tally, cell: usize, row: Row, now: u32, last: u32)
+fn find(side: &Side<'_>, tally: &mut Tally, cell: usize, row: PointRow, now: u32, last: u32)
     requires row { IsRowIn (side_frame side.now) (side_lists side.now) row }
     requires from { row.cell ≤ cell }
     requires below { cell < row.cell + classes_at (side_frame side.now) (side_lists side.now) row.point }
@@ -55,7 +55,7 @@ fn settle(
     side: &Side<'_>,
     tally: &mut Tally,
     cell: usize,
-    row: Row,
+    row: PointRow,
     way: Option<Way>,
     now: u32,
     last: u32,
@@ -90,7 +90,7 @@ fn settle(
 }
 
 /// Returns the move that leads to the point of a row. Returns `None` if no move does.
-fn way_of(side: &Side<'_>, row: Row) -> Option<Way>
+fn way_of(side: &Side<'_>, row: PointRow) -> Option<Way>
     requires { IsRowIn (side_frame side.now) (side_lists side.now) row }
     ensures { MatchOption result (HasNoWay (side_frame side.now) (at_point row.point))
         (LeadsTo (side_frame side.now) (side_lists side.now) (at_point row.point)) }
@@ -107,7 +107,7 @@ fn way_of(side: &Side<'_>, row: Row) -> Option<Way>
 fn sweep_row(
     side: &Side<'_>,
     tally: &mut Tally,
-    row: Row,
+    row: PointRow,
     from: usize,
     stop: usize,
     now: u32,

@@ -17,9 +17,6 @@ player c =
     let q = c.loop-point.point in
     row_player (side_frame s) (side_lists s) q _ (row_at (side_frame s) (side_lists s) s.plot.now s.plotted q (inside c) _ c.index.ensures)
 
-pub stop_at-requires-clause-own : goal.stop_at-requires-clause-own
-stop_at-requires-clause-own c = sym (player (goal.at.stop_at-requires-clause-own c).After-index) ∙ c.if-index-side.true
-
 pub loop-point-preserved : goal.loop-point-preserved
 loop-point-preserved c =
     let s = c.args.side.now in
@@ -54,11 +51,12 @@ returns c =
           (subst (λ t. ArePlansAlike f lists s.player (plan_of f lists t a.weights.items) (plan_after f lists a last)) (sym c.from.ensures) none) done.plan;
     }
 
-pub stop_at-requires-clause-answer : goal.stop_at-requires-clause-answer
-stop_at-requires-clause-answer c = grind arith
-
 pub loop-point-init : goal.loop-point-init
 loop-point-init c = grind arith
 
-pub stop_at-requires-clause-point : goal.stop_at-requires-clause-point
-stop_at-requires-clause-point c = grind arith
+pub stop_at-requires : goal.stop_at-requires
+stop_at-requires c = record {
+  point = grind arith;
+  own = sym (player (goal.at.stop_at-requires c).After-index) ∙ c.if-index-side.true;
+  answer = grind arith;
+}

@@ -1,3 +1,4 @@
+use Rattle.std.proofs.lemmas.Grind.{common_steps}
 use Rattle.std.proofs.Common.{◌≡◌, ℕ, ◌+◌, ◌-◌, ◌<◌, List, length, replicate, sym, ap, ◌∙◌, subst, arith, rules}
 use Rattle.std.proofs.lemmas.List.{length-replicate, with_items_is}
 use Rattle.gs_model.specs.Frame.{player_at, point_count}
@@ -79,23 +80,20 @@ fresh c all =
       right = λ q c' lq own lc. c.loop-point.invariant.first.first q c' (omega (arith, lq, c.loop-point-test.false, c.point_total-point-end.ensures)) lq own lc;
     }
 
-pub returns-clause-answer : goal.returns-clause-answer
-returns-clause-answer c =
-    let s = c.args.side.now in
-    let at = goal.at.returns-clause-answer c in
-    fresh_has (side_frame s) (side_lists s) s.player _ (λ q lq. (form_moves s.form.now q lq).some) (fresh at.In_ok-vec-3 (cells at.In_ok-taken))
+pub returns : goal.returns
+returns c = record {
+  answer = let s = c.args.side.now in
+      let at = goal.at.returns c in
+      fresh_has (side_frame s) (side_lists s) s.player _ (λ q lq. (form_moves s.form.now q lq).some) (fresh at.In_ok-vec-3 (cells at.In_ok-taken));
+  right = let at = goal.at.returns c in (fresh at.In_ok-vec-3 (cells at.In_ok-taken)).right;
+}
 
-pub returns-clause-right : goal.returns-clause-right
-returns-clause-right c = let at = goal.at.returns-clause-right c in (fresh at.In_ok-vec-3 (cells at.In_ok-taken)).right
-
-pub take_first-requires-clause-none : goal.take_first-requires-clause-none
-take_first-requires-clause-none c = grind arith
-
-pub take_first-requires-clause-long : goal.take_first-requires-clause-long
-take_first-requires-clause-long c = ap (λ (l : List ℕ). length l) c.deref_mut.ensures.value ∙ c.loop-point.invariant.long
-
-pub take_first-requires-clause-point : goal.take_first-requires-clause-point
-take_first-requires-clause-point c = omega (arith, c.loop-point-test.true, c.point_total-point-end.ensures)
+pub take_first-requires : goal.take_first-requires
+take_first-requires c = record {
+  point = omega (arith, c.loop-point-test.true, c.point_total-point-end.ensures);
+  long = ap (λ (l : List ℕ). length l) c.deref_mut.ensures.value ∙ c.loop-point.invariant.long;
+  none = grind arith;
+}
 
 pub overflow_sub-slots : goal.overflow_sub-slots
 overflow_sub-slots c = grind arith
@@ -103,11 +101,8 @@ overflow_sub-slots c = grind arith
 pub overflow_cast-slots : goal.overflow_cast-slots
 overflow_cast-slots c = grind arith
 
-pub sequences-requires-clause-some : goal.sequences-requires-clause-some
-sequences-requires-clause-some c = grind arith
-
-pub sequences-requires-clause-two : goal.sequences-requires-clause-two
-sequences-requires-clause-two c = grind arith
+pub sequences-requires : goal.sequences-requires
+sequences-requires c = grind (arith, common_steps)
 
 pub index-requires : goal.index-requires
 index-requires c = omega arith

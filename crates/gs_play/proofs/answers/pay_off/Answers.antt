@@ -4,37 +4,22 @@ use Rattle.gs_seq.proofs.Forms.{form_moves}
 use Rattle.gs_best.specs.Tables.{moves_of, start_of}
 use Rattle.gs_best.proofs.PointStarts.{place_before, starts_few}
 use Rattle.gs_play.specs.{Plots.{cell_place}, Sides.{side_frame, side_lists}}
-use Rattle.gs_play.proofs.{Paid.{began_before, old_in, old_read, paid_few, paid_off}, PlotRows.{IsRowAt, row_at, row_cell}, Slotted.{counted_none}}
+use Rattle.gs_play.proofs.{Paid.{began_before, old_in, old_read, paid_few, paid_off}, PlotRows.{IsCellAt, cell_at}, Slotted.{counted_none}}
 use Rattle.gs_play.proofs.answers.pay_off.Goals.{After-index, Then-old}
 use Rattle.gs_play.proofs.answers.pay_off.Goals as goal
 
-row : (c : After-index) → IsRowAt (side_frame c.args.side.now) (side_lists c.args.side.now) c.args.point c.index.result.now
-row c = row_at (side_frame c.args.side.now) (side_lists c.args.side.now) c.args.side.now.plot.now c.args.side.now.plotted c.args.point c.requires.point
+-- the cell of the class
+cell : (c : After-index) → IsCellAt (side_frame c.args.side.now) (side_lists c.args.side.now) c.args.point c.args.class c.index.result.now.cell
+cell c = cell_at c.args.side.now.form.now c.args.side.now.plot.now c.args.side.now.plotted c.args.point c.args.class c.requires.point c.requires.class
     c.index.result.now c.index.ensures
 
--- the cell, and that it is one of the game's
-at_cell : (c : After-index) → c.index.result.now.cell + c.args.class - 1 ≡ cell_place (side_frame c.args.side.now) (side_lists c.args.side.now) c.args.point
-    c.args.class
-at_cell c =
-    let place = row_cell (side_frame c.args.side.now) (side_lists c.args.side.now) c.args.point c.index.result.now (row c) c.args.class in
-    let some = c.requires.class.0 in
-    omega (arith, place, some)
-
-inside : (c : After-index) → cell_place (side_frame c.args.side.now) (side_lists c.args.side.now) c.args.point c.args.class
-    < start_of (side_frame c.args.side.now) (side_lists c.args.side.now) (point_count (side_frame c.args.side.now))
-inside c = place_before (side_frame c.args.side.now) (side_lists c.args.side.now) c.args.point c.args.class (point_count (side_frame c.args.side.now))
-    c.requires.class c.requires.point
-
 pub overflow_add-cell : goal.overflow_add-cell
-overflow_add-cell c =
-    let here = (goal.at.overflow_add-cell c).After-index in
-    let few = starts_few c.args.side.now.form.now (point_count (side_frame c.args.side.now)) (omega arith) in
-    record { fits = omega (arith, few, inside here, at_cell here, c.ranges.class.fits, c.requires.class.0) }
+overflow_add-cell c = record { fits = omega (arith, (cell (goal.at.overflow_add-cell c).After-index).few) }
 
 pub index-old-requires : goal.index-old-requires
 index-old-requires c =
     let here = (goal.at.index-old-requires c).After-index in
-    omega (arith, inside here, at_cell here, c.requires.answer.taken, c.args.answer.now.taken.ok.0)
+    omega (arith, (cell here).inside, (cell here).place, c.requires.answer.taken, c.args.answer.now.taken.ok.0)
 
 -- what is taken is a move
 some_move : (c : Then-old) → c.index-old.result.now < 255
@@ -42,7 +27,7 @@ some_move c = omega (arith, c.if-old.true, c.type_inv.old.fits)
 
 pub slot-slot-requires-clause-choice : goal.slot-slot-requires-clause-choice
 slot-slot-requires-clause-choice c =
-    let at = at_cell (goal.at.slot-slot-requires-clause-choice c).After-index in
+    let at = (cell (goal.at.slot-slot-requires-clause-choice c).After-index).place in
     old_in (side_frame c.args.side.now) (side_lists c.args.side.now) c.args.side.now.player c.args.now c.args.point c.args.class c.requires.point c.requires.own
     c.requires.class c.args.answer.now c.requires.answer (c.index.result.now.cell + c.args.class - 1) at c.index-old.result.now c.index-old.ensures
     (some_move (goal.at.slot-slot-requires-clause-choice c).Then-old)
@@ -50,18 +35,18 @@ slot-slot-requires-clause-choice c =
 pub index-requires-then-old : goal.index-requires-then-old
 index-requires-then-old c =
     let here = (goal.at.index-requires-then-old c).After-index in
-    omega (arith, inside here, at_cell here, c.requires.answer.since, c.args.answer.now.since.ok.0)
+    omega (arith, (cell here).inside, (cell here).place, c.requires.answer.since, c.args.answer.now.since.ok.0)
 
 pub overflow_sub-now : goal.overflow_sub-now
 overflow_sub-now c =
-    let at = at_cell (goal.at.overflow_sub-now c).After-index in
+    let at = (cell (goal.at.overflow_sub-now c).After-index).place in
     began_before (side_frame c.args.side.now) (side_lists c.args.side.now) c.args.side.now.player c.args.now c.args.point c.args.class c.requires.point
     c.requires.own c.requires.class c.args.answer.now c.requires.answer (c.index.result.now.cell + c.args.class - 1) at c.index-then-old.result.now
     c.index-then-old.ensures
 
 pub overflow_add-index_mut : goal.overflow_add-index_mut
 overflow_add-index_mut c =
-    let at = at_cell (goal.at.overflow_add-index_mut c).After-index in
+    let at = (cell (goal.at.overflow_add-index_mut c).After-index).place in
     let few = paid_few (side_frame c.args.side.now) (side_lists c.args.side.now) c.args.side.now.player c.args.now c.args.point c.args.class c.requires.point
     c.requires.own c.requires.class c.args.answer.now c.requires.answer (c.index.result.now.cell + c.args.class - 1) at c.index-old.result.now
     c.index-then-old.result.now c.slot-slot.result c.index_mut.result.now c.from.result c.index-old.ensures
@@ -70,7 +55,7 @@ overflow_add-index_mut c =
 
 pub returns-then-old-clause-weights : goal.returns-then-old-clause-weights
 returns-then-old-clause-weights c = λ p e m lp his le lm.
-    let at = at_cell (goal.at.returns-then-old-clause-weights c).After-index in
+    let at = (cell (goal.at.returns-then-old-clause-weights c).After-index).place in
     paid_off (side_frame c.args.side.now) (side_lists c.args.side.now) c.args.side.now.player c.args.now c.args.point c.args.class c.requires.point
     c.requires.own c.requires.class c.args.answer.now c.requires.answer (c.index.result.now.cell + c.args.class - 1) at c.index-old.result.now
     c.index-then-old.result.now c.slot-slot.result c.index_mut.result.now c.from.result c.index-old.ensures
@@ -82,7 +67,7 @@ returns-else-old-clause-weights c = λ p e m lp his le lm.
     let f = side_frame c.args.side.now in
     let lists = side_lists c.args.side.now in
     let a = c.args.answer.now in
-    let at = at_cell (goal.at.returns-else-old-clause-weights c).After-index in
+    let at = (cell (goal.at.returns-else-old-clause-weights c).After-index).place in
     let taken = moves_of f lists a.taken.items c.args.point c.args.class in
     let began = moves_of f lists a.since.items c.args.point c.args.class in
     let read = old_read f lists c.args.side.now.player c.args.now c.args.point c.args.class c.requires.point c.requires.own c.requires.class a

@@ -4,7 +4,7 @@ use Rattle.gs_seq.specs.Abstracts.{game_in}
 use Rattle.gs_seq.proofs.Points.{walked_at}
 use Rattle.gs_best.specs.Tables.{moves_of}
 use Rattle.gs_play.specs.{Answers.{IsRight, IsStill}, Sides.{side_frame, side_lists}}
-use Rattle.gs_play.proofs.{PlotRows.{row_at, row_player}, Rooms.{has_turned}}
+use Rattle.gs_play.proofs.{PlotRows.{row_at, row_player}, Retaken.{renewed_none}, Rooms.{has_turned}}
 use Rattle.gs_play.proofs.answers.renew_at.Goals.{else-index-side-via-then-index-side+else-is_loose, else-index-side-via-else-index-side}
 use Rattle.gs_play.proofs.answers.renew_at.Goals as goal
 
@@ -16,6 +16,49 @@ still_before f q w lq moved turned h = record {
   gate = λ u is.
       (let before = w.earlier q u lq is in sym (get_or-set_other turned q u.point false false (λ same. absurd (omega (arith, before, same)))) ∙ h.gate u is);
 }
+
+pub is_loose-requires : goal.is_loose-requires
+is_loose-requires c = grind (arith, common_steps)
+
+pub index-requires : goal.index-requires
+index-requires c = omega (arith, c.requires.point, c.args.side.now.plotted.many, c.args.side.now.plot.now.rows.ok.0)
+
+pub renew_point-requires : goal.renew_point-requires
+renew_point-requires c = record {
+  point = c.requires.point;
+  own = let s = c.args.side.now in
+      let f = side_frame s in
+      let row = row_at f (side_lists s) s.plot.now s.plotted c.args.point c.requires.point c.index.result.now c.index.ensures in
+      sym (row_player f (side_lists s) c.args.point c.index.result.now row) ∙ c.if-index-side.true;
+  renewable = record {
+    answer = has_turned (side_frame c.args.side.now) (side_lists c.args.side.now) c.args.side.now.player c.args.now c.args.answer.now c.args.point false
+        c.requires.renewable.answer;
+    long = grind arith;
+    moves = grind arith;
+    room = c.requires.renewable.room;
+  };
+}
+
+-- what is said of the points does not matter for the answer so far
+pub returns-then-is_loose : goal.returns-then-is_loose
+returns-then-is_loose c = record {
+  renewed = let h = c.renew_point.ensures.renewed in
+      record { answer = h.answer; plan = h.plan; room = h.room; moved = h.moved; picks = h.picks; told = h.told };
+  right = λ own e le.
+      let f = side_frame c.args.side.now in
+      let lists = side_lists c.args.side.now in
+      let taken = moves_of f lists c.renew_point.new.answer.taken.items in
+      subst (λ picks. IsRight f lists taken (moves_of f lists picks) c.args.point e) c.deref-then-is_loose.ensures.value (c.renew_point.ensures.right e le);
+  turned = search rules;
+}
+
+pub returns-else-index-side-clause-renewed : goal.returns-else-index-side-clause-renewed
+returns-else-index-side-clause-renewed c =
+    let s = c.args.side.now in
+    let has = has_turned (side_frame s) (side_lists s) s.player c.args.now c.args.answer.now c.args.point false c.requires.renewable.answer in
+    let h = renewed_none (side_frame s) (side_lists s) s.player c.args.now c.args.answer.now c.args.tally.now c.requires.renewable.answer
+    c.requires.renewable.room in
+    record { answer = has; plan = h.plan; room = h.room; moved = h.moved; picks = h.picks; told = h.told }
 
 pub returns-else-index-side-clause-right : goal.returns-else-index-side-clause-right
 returns-else-index-side-clause-right c = λ own e le.
@@ -32,76 +75,6 @@ returns-else-index-side-clause-right c = λ own e le.
           (let row = row_at f (side_lists s) s.plot.now s.plotted q c.requires.point c.index.result.now c.index.ensures in
           o.if-index-side.false (row_player f (side_lists s) q c.index.result.now row ∙ own))
     ]
-
-pub returns-then-is_loose-clause-right : goal.returns-then-is_loose-clause-right
-returns-then-is_loose-clause-right c = λ own e le.
-    let f = side_frame c.args.side.now in
-    let lists = side_lists c.args.side.now in
-    let taken = moves_of f lists c.renew_point.new.answer.taken.items in
-    subst (λ picks. IsRight f lists taken (moves_of f lists picks) c.args.point e) c.deref-then-is_loose.ensures.value (c.renew_point.ensures.right e le)
-
-pub renew_point-requires-clause-moves : goal.renew_point-requires-clause-moves
-renew_point-requires-clause-moves c = grind arith
-
-pub renew_point-requires-clause-long : goal.renew_point-requires-clause-long
-renew_point-requires-clause-long c = grind arith
-
-pub returns-then-is_loose-clause-room : goal.returns-then-is_loose-clause-room
-returns-then-is_loose-clause-room c = c.renew_point.ensures.room
-
-pub renew_point-requires-clause-room : goal.renew_point-requires-clause-room
-renew_point-requires-clause-room c = c.requires.room
-
-pub returns-then-is_loose-clause-answer : goal.returns-then-is_loose-clause-answer
-returns-then-is_loose-clause-answer c = c.renew_point.ensures.answer
-
-pub returns-then-is_loose-clause-plan : goal.returns-then-is_loose-clause-plan
-returns-then-is_loose-clause-plan c = c.renew_point.ensures.plan
-
-pub is_loose-requires-clause-turned : goal.is_loose-requires-clause-turned
-is_loose-requires-clause-turned c = grind (arith, common_steps)
-
-pub returns-else-index-side-clause-room : goal.returns-else-index-side-clause-room
-returns-else-index-side-clause-room c = c.requires.room
-
-pub renew_point-requires-clause-own : goal.renew_point-requires-clause-own
-renew_point-requires-clause-own c =
-    let s = c.args.side.now in
-    let f = side_frame s in
-    let row = row_at f (side_lists s) s.plot.now s.plotted c.args.point c.requires.point c.index.result.now c.index.ensures in
-    sym (row_player f (side_lists s) c.args.point c.index.result.now row) ∙ c.if-index-side.true
-
-pub renew_point-requires-clause-answer : goal.renew_point-requires-clause-answer
-renew_point-requires-clause-answer c = has_turned (side_frame c.args.side.now) (side_lists c.args.side.now) c.args.side.now.player c.args.now c.args.answer.now c.args.point false
-    c.requires.answer
-
-pub returns-else-index-side-clause-answer : goal.returns-else-index-side-clause-answer
-returns-else-index-side-clause-answer c = has_turned (side_frame c.args.side.now) (side_lists c.args.side.now) c.args.side.now.player c.args.now c.args.answer.now c.args.point false
-    c.requires.answer
-
-pub renew_point-requires-clause-point : goal.renew_point-requires-clause-point
-renew_point-requires-clause-point c = c.requires.point
-
-pub index-requires : goal.index-requires
-index-requires c = omega (arith, c.requires.point, c.args.side.now.plotted.many, c.args.side.now.plot.now.rows.ok.0)
-
-pub returns-then-is_loose-clause-turned : goal.returns-then-is_loose-clause-turned
-returns-then-is_loose-clause-turned c = search rules
-
-pub returns-then-is_loose-clause-told : goal.returns-then-is_loose-clause-told
-returns-then-is_loose-clause-told c = grind arith
-
-pub returns-then-is_loose-clause-picks : goal.returns-then-is_loose-clause-picks
-returns-then-is_loose-clause-picks c = grind arith
-
-pub returns-then-is_loose-clause-moved : goal.returns-then-is_loose-clause-moved
-returns-then-is_loose-clause-moved c = grind arith
-
-pub is_loose-requires-clause-moved : goal.is_loose-requires-clause-moved
-is_loose-requires-clause-moved c = omega arith
-
-pub is_loose-requires-clause-point : goal.is_loose-requires-clause-point
-is_loose-requires-clause-point c = grind arith
 
 pub returns-else-index-side-clause-turned : goal.returns-else-index-side-clause-turned
 returns-else-index-side-clause-turned c = grind (arith, common_steps)

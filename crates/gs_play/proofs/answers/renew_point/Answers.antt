@@ -68,7 +68,7 @@ right_in c here class some =
     let q = c.args.point in
     let r = right c here in
     ⊎_elim
-    (λ reached. (let is = r.on reached in let m = c.requires.moves q c.loop-class.class c.requires.point c.requires.own class in omega (arith, is, m)))
+    (λ reached. (let is = r.on reached in let m = c.requires.renewable.moves q c.loop-class.class c.requires.point c.requires.own class in omega (arith, is, m)))
     (λ no_way. absurd (let is = r.off no_way in omega (arith, is, some)))
     (reached_or f lists (moves_of f lists c.loop-class.answer.taken.items) (last_step f (player_at f q) (at_point q)) (round_of f (at_point q))
     c.loop-class.class)
@@ -88,22 +88,7 @@ index-old-requires c =
     let here = (goal.at.index-old-requires c).After-index-row in
     let loop = (goal.at.index-old-requires c).In-loop-class in
     let place = place_before f lists c.args.point c.loop-class.class (point_count f) (at_class loop (round here)) c.requires.point in
-    omega (arith, place, at_cell loop (row here), c.loop-class.invariant.answer.taken, c.loop-class.answer.taken.ok.0)
-
-pub right_move-new-requires-clause-row : goal.right_move-new-requires-clause-row
-right_move-new-requires-clause-row c = (row (goal.at.right_move-new-requires-clause-row c).After-index-row).known
-
-pub right_move-new-requires-clause-gate : goal.right_move-new-requires-clause-gate
-right_move-new-requires-clause-gate c =
-    let r = row (goal.at.right_move-new-requires-clause-gate c).After-index-row in
-    subst (λ i. IsGate (side_frame c.args.side.now) i c.gate_of-gate.result) (sym r.point) c.gate_of-gate.ensures
-
-pub right_move-new-requires-clause-class : goal.right_move-new-requires-clause-class
-right_move-new-requires-clause-class c =
-    let s = c.args.side.now in
-    let at = goal.at.right_move-new-requires-clause-class c in
-    subst (λ i. IsClass (side_lists s) (round_of (side_frame s) (at_point i)) c.loop-class.class) (sym (row at.After-index-row).point)
-    (at_class at.In-loop-class (round at.After-index-row))
+    omega (arith, place, at_cell loop (row here), c.loop-class.invariant.renewed.answer.taken, c.loop-class.answer.taken.ok.0)
 
 pub turn-requires-clause-class : goal.turn-requires-clause-class
 turn-requires-clause-class c = at_class (goal.at.turn-requires-clause-class c).In-loop-class (round (goal.at.turn-requires-clause-class c).After-index-row)
@@ -114,29 +99,12 @@ turn-requires-clause-new c =
     right_in (goal.at.turn-requires-clause-new c).After-right_move-new (row here).point
     (at_class (goal.at.turn-requires-clause-new c).In-loop-class (round here))
 
-pub tell-requires-clause-class : goal.tell-requires-clause-class
-tell-requires-clause-class c = at_class (goal.at.tell-requires-clause-class c).In-loop-class (round (goal.at.tell-requires-clause-class c).After-index-row)
-
-pub tell-requires-clause-old : goal.tell-requires-clause-old
-tell-requires-clause-old c =
-    let here = (goal.at.tell-requires-clause-old c).After-index-row in
-    let loop = (goal.at.tell-requires-clause-old c).In-loop-class in
-    old_in (side_frame c.args.side.now) (side_lists c.args.side.now) c.args.side.now.player c.args.now c.args.point c.loop-class.class c.requires.point
-    c.requires.own (at_class loop (round here)) c.loop-class.answer c.loop-class.invariant.answer
-    (c.index-row.result.now.cell + c.loop-class.class - 1) (at_cell loop (row here)) c.index-old.result.now c.index-old.ensures
-
-pub tell-requires-clause-new : goal.tell-requires-clause-new
-tell-requires-clause-new c =
-    let here = (goal.at.tell-requires-clause-new c).After-index-row in
-    right_in (goal.at.tell-requires-clause-new c).After-right_move-new (row here).point
-    (at_class (goal.at.tell-requires-clause-new c).In-loop-class (round here))
-
 pub loop-class-init : goal.loop-class-init
 loop-class-init c =
     let f = side_frame c.args.side.now in
     let lists = side_lists c.args.side.now in
     renewing_none f lists c.args.side.now.player c.args.point c.args.now (moves_of f lists c.args.picks.now) c.args.answer.now c.args.tally.now
-    c.requires.answer c.requires.room
+    c.requires.renewable.answer c.requires.renewable.room
 
 pub loop-class-preserved : goal.loop-class-preserved
 loop-class-preserved c =
@@ -151,7 +119,7 @@ loop-class-preserved c =
     let class = at_class loop (round here) in
     let w = form_walked s.form.now s.player s.some s.two in
     let right = right (goal.at.loop-class-preserved c).After-right_move-new (row here).point in
-    let read = old_read f lists s.player c.args.now q n c.requires.point c.requires.own class c.loop-class.answer c.loop-class.invariant.answer
+    let read = old_read f lists s.player c.args.now q n c.requires.point c.requires.own class c.loop-class.answer c.loop-class.invariant.renewed.answer
     (c.index-row.result.now.cell + n - 1) (at_cell loop (row here)) c.index-old.result.now c.index-old.ensures in
     let Next : Answer → Tally → Type 0 = λ a t. IsRenewing f lists s.player q (n + 1) c.args.now move c.args.answer.now a c.args.tally.now t in
     elim c.if-old-new.branch [
@@ -159,10 +127,16 @@ loop-class-preserved c =
           subst (λ a. Next a c.if-old-new.tally) (sym o.answer-is) (subst (Next o.turn.new.answer) (sym o.tally-is)
           (renewing_more f (form_in_range s.form.now) lists (form_classes s.form.now) s.player w q n c.args.now c.requires.point c.requires.own class move
           c.args.answer.now c.loop-class.answer c.args.tally.now c.loop-class.tally c.loop-class.invariant c.right_move-new.result right o.turn.new.answer
-          o.tell.new.tally o.turn.ensures.answer o.turn.ensures.here o.turn.ensures.turned o.turn.ensures.elsewhere o.turn.ensures.plan o.tell.ensures.room
-          o.tell.ensures.moved o.tell.ensures.picks
-          (o.tell.ensures.told (moves_of f lists c.loop-class.answer.taken.items) (moves_of f lists o.turn.new.answer.taken.items)
-          (record { before = read; here = o.turn.ensures.here; elsewhere = o.turn.ensures.elsewhere.taken }))))
+          o.tell.new.tally o.turn.ensures.here o.turn.ensures.turned o.turn.ensures.elsewhere
+          (record {
+            answer = o.turn.ensures.answer;
+            plan = o.turn.ensures.plan;
+            room = o.tell.ensures.room;
+            moved = o.tell.ensures.moved;
+            picks = o.tell.ensures.picks;
+            told = o.tell.ensures.told (moves_of f lists c.loop-class.answer.taken.items) (moves_of f lists o.turn.new.answer.taken.items)
+                (record { before = read; here = o.turn.ensures.here; elsewhere = o.turn.ensures.elsewhere.taken });
+          })))
       | else-old-new o ↦
           subst (λ a. Next a c.if-old-new.tally) (sym o.answer-is) (subst (Next c.loop-class.answer) (sym o.tally-is)
           (renewing_same f (form_in_range s.form.now) lists (form_classes s.form.now) s.player w q n c.args.now c.requires.point c.requires.own class move
@@ -170,62 +144,56 @@ loop-class-preserved c =
           (read ∙ o.if-old-new.false)))
     ]
 
-pub returns-clause-right : goal.returns-clause-right
-returns-clause-right c =
-    let here = (goal.at.returns-clause-right c).After-index-row in
-    λ e le. c.loop-class.invariant.right e le
-    (omega (arith, le.1, c.loop-class-test.false, c.class_total-class-end.ensures.value, ap (class_count (side_lists c.args.side.now)) (round here)))
-
 pub turn-requires-clause-answer : goal.turn-requires-clause-answer
-turn-requires-clause-answer c = grind arith
-
-pub tell-requires-clause-room : goal.tell-requires-clause-room
-tell-requires-clause-room c = c.loop-class.invariant.room
-
-pub returns-clause-answer : goal.returns-clause-answer
-returns-clause-answer c = grind arith
-
-pub returns-clause-turned : goal.returns-clause-turned
-returns-clause-turned c = grind arith
-
-pub returns-clause-room : goal.returns-clause-room
-returns-clause-room c = grind arith
-
-pub returns-clause-plan : goal.returns-clause-plan
-returns-clause-plan c = grind arith
-
-pub right_move-new-requires-clause-picks : goal.right_move-new-requires-clause-picks
-right_move-new-requires-clause-picks c = c.requires.long
-
-pub tell-requires-clause-point : goal.tell-requires-clause-point
-tell-requires-clause-point c = c.requires.point
+turn-requires-clause-answer c = c.loop-class.invariant.renewed.answer
 
 pub turn-requires-clause-point : goal.turn-requires-clause-point
 turn-requires-clause-point c = c.requires.point
 
-pub right_move-new-requires-clause-taken : goal.right_move-new-requires-clause-taken
-right_move-new-requires-clause-taken c = omega arith
+pub right_move-new-requires : goal.right_move-new-requires
+right_move-new-requires c = record {
+  row = (row (goal.at.right_move-new-requires c).After-index-row).known;
+  gate = let r = row (goal.at.right_move-new-requires c).After-index-row in
+      subst (λ i. IsGate (side_frame c.args.side.now) i c.gate_of-gate.result) (sym r.point) c.gate_of-gate.ensures;
+  class = let s = c.args.side.now in
+      let at = goal.at.right_move-new-requires c in
+      subst (λ i. IsClass (side_lists s) (round_of (side_frame s) (at_point i)) c.loop-class.class) (sym (row at.After-index-row).point)
+      (at_class at.In-loop-class (round at.After-index-row));
+  taken = omega arith;
+  picks = c.requires.renewable.long;
+}
 
 pub index-row-requires : goal.index-row-requires
 index-row-requires c = omega arith
 
-pub tell-requires-clause-own : goal.tell-requires-clause-own
-tell-requires-clause-own c = omega arith
-
-pub returns-clause-told : goal.returns-clause-told
-returns-clause-told c = grind arith
-
-pub tell-requires-clause-apart : goal.tell-requires-clause-apart
-tell-requires-clause-apart c = grind arith
-
-pub returns-clause-picks : goal.returns-clause-picks
-returns-clause-picks c = grind arith
-
-pub returns-clause-moved : goal.returns-clause-moved
-returns-clause-moved c = grind arith
+pub tell-requires : goal.tell-requires
+tell-requires c = record {
+  point = c.requires.point;
+  own = omega arith;
+  class = at_class (goal.at.tell-requires c).In-loop-class (round (goal.at.tell-requires c).After-index-row);
+  old = let here = (goal.at.tell-requires c).After-index-row in
+      let loop = (goal.at.tell-requires c).In-loop-class in
+      old_in (side_frame c.args.side.now) (side_lists c.args.side.now) c.args.side.now.player c.args.now c.args.point c.loop-class.class c.requires.point
+      c.requires.own (at_class loop (round here)) c.loop-class.answer c.loop-class.invariant.renewed.answer
+      (c.index-row.result.now.cell + c.loop-class.class - 1) (at_cell loop (row here)) c.index-old.result.now c.index-old.ensures;
+  new = let here = (goal.at.tell-requires c).After-index-row in
+      right_in (goal.at.tell-requires c).After-right_move-new (row here).point
+      (at_class (goal.at.tell-requires c).In-loop-class (round here));
+  apart = grind arith;
+  room = c.loop-class.invariant.renewed.room;
+}
 
 pub turn-requires-clause-own : goal.turn-requires-clause-own
 turn-requires-clause-own c = omega arith
 
 pub overflow_sub-cell : goal.overflow_sub-cell
 overflow_sub-cell c = grind arith
+
+pub returns : goal.returns
+returns c = record {
+  renewed = c.loop-class.invariant.renewed;
+  right = let here = (goal.at.returns c).After-index-row in
+      λ e le. c.loop-class.invariant.right e le
+      (omega (arith, le.1, c.loop-class-test.false, c.class_total-class-end.ensures.value, ap (class_count (side_lists c.args.side.now)) (round here)));
+  turned = c.loop-class.invariant.turned;
+}

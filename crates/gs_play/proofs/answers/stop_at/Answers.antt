@@ -38,31 +38,27 @@ loop-class-preserved c =
           done.plan;
     }
 
-pub returns-clause-none : goal.returns-clause-none
-returns-clause-none c = λ d ld. c.loop-class.invariant.none d ld
-    (omega (
-      arith,
-      ld.1,
-      c.loop-class-test.false,
-      c.class_total-class-end.ensures.value,
-      ap (class_count (side_lists c.args.side.now))
-          c.round_at.ensures.value,
-    ))
-
 pub turn-requires-clause-answer : goal.turn-requires-clause-answer
 turn-requires-clause-answer c = grind arith
 
 pub loop-class-init : goal.loop-class-init
 loop-class-init c = grind arith
 
-pub returns-clause-answer : goal.returns-clause-answer
-returns-clause-answer c = grind arith
-
-pub returns-clause-elsewhere : goal.returns-clause-elsewhere
-returns-clause-elsewhere c = c.loop-class.invariant.elsewhere
-
-pub returns-clause-plan : goal.returns-clause-plan
-returns-clause-plan c = c.loop-class.invariant.plan
+pub returns : goal.returns
+returns c = record {
+  answer = grind arith;
+  none = λ d ld. c.loop-class.invariant.none d ld
+      (omega (
+        arith,
+        ld.1,
+        c.loop-class-test.false,
+        c.class_total-class-end.ensures.value,
+        ap (class_count (side_lists c.args.side.now))
+            c.round_at.ensures.value,
+      ));
+  elsewhere = c.loop-class.invariant.elsewhere;
+  plan = c.loop-class.invariant.plan;
+}
 
 pub turn-requires-clause-point : goal.turn-requires-clause-point
 turn-requires-clause-point c = grind arith

@@ -30,14 +30,6 @@ class_total-class-end-requires-clause-top c = omega (
   (form_walked c.args.side.now.form.now 1 (omega arith) (omega arith)).point_in c.args.point c.requires.point,
 )
 
-pub is_reached-requires-clause-row : goal.is_reached-requires-clause-row
-is_reached-requires-clause-row c = (row (goal.at.is_reached-requires-clause-row c).After-index-row).known
-
-pub is_reached-requires-clause-gate : goal.is_reached-requires-clause-gate
-is_reached-requires-clause-gate c =
-    let r = row (goal.at.is_reached-requires-clause-gate c).After-index-row in
-    subst (λ i. IsGate (side_frame c.args.side.now) i c.gate_of-gate.result) (sym r.point) c.gate_of-gate.ensures
-
 -- the class of the turn is one of the point
 class : (c : In-loop-class) → c.index-row.result.now.round ≡ round_of (side_frame c.args.side.now) (at_point c.args.point)
     → IsClass (side_lists c.args.side.now) (round_of (side_frame c.args.side.now) (at_point c.args.point)) c.loop-class.class
@@ -45,13 +37,6 @@ class c r = (
   omega (arith, c.loop-class.auto.class),
   omega (arith, c.loop-class-test.true, c.class_total-class-end.ensures.value, ap (class_count (side_lists c.args.side.now)) r),
 )
-
-pub is_reached-requires-clause-class : goal.is_reached-requires-clause-class
-is_reached-requires-clause-class c =
-    let s = c.args.side.now in
-    let at = goal.at.is_reached-requires-clause-class c in
-    subst (λ i. IsClass (side_lists s) (round_of (side_frame s) (at_point i)) c.loop-class.class) (sym (row at.After-index-row).point)
-    (class at.In-loop-class (round at.After-index-row))
 
 -- its cell
 cell : (c : In-loop-class) → IsRowAt (side_frame c.args.side.now) (side_lists c.args.side.now) c.args.point c.index-row.result.now
@@ -100,24 +85,33 @@ loop-class-preserved c =
           (λ h. absurd (let t : false ≡ true = sym b.if-is_reached.false ∙ test.1 h in cc)))
     ]
 
-pub returns-clause-first : goal.returns-clause-first
-returns-clause-first c = λ e le. c.loop-class.invariant.first e le
-    (omega (
-      arith,
-      le.1,
-      c.loop-class-test.false,
-      c.class_total-class-end.ensures.value,
-      ap (class_count (side_lists c.args.side.now)) (round (goal.at.returns-clause-first c).After-index-row),
-    ))
-
-pub returns-clause-elsewhere : goal.returns-clause-elsewhere
-returns-clause-elsewhere c = c.loop-class.invariant.elsewhere
+pub returns : goal.returns
+returns c = record {
+  first = λ e le. c.loop-class.invariant.first e le
+      (omega (
+        arith,
+        le.1,
+        c.loop-class-test.false,
+        c.class_total-class-end.ensures.value,
+        ap (class_count (side_lists c.args.side.now)) (round (goal.at.returns c).After-index-row),
+      ));
+  elsewhere = c.loop-class.invariant.elsewhere;
+}
 
 pub loop-class-init : goal.loop-class-init
 loop-class-init c = grind arith
 
-pub is_reached-requires-clause-long : goal.is_reached-requires-clause-long
-is_reached-requires-clause-long c = omega arith
+pub is_reached-requires : goal.is_reached-requires
+is_reached-requires c = record {
+  row = (row (goal.at.is_reached-requires c).After-index-row).known;
+  gate = let r = row (goal.at.is_reached-requires c).After-index-row in
+      subst (λ i. IsGate (side_frame c.args.side.now) i c.gate_of-gate.result) (sym r.point) c.gate_of-gate.ensures;
+  class = let s = c.args.side.now in
+      let at = goal.at.is_reached-requires c in
+      subst (λ i. IsClass (side_lists s) (round_of (side_frame s) (at_point i)) c.loop-class.class) (sym (row at.After-index-row).point)
+      (class at.In-loop-class (round at.After-index-row));
+  long = omega arith;
+}
 
 pub overflow_sub-taken : goal.overflow_sub-taken
 overflow_sub-taken c = grind arith

@@ -13,38 +13,6 @@ back s = form_walked s.form.now (other_player (other_player s.player)) (omega (a
 few : (s : Side) (q n : ℕ) → q < point_count (side_frame s) → 255 ≤ n → move_count (side_frame s) q ≤ n
 few s q n lq none = (let m = (form_moves s.form.now q lq).few in omega (arith, m, none))
 
-pub returns-then-old-eq-NONE-clause-told : goal.returns-then-old-eq-NONE-clause-told
-returns-then-old-eq-NONE-clause-told c = λ from to h pays tally.
-    let s = c.args.side.now in
-    let f = side_frame s in
-    let lists = side_lists s in
-    let o = other_player s.player in
-    c.push.ensures.pushed pays (end_sum f lists o (taken_plan from)) (end_sum f lists o (taken_plan to))
-    (told_only_on f (form_in_range s.form.now) lists (form_classes s.form.now) o (back s) c.args.point c.args.class c.args.old c.args.new from to h
-    (few s c.args.point c.args.old c.requires.point (omega (arith, c.if-old-eq-NONE.true)))) tally
-
-pub returns-then-new-ne-NONE-clause-told : goal.returns-then-new-ne-NONE-clause-told
-returns-then-new-ne-NONE-clause-told c = λ from to h pays tally.
-    let s = c.args.side.now in
-    let f = side_frame s in
-    let lists = side_lists s in
-    let o = other_player s.player in
-    let without = plan_without c.args.point c.args.class from in
-    c.push-then-new-ne-NONE.ensures.pushed pays (end_sum f lists o without) (end_sum f lists o (taken_plan to))
-    (told_on f (form_in_range s.form.now) lists (form_classes s.form.now) o (back s) c.args.point c.args.class c.args.old c.args.new from to h)
-    (c.push-2.ensures.pushed pays (end_sum f lists o (taken_plan from)) (end_sum f lists o without)
-    (told_off f (form_in_range s.form.now) lists (form_classes s.form.now) o (back s) c.args.point c.args.class c.args.old c.args.new from to h) tally)
-
-pub returns-else-new-ne-NONE-clause-told : goal.returns-else-new-ne-NONE-clause-told
-returns-else-new-ne-NONE-clause-told c = λ from to h pays tally.
-    let s = c.args.side.now in
-    let f = side_frame s in
-    let lists = side_lists s in
-    let o = other_player s.player in
-    c.push-2.ensures.pushed pays (end_sum f lists o (taken_plan from)) (end_sum f lists o (taken_plan to))
-    (told_only_off f (form_in_range s.form.now) lists (form_classes s.form.now) o (back s) c.args.point c.args.class c.args.old c.args.new from to h
-    (few s c.args.point c.args.new c.requires.point (omega (arith, c.if-new-ne-NONE.false)))) tally
-
 pub invariant_of-other : goal.invariant_of-other
 invariant_of-other c = grind arith
 
@@ -53,15 +21,6 @@ invariant_of-other-2 c = grind arith
 
 pub push-requires-then-new-ne-NONE-clause-room : goal.push-requires-then-new-ne-NONE-clause-room
 push-requires-then-new-ne-NONE-clause-room c = c.push-2.ensures.room
-
-pub returns-then-new-ne-NONE-clause-room : goal.returns-then-new-ne-NONE-clause-room
-returns-then-new-ne-NONE-clause-room c = c.push-then-new-ne-NONE.ensures.room
-
-pub returns-else-new-ne-NONE-clause-room : goal.returns-else-new-ne-NONE-clause-room
-returns-else-new-ne-NONE-clause-room c = c.push-2.ensures.room
-
-pub returns-then-old-eq-NONE-clause-room : goal.returns-then-old-eq-NONE-clause-room
-returns-then-old-eq-NONE-clause-room c = c.push.ensures.room
 
 pub push-requires-clause-room : goal.push-requires-clause-room
 push-requires-clause-room c = c.requires.room
@@ -81,11 +40,22 @@ push-requires-2-clause-choice c = c.requires.old (omega (arith, c.if-old-eq-NONE
 pub push-requires-then-new-ne-NONE-clause-point : goal.push-requires-then-new-ne-NONE-clause-point
 push-requires-then-new-ne-NONE-clause-point c = c.requires.point
 
-pub returns-then-new-ne-NONE-clause-picks : goal.returns-then-new-ne-NONE-clause-picks
-returns-then-new-ne-NONE-clause-picks c = grind arith
-
-pub returns-then-new-ne-NONE-clause-moved : goal.returns-then-new-ne-NONE-clause-moved
-returns-then-new-ne-NONE-clause-moved c = grind arith
+pub returns-then-new-ne-NONE : goal.returns-then-new-ne-NONE
+returns-then-new-ne-NONE c = record {
+  room = c.push-then-new-ne-NONE.ensures.room;
+  moved = grind arith;
+  picks = grind arith;
+  told = λ from to h pays tally.
+      let s = c.args.side.now in
+      let f = side_frame s in
+      let lists = side_lists s in
+      let o = other_player s.player in
+      let without = plan_without c.args.point c.args.class from in
+      c.push-then-new-ne-NONE.ensures.pushed pays (end_sum f lists o without) (end_sum f lists o (taken_plan to))
+      (told_on f (form_in_range s.form.now) lists (form_classes s.form.now) o (back s) c.args.point c.args.class c.args.old c.args.new from to h)
+      (c.push-2.ensures.pushed pays (end_sum f lists o (taken_plan from)) (end_sum f lists o without)
+      (told_off f (form_in_range s.form.now) lists (form_classes s.form.now) o (back s) c.args.point c.args.class c.args.old c.args.new from to h) tally);
+}
 
 pub push-requires-clause-point : goal.push-requires-clause-point
 push-requires-clause-point c = grind arith
@@ -96,17 +66,35 @@ push-requires-2-clause-point c = grind arith
 pub push-requires-then-new-ne-NONE-clause-others : goal.push-requires-then-new-ne-NONE-clause-others
 push-requires-then-new-ne-NONE-clause-others c = omega arith
 
-pub returns-else-new-ne-NONE-clause-picks : goal.returns-else-new-ne-NONE-clause-picks
-returns-else-new-ne-NONE-clause-picks c = grind arith
+pub returns-else-new-ne-NONE : goal.returns-else-new-ne-NONE
+returns-else-new-ne-NONE c = record {
+  room = c.push-2.ensures.room;
+  moved = grind arith;
+  picks = grind arith;
+  told = λ from to h pays tally.
+      let s = c.args.side.now in
+      let f = side_frame s in
+      let lists = side_lists s in
+      let o = other_player s.player in
+      c.push-2.ensures.pushed pays (end_sum f lists o (taken_plan from)) (end_sum f lists o (taken_plan to))
+      (told_only_off f (form_in_range s.form.now) lists (form_classes s.form.now) o (back s) c.args.point c.args.class c.args.old c.args.new from to h
+      (few s c.args.point c.args.new c.requires.point (omega (arith, c.if-new-ne-NONE.false)))) tally;
+}
 
-pub returns-else-new-ne-NONE-clause-moved : goal.returns-else-new-ne-NONE-clause-moved
-returns-else-new-ne-NONE-clause-moved c = grind arith
-
-pub returns-then-old-eq-NONE-clause-picks : goal.returns-then-old-eq-NONE-clause-picks
-returns-then-old-eq-NONE-clause-picks c = grind arith
-
-pub returns-then-old-eq-NONE-clause-moved : goal.returns-then-old-eq-NONE-clause-moved
-returns-then-old-eq-NONE-clause-moved c = grind arith
+pub returns-then-old-eq-NONE : goal.returns-then-old-eq-NONE
+returns-then-old-eq-NONE c = record {
+  room = c.push.ensures.room;
+  moved = grind arith;
+  picks = grind arith;
+  told = λ from to h pays tally.
+      let s = c.args.side.now in
+      let f = side_frame s in
+      let lists = side_lists s in
+      let o = other_player s.player in
+      c.push.ensures.pushed pays (end_sum f lists o (taken_plan from)) (end_sum f lists o (taken_plan to))
+      (told_only_on f (form_in_range s.form.now) lists (form_classes s.form.now) o (back s) c.args.point c.args.class c.args.old c.args.new from to h
+      (few s c.args.point c.args.old c.requires.point (omega (arith, c.if-old-eq-NONE.true)))) tally;
+}
 
 pub push-requires-clause-others : goal.push-requires-clause-others
 push-requires-clause-others c = grind arith

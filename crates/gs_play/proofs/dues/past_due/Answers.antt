@@ -1,11 +1,9 @@
+use Rattle.std.proofs.lemmas.Grind.{common_steps}
 use Rattle.std.proofs.Common.{arith}
 use Rattle.gs_play.proofs.dues.past_due.Goals as goal
 
-pub returns-then-turns-place-clause-behind : goal.returns-then-turns-place-clause-behind
-returns-then-turns-place-clause-behind c = grind arith
-
-pub returns-then-turns-place-clause-due : goal.returns-then-turns-place-clause-due
-returns-then-turns-place-clause-due c = grind arith
+pub returns-then-turns-place : goal.returns-then-turns-place
+returns-then-turns-place c = grind (arith, common_steps)
 
 pub returns-clause-behind : goal.returns-clause-behind
 returns-clause-behind c = grind arith

@@ -34,13 +34,6 @@ ahead_fits c = record { at = search rules; slope = search rules }
 other_fits : (c : After-value-2) → Fits c.args.other
 other_fits c = record { at = search rules; slope = search rules }
 
-pub behind-gap-requires-clause-gap : goal.behind-gap-requires-clause-gap
-behind-gap-requires-clause-gap c =
-    let at = (goal.at.behind-gap-requires-clause-gap c).After-value-2 in
-    subst (λ x. unsigned_abs (x -ℤ to_z w128 (of_z w128 c.value-2.result)) < 2 ^ 120) (sym (value_is at))
-    (subst (λ x. unsigned_abs (value_in c.args.ahead c.args.now -ℤ x) < 2 ^ 120) (sym (worth_is at))
-    (gap_small c.args.ahead c.args.other c.args.now (ahead_fits at) (other_fits at) (omega (arith, c.requires.order, c.requires.few))))
-
 pub returns-clause-stays : goal.returns-clause-stays
 returns-clause-stays c =
     let at = (goal.at.returns-clause-stays c).After-value-2 in
@@ -62,11 +55,15 @@ returns-clause-greatest c =
     (behind_by c.args.before a.at a.slope o.at o.slope c.args.now (c.behind-gap.result + 1)
     (λ n lo hi. h n lo (omega (arith, hi)))))
 
-pub behind-gap-requires-clause-ahead : goal.behind-gap-requires-clause-ahead
-behind-gap-requires-clause-ahead c = grind arith
-
 pub returns-clause-some : goal.returns-clause-some
 returns-clause-some c = grind arith
 
-pub behind-gap-requires-clause-gain : goal.behind-gap-requires-clause-gain
-behind-gap-requires-clause-gain c = grind (arith, common_steps)
+pub behind-gap-requires : goal.behind-gap-requires
+behind-gap-requires c = record {
+  ahead = grind arith;
+  gap = let at = (goal.at.behind-gap-requires c).After-value-2 in
+      subst (λ x. unsigned_abs (x -ℤ to_z w128 (of_z w128 c.value-2.result)) < 2 ^ 120) (sym (value_is at))
+      (subst (λ x. unsigned_abs (value_in c.args.ahead c.args.now -ℤ x) < 2 ^ 120) (sym (worth_is at))
+      (gap_small c.args.ahead c.args.other c.args.now (ahead_fits at) (other_fits at) (omega (arith, c.requires.order, c.requires.few))));
+  gain = grind (arith, common_steps);
+}

@@ -33,19 +33,19 @@ loop-class-preserved c =
           (subst (λ o. IsAbove f lists o q n x) (sym is) c.cell_above.ensures) (done.above steps is all));
     }
 
-pub returns-clause-long : goal.returns-clause-long
-returns-clause-long c = omega (
-  arith,
-  c.loop-class.invariant.long,
-  starts_more (abstract_frame c.args.form.now) (lists_of c.args.form.now) c.args.point,
-  c.loop-class-test.false,
-  c.loop-class.auto.class,
-  c.class_total-class-end.ensures.value,
-  ap (class_count (lists_of c.args.form.now)) c.round_at.ensures.value,
-)
-
-pub returns-clause-above : goal.returns-clause-above
-returns-clause-above c = λ steps is all. c.loop-class.invariant.above steps is all
+pub returns : goal.returns
+returns c = record {
+  long = omega (
+    arith,
+    c.loop-class.invariant.long,
+    starts_more (abstract_frame c.args.form.now) (lists_of c.args.form.now) c.args.point,
+    c.loop-class-test.false,
+    c.loop-class.auto.class,
+    c.class_total-class-end.ensures.value,
+    ap (class_count (lists_of c.args.form.now)) c.round_at.ensures.value,
+  );
+  above = λ steps is all. c.loop-class.invariant.above steps is all;
+}
 
 pub cell_above-requires-clause-step : goal.cell_above-requires-clause-step
 cell_above-requires-clause-step c = c.requires.step

@@ -6,7 +6,7 @@ use Rattle.gs_seq.specs.Abstracts.{abstract_frame, lists_of}
 use Rattle.gs_seq.proofs.Forms.{form_walked}
 use Rattle.gs_best.specs.ClassTotals.{earlier_class}
 use Rattle.gs_best.proofs.PointStarts.{place_before, starts_few}
-use Rattle.gs_play.specs.{Plots.{cell_above, cell_place, row_in}, declared.plot.Row.{Row}}
+use Rattle.gs_play.specs.{Plots.{cell_above, cell_place, row_in}, declared.plot.PointRow.{PointRow}}
 use Rattle.gs_play.proofs.{PlotRows.{IsRowAt, row_cell, row_round}, plot.cell_above.Goals.{After-class_above-above, In-Some}}
 use Rattle.gs_play.proofs.plot.cell_above.Goals as goal
 
@@ -19,7 +19,7 @@ pub bounds-rows-step : goal.bounds-rows-step
 bounds-rows-step c = (let m = made (goal.at.bounds-rows-step c).In-Some in omega (arith, m.0, c.requires.long_rows))
 
 -- its row
-abbrev row_here : In-Some → Row
+abbrev row_here : In-Some → PointRow
 row_here c = row_in c.args.rows.now c.in-Some.step.point
 
 row : (c : In-Some) → IsRowAt (abstract_frame c.args.form.now) (lists_of c.args.form.now) c.in-Some.step.point (row_here c)
@@ -50,7 +50,7 @@ pub class_above-above-requires-clause-class : goal.class_above-above-requires-cl
 class_above-above-requires-clause-class c = subst (λ i. IsClass (lists_of c.args.form.now) i c.args.class) (sym c.round_at.ensures.value) c.requires.class
 
 -- the cell of the class above is one of the game
-inside : (c : After-class_above-above) → (here : Row) → IsRowAt (abstract_frame c.args.form.now) (lists_of c.args.form.now) c.in-Some.step.point here
+inside : (c : After-class_above-above) → (here : PointRow) → IsRowAt (abstract_frame c.args.form.now) (lists_of c.args.form.now) c.in-Some.step.point here
     → IsClass (lists_of c.args.form.now) here.round c.class_above-above.result → c.in-Some.step.point < point_count (abstract_frame c.args.form.now)
     → (0 < c.class_above-above.result) × (here.cell + (c.class_above-above.result - 1) < 2 ^ 31)
 inside c here r lc l =

@@ -24,14 +24,13 @@ loop-point-preserved c =
           c.loop-point.invariant.cells);
     }
 
-pub returns-clause-long : goal.returns-clause-long
-returns-clause-long c =
-    let f = abstract_frame c.args.form.now in
-    let all : c.loop-point.point ≡ point_count f = omega (arith, c.loop-point-test.false, c.loop-point.auto.point-end, c.point_total-point-end.ensures) in
-    c.loop-point.invariant.long ∙ ap (start_of f (lists_of c.args.form.now)) all
-
-pub returns-clause-cells : goal.returns-clause-cells
-returns-clause-cells c = grind arith
+pub returns : goal.returns
+returns c = record {
+  long = let f = abstract_frame c.args.form.now in
+      let all : c.loop-point.point ≡ point_count f = omega (arith, c.loop-point-test.false, c.loop-point.auto.point-end, c.point_total-point-end.ensures) in
+      c.loop-point.invariant.long ∙ ap (start_of f (lists_of c.args.form.now)) all;
+  cells = grind arith;
+}
 
 pub class_total-requires-clause-top : goal.class_total-requires-clause-top
 class_total-requires-clause-top c = omega arith

@@ -10,10 +10,6 @@ loop-point-init c =
     let none = ap (λ (l : List ℕ). length l) c.new-gates.ensures.items in
     record { long = none; above = λ q e lq le l. absurd (omega (arith, l, none)) }
 
-pub add_above-requires-clause-step : goal.add_above-requires-clause-step
-add_above-requires-clause-step c = gate_before c.args.form.now c.loop-point.point (omega (arith, c.loop-point-test.true, c.point_total-point-end.ensures))
-    c.gate_of.result c.gate_of.ensures
-
 pub loop-point-preserved : goal.loop-point-preserved
 loop-point-preserved c =
     let f = abstract_frame c.args.form.now in
@@ -28,14 +24,12 @@ returns c =
     let all : c.loop-point.point ≡ point_count f = omega (arith, c.loop-point-test.false, c.loop-point.auto.point-end, c.point_total-point-end.ensures) in
     record { long = c.loop-point.invariant.long ∙ ap (start_of f (lists_of c.args.form.now)) all; above = c.loop-point.invariant.above }
 
-pub add_above-requires-clause-rows : goal.add_above-requires-clause-rows
-add_above-requires-clause-rows c = grind arith
-
-pub add_above-requires-clause-long : goal.add_above-requires-clause-long
-add_above-requires-clause-long c = omega arith
-
-pub add_above-requires-clause-point : goal.add_above-requires-clause-point
-add_above-requires-clause-point c = grind arith
-
-pub add_above-requires-clause-long_rows : goal.add_above-requires-clause-long_rows
-add_above-requires-clause-long_rows c = omega arith
+pub add_above-requires : goal.add_above-requires
+add_above-requires c = record {
+  long_rows = omega arith;
+  rows = grind arith;
+  point = grind arith;
+  step = gate_before c.args.form.now c.loop-point.point (omega (arith, c.loop-point-test.true, c.point_total-point-end.ensures))
+      c.gate_of.result c.gate_of.ensures;
+  long = omega arith;
+}

@@ -4,7 +4,7 @@ use Rattle.gs_seq.specs.Abstracts.{abstract_frame, lists_of}
 use Rattle.gs_seq.proofs.Forms.{form_walked}
 use Rattle.gs_best.specs.Tables.{classes_at, start_of}
 use Rattle.gs_best.proofs.{Placed.{row_next}, PointStarts.{starts_few}}
-use Rattle.gs_play.specs.{Plots.{AreRowsBefore, worth_start}, declared.plot.Row.{Row}}
+use Rattle.gs_play.specs.{Plots.{AreRowsBefore, worth_start}, declared.plot.PointRow.{PointRow}}
 use Rattle.gs_play.proofs.{PlotLaws.{rows_more, worths_few, worths_next}, plot.rows_of.Goals.{After-class_total-classes, After-row_of-row}}
 use Rattle.gs_play.proofs.plot.rows_of.Goals as goal
 
@@ -76,7 +76,7 @@ loop-point-preserved c =
     let rows = c.loop-point.rows.items in
     let q = c.loop-point.point in
     record {
-      many = omega (arith, ap (λ (l : List Row). length l) c.in_ok-push.ensures.items, length_push rows c.row_of-row.result, c.loop-point.invariant.many);
+      many = omega (arith, ap (λ (l : List PointRow). length l) c.in_ok-push.ensures.items, length_push rows c.row_of-row.result, c.loop-point.invariant.many);
       rows = subst (AreRowsBefore f lists (q + 1)) (sym c.in_ok-push.ensures.items)
           (rows_more f lists rows c.row_of-row.result q c.loop-point.invariant.many c.row_of-row.ensures.point c.row_of-row.ensures.row
           c.loop-point.invariant.rows);
@@ -84,20 +84,16 @@ loop-point-preserved c =
       worth_is = worth at.After-class_total-classes r;
     }
 
-pub returns-clause-worths : goal.returns-clause-worths
-returns-clause-worths c =
-    let f = abstract_frame c.args.form.now in
-    let all : c.loop-point.point ≡ point_count f = omega (arith, c.loop-point-test.false, c.loop-point.auto.point-end, c.point_total-point-end.ensures) in
-    c.loop-point.invariant.worth_is ∙ ap (worth_start f (lists_of c.args.form.now)) all
-
-pub returns-clause-rows : goal.returns-clause-rows
-returns-clause-rows c =
-    let f = abstract_frame c.args.form.now in
-    let all : c.loop-point.point ≡ point_count f = omega (arith, c.loop-point-test.false, c.loop-point.auto.point-end, c.point_total-point-end.ensures) in
-    subst (λ n. AreRowsBefore f (lists_of c.args.form.now) n c.loop-point.rows.items) all c.loop-point.invariant.rows
-
-pub returns-clause-many : goal.returns-clause-many
-returns-clause-many c = omega arith
+pub returns : goal.returns
+returns c = record {
+  many = omega arith;
+  rows = let f = abstract_frame c.args.form.now in
+      let all : c.loop-point.point ≡ point_count f = omega (arith, c.loop-point-test.false, c.loop-point.auto.point-end, c.point_total-point-end.ensures) in
+      subst (λ n. AreRowsBefore f (lists_of c.args.form.now) n c.loop-point.rows.items) all c.loop-point.invariant.rows;
+  worths = let f = abstract_frame c.args.form.now in
+      let all : c.loop-point.point ≡ point_count f = omega (arith, c.loop-point-test.false, c.loop-point.auto.point-end, c.point_total-point-end.ensures) in
+      c.loop-point.invariant.worth_is ∙ ap (worth_start f (lists_of c.args.form.now)) all;
+}
 
 pub row_of-row-requires-clause-point : goal.row_of-row-requires-clause-point
 row_of-row-requires-clause-point c = grind arith

@@ -33,20 +33,17 @@ returns-in_default-clause-here c = has_none (abstract_frame c.args.form.now) c.a
     (last_is c.args.form.now c.args.player c.args.end c.game.result.now c.end_step.result c.game.ensures c.end_step.ensures
     ∙ ap (option_map step_of) c.in_default.is)
 
-pub returns-in-Some-clause-spans : goal.returns-in-Some-clause-spans
-returns-in-Some-clause-spans c = widened_spans c.args.spans.now c.in-Some.step.point _ c.min-span.result c.max-span.result c.args.end
-    (inside (goal.at.returns-in-Some-clause-spans c).In-Some) c.min-span.ensures c.max-span.ensures (abstract_frame c.args.form.now)
-    c.requires.end c.requires.spans
-
-pub returns-in-Some-clause-here : goal.returns-in-Some-clause-here
-returns-in-Some-clause-here c =
-    let at = (goal.at.returns-in-Some-clause-here c).In-Some in
-    widened_here c.args.spans.now c.in-Some.step.point _ c.min-span.result c.max-span.result c.args.end (inside at) c.min-span.ensures c.max-span.ensures
-    (abstract_frame c.args.form.now) c.args.player c.in-Some.step (made at) refl
-
-pub returns-in-Some-clause-wider : goal.returns-in-Some-clause-wider
-returns-in-Some-clause-wider c = widened_wider c.args.spans.now c.in-Some.step.point _ c.min-span.result c.max-span.result c.args.end
-    (inside (goal.at.returns-in-Some-clause-wider c).In-Some) c.min-span.ensures c.max-span.ensures
+pub returns-in-Some : goal.returns-in-Some
+returns-in-Some c = record {
+  spans = widened_spans c.args.spans.now c.in-Some.step.point _ c.min-span.result c.max-span.result c.args.end
+      (inside (goal.at.returns-in-Some c).In-Some) c.min-span.ensures c.max-span.ensures (abstract_frame c.args.form.now)
+      c.requires.end c.requires.spans;
+  here = let at = (goal.at.returns-in-Some c).In-Some in
+      widened_here c.args.spans.now c.in-Some.step.point _ c.min-span.result c.max-span.result c.args.end (inside at) c.min-span.ensures c.max-span.ensures
+      (abstract_frame c.args.form.now) c.args.player c.in-Some.step (made at) refl;
+  wider = widened_wider c.args.spans.now c.in-Some.step.point _ c.min-span.result c.max-span.result c.args.end
+      (inside (goal.at.returns-in-Some c).In-Some) c.min-span.ensures c.max-span.ensures;
+}
 
 pub returns-in_default-clause-spans : goal.returns-in_default-clause-spans
 returns-in_default-clause-spans c = grind arith

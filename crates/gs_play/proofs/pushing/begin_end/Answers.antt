@@ -1,3 +1,4 @@
+use Rattle.std.proofs.lemmas.Grind.{common_steps}
 use Rattle.std.proofs.{Common.{◌≡◌, ◌-◌, ◌<◌, ◌^◌, ℕ, get_or, of_z, to_z, to_z-of_z, refl, ap, ◌∙◌, sym, subst, arith}, lemmas.Int.{fits_signed_from_abs}}
 use Rattle.std.specs.{Prelude.{ℤ, pos, unsigned_abs}, Int.RustNames.{FitsSigned}}
 use mir.Syntax.{w128, w64}
@@ -73,25 +74,8 @@ loop-class-preserved c =
           (c.loop-class.invariant.begun pays rise h));
     }
 
-pub returns-clause-begun : goal.returns-clause-begun
-returns-clause-begun c =
-    let side = c.args.side.now in
-    let all : class_count (side_lists side) (round_of (side_frame side) (at_end c.args.end)) < c.loop-class.class =
-    omega (
-      arith,
-      c.loop-class-test.false,
-      c.class_total-class-end.ensures.value,
-      ap (class_count (side_lists side)) (round (goal.at.returns-clause-begun c).In-Some),
-    ) in
-    λ pays rise h.
-    below_all (side_frame side) (side_lists side) side.player (walked side) pays rise 0 c.args.end (λ k. get_or c.args.sums.now (k - 1) (pos 0))
-    c.loop-class.tally c.loop-class.class all (c.loop-class.invariant.begun pays rise h)
-
-pub turn_end-requires-clause-room : goal.turn_end-requires-clause-room
-turn_end-requires-clause-room c = c.loop-class.invariant.room
-
-pub returns-clause-room : goal.returns-clause-room
-returns-clause-room c = c.loop-class.invariant.room
+pub turn_end-requires : goal.turn_end-requires
+turn_end-requires c = grind (arith, common_steps)
 
 pub overflow_cast-more-in-loop-class : goal.overflow_cast-more-in-loop-class
 overflow_cast-more-in-loop-class c =
@@ -113,17 +97,23 @@ bounds-sums-class c = grind arith
 pub returns-in_default-clause-room : goal.returns-in_default-clause-room
 returns-in_default-clause-room c = c.requires.room
 
-pub turn_end-requires-clause-way : goal.turn_end-requires-clause-way
-turn_end-requires-clause-way c = c.in-Some.ensures.way
-
-pub turn_end-requires-clause-class : goal.turn_end-requires-clause-class
-turn_end-requires-clause-class c = grind arith
-
-pub returns-clause-picks : goal.returns-clause-picks
-returns-clause-picks c = grind arith
-
-pub returns-clause-moved : goal.returns-clause-moved
-returns-clause-moved c = grind arith
+pub returns : goal.returns
+returns c = record {
+  room = c.loop-class.invariant.room;
+  moved = grind arith;
+  picks = grind arith;
+  begun = let side = c.args.side.now in
+      let all : class_count (side_lists side) (round_of (side_frame side) (at_end c.args.end)) < c.loop-class.class =
+      omega (
+        arith,
+        c.loop-class-test.false,
+        c.class_total-class-end.ensures.value,
+        ap (class_count (side_lists side)) (round (goal.at.returns c).In-Some),
+      ) in
+      λ pays rise h.
+      below_all (side_frame side) (side_lists side) side.player (walked side) pays rise 0 c.args.end (λ k. get_or c.args.sums.now (k - 1) (pos 0))
+      c.loop-class.tally c.loop-class.class all (c.loop-class.invariant.begun pays rise h);
+}
 
 pub offset_bounds-sums-class : goal.offset_bounds-sums-class
 offset_bounds-sums-class c = grind arith

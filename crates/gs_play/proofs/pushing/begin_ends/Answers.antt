@@ -61,30 +61,6 @@ end_sums-requires-clause-room c =
     let l = inside (goal.at.end_sums-requires-clause-room c).In-loop-end in
     omega (arith, c.requires.sums (round_of (side_frame c.args.side.now) (at_end z)) (w.end_round z l) (w.end_in z l), c.loop-end.auto.sums)
 
-pub begin_end-requires-clause-long : goal.begin_end-requires-clause-long
-begin_end-requires-clause-long c =
-    let w = walked c.args.side.now in
-    let z = c.loop-end.end in
-    let l = inside (goal.at.begin_end-requires-clause-long c).In-loop-end in
-    omega (
-      arith,
-      c.requires.sums (round_of (side_frame c.args.side.now) (at_end z)) (w.end_round z l) (w.end_in z l),
-      c.loop-end.auto.sums,
-      c.end_sums.auto.sums,
-    )
-
-pub begin_end-requires-clause-few : goal.begin_end-requires-clause-few
-begin_end-requires-clause-few c =
-    let side = c.args.side.now in
-    let y = class_plan (side_frame side) (side_lists side) c.args.other.now in
-    let l = inside (goal.at.begin_end-requires-clause-few c).In-loop-end in
-    λ k lk.
-    omega (
-      arith,
-      few side y c.loop-end.end k l c.requires.other.plan.plan c.requires.one,
-      ap unsigned_abs (c.end_sums.ensures.here k lk),
-    )
-
 pub loop-end-preserved : goal.loop-end-preserved
 loop-end-preserved c =
     let side = c.args.side.now in
@@ -114,17 +90,35 @@ returns-clause-begun c =
     (λ z k ge lz lk. absurd (omega (arith, ge, lz, c.loop-end-test.false, c.end_total-end-end.ensures)))
     (c.loop-end.invariant.begun h)
 
-pub begin_end-requires-clause-room : goal.begin_end-requires-clause-room
-begin_end-requires-clause-room c = c.loop-end.invariant.room
-
 pub end_sums-requires-clause-other : goal.end_sums-requires-clause-other
 end_sums-requires-clause-other c = c.requires.other
 
 pub returns-clause-room : goal.returns-clause-room
 returns-clause-room c = c.loop-end.invariant.room
 
-pub begin_end-requires-clause-end : goal.begin_end-requires-clause-end
-begin_end-requires-clause-end c = grind arith
+pub begin_end-requires : goal.begin_end-requires
+begin_end-requires c = record {
+  end = grind arith;
+  long = let w = walked c.args.side.now in
+      let z = c.loop-end.end in
+      let l = inside (goal.at.begin_end-requires c).In-loop-end in
+      omega (
+        arith,
+        c.requires.sums (round_of (side_frame c.args.side.now) (at_end z)) (w.end_round z l) (w.end_in z l),
+        c.loop-end.auto.sums,
+        c.end_sums.auto.sums,
+      );
+  few = let side = c.args.side.now in
+      let y = class_plan (side_frame side) (side_lists side) c.args.other.now in
+      let l = inside (goal.at.begin_end-requires c).In-loop-end in
+      λ k lk.
+      omega (
+        arith,
+        few side y c.loop-end.end k l c.requires.other.plan.plan c.requires.one,
+        ap unsigned_abs (c.end_sums.ensures.here k lk),
+      );
+  room = c.loop-end.invariant.room;
+}
 
 pub end_sums-requires-clause-end : goal.end_sums-requires-clause-end
 end_sums-requires-clause-end c = grind arith

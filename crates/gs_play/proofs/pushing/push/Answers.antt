@@ -130,20 +130,8 @@ push_end-requires-clause-past c =
     (walked side).past_end c.loop-end.end (step_of c.args.change.step) (omega (arith, c.loop-end-test.true, few at.After-index-span))
     (chosen at.After-end_step (sym c.ne.ensures ∙ c.if-ne.false))
 
-pub returns-clause-pushed : goal.returns-clause-pushed
-returns-clause-pushed c =
-    let side = c.args.side.now in
-    let at = (goal.at.returns-clause-pushed c).After-index-span in
-    λ pays rise rise' p h.
-    renewed_all (side_frame side) (side_lists side) side.player (walked side) pays rise rise' c.args.now c.loop-end.end c.loop-end.tally
-    (λ z k ge lz lk. p.elsewhere z k lz (λ is. (let i = inside at z lz is in omega (arith, i.1, ge, c.loop-end-test.false))) lk)
-    (c.loop-end.invariant.pushed pays rise rise' p h)
-
 pub push_end-requires-clause-room : goal.push_end-requires-clause-room
 push_end-requires-clause-room c = grind arith
-
-pub returns-clause-room : goal.returns-clause-room
-returns-clause-room c = grind arith
 
 pub end_step-requires : goal.end_step-requires
 end_step-requires c =
@@ -159,8 +147,15 @@ push_end-requires-clause-point c = c.requires.point
 pub index-span-requires : goal.index-span-requires
 index-span-requires c = grind arith
 
-pub returns-clause-picks : goal.returns-clause-picks
-returns-clause-picks c = grind arith
-
-pub returns-clause-moved : goal.returns-clause-moved
-returns-clause-moved c = grind arith
+pub returns : goal.returns
+returns c = record {
+  room = grind arith;
+  moved = grind arith;
+  picks = grind arith;
+  pushed = let side = c.args.side.now in
+      let at = (goal.at.returns c).After-index-span in
+      λ pays rise rise' p h.
+      renewed_all (side_frame side) (side_lists side) side.player (walked side) pays rise rise' c.args.now c.loop-end.end c.loop-end.tally
+      (λ z k ge lz lk. p.elsewhere z k lz (λ is. (let i = inside at z lz is in omega (arith, i.1, ge, c.loop-end-test.false))) lk)
+      (c.loop-end.invariant.pushed pays rise rise' p h);
+}

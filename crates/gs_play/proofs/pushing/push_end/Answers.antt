@@ -1,3 +1,4 @@
+use Rattle.std.proofs.lemmas.Grind.{common_steps}
 use Rattle.std.proofs.Common.{◌≡◌, ℕ, refl, ap, sym, ◌∙◌, subst, arith}
 use Rattle.std.specs.Prelude.{ℤ}
 use Rattle.gs_model.specs.{Frame.{payoff_to, round_of}, Pairs.{pair_sum}, Positions.{at_end, at_point}}
@@ -54,26 +55,6 @@ loop-class-preserved c =
           (c.loop-class.invariant.pushed pays rise h));
     }
 
-pub returns-clause-pushed : goal.returns-clause-pushed
-returns-clause-pushed c =
-    let side = c.args.side.now in
-    let f = side_frame side in
-    let lists = side_lists side in
-    let on = c.args.change.is_on in
-    let first = c.classes_below-run.result.first in
-    let end = c.classes_below-run.result.end in
-    let is = run (goal.at.returns-clause-pushed c).After-classes_below-run in
-    let all : c.loop-class.class ≡ end = omega (arith, c.loop-class-test.false, c.loop-class.auto.class-end, is.ordered) in
-    let sum : ℕ → ℤ = λ k. raise_sum f lists side.player c.args.end (step_of c.args.change.step) c.args.change.class k in
-    λ pays rise h.
-    subst (λ r. IsTally f lists side.player pays r c.args.now c.loop-class.tally)
-    (risen_same rise c.args.end (run_adds on (paid side c.args.end) first c.loop-class.class) (λ k. with_sign on (sum k))
-    (λ k. ap (λ n. run_adds on (paid side c.args.end) first n k) all
-    ∙ ap (with_sign on) (sym (gathered_run f lists (round_of f (at_end c.args.end)) (round_of f (at_point c.args.change.step.point))
-    c.args.change.class first end
-    (paid side c.args.end k) is))))
-    (c.loop-class.invariant.pushed pays rise h)
-
 pub returns-in_default-clause-pushed : goal.returns-in_default-clause-pushed
 returns-in_default-clause-pushed c =
     let side = c.args.side.now in
@@ -89,32 +70,41 @@ classes_below-run-requires-clause-top c =
     let to = c.in-Some.ensures in
     omega (arith, to.way.round, ap (round_of (side_frame side)) to.leads, (walked side).end_in c.args.end c.requires.end)
 
-pub push_row-requires-clause-room : goal.push_row-requires-clause-room
-push_row-requires-clause-room c = grind arith
-
-pub returns-clause-room : goal.returns-clause-room
-returns-clause-room c = grind arith
-
-pub push_row-requires-clause-class : goal.push_row-requires-clause-class
-push_row-requires-clause-class c = grind arith
+pub push_row-requires : goal.push_row-requires
+push_row-requires c = grind (arith, common_steps)
 
 pub returns-in_default-clause-room : goal.returns-in_default-clause-room
 returns-in_default-clause-room c = c.requires.room
 
-pub returns-clause-picks : goal.returns-clause-picks
-returns-clause-picks c = c.loop-class.invariant.picks
-
-pub returns-clause-moved : goal.returns-clause-moved
-returns-clause-moved c = c.loop-class.invariant.moved
+pub returns : goal.returns
+returns c = record {
+  room = grind arith;
+  moved = c.loop-class.invariant.moved;
+  picks = c.loop-class.invariant.picks;
+  pushed = let side = c.args.side.now in
+      let f = side_frame side in
+      let lists = side_lists side in
+      let on = c.args.change.is_on in
+      let first = c.classes_below-run.result.first in
+      let end = c.classes_below-run.result.end in
+      let is = run (goal.at.returns c).After-classes_below-run in
+      let all : c.loop-class.class ≡ end = omega (arith, c.loop-class-test.false, c.loop-class.auto.class-end, is.ordered) in
+      let sum : ℕ → ℤ = λ k. raise_sum f lists side.player c.args.end (step_of c.args.change.step) c.args.change.class k in
+      λ pays rise h.
+      subst (λ r. IsTally f lists side.player pays r c.args.now c.loop-class.tally)
+      (risen_same rise c.args.end (run_adds on (paid side c.args.end) first c.loop-class.class) (λ k. with_sign on (sum k))
+      (λ k. ap (λ n. run_adds on (paid side c.args.end) first n k) all
+      ∙ ap (with_sign on) (sym (gathered_run f lists (round_of f (at_end c.args.end)) (round_of f (at_point c.args.change.step.point))
+      c.args.change.class first end
+      (paid side c.args.end k) is))))
+      (c.loop-class.invariant.pushed pays rise h);
+}
 
 pub classes_below-run-requires-clause-class : goal.classes_below-run-requires-clause-class
 classes_below-run-requires-clause-class c = grind arith
 
 pub classes_below-run-requires-clause-onward : goal.classes_below-run-requires-clause-onward
 classes_below-run-requires-clause-onward c = grind arith
-
-pub push_row-requires-clause-end : goal.push_row-requires-clause-end
-push_row-requires-clause-end c = omega arith
 
 pub round_at-from-requires : goal.round_at-from-requires
 round_at-from-requires c = grind arith

@@ -1,3 +1,4 @@
+use Rattle.std.proofs.lemmas.Grind.{common_steps}
 use Rattle.std.proofs.Common.{List, refl, ap, sym, ◌∙◌, subst, of_z, to_z, to_z-of_z, arith}
 use Rattle.std.specs.Prelude.{neg_ℤ}
 use mir.Syntax.{w64}
@@ -30,13 +31,6 @@ loop-pair-init c =
 pub pays-requires : goal.pays-requires
 pays-requires c = let k = pair (goal.at.pays-requires c).In-Some in record { factor = c.stake_of-stake.ensures.few; few = k.weight; moderate = k.signed }
 
-pub turn_end-requires-clause-class : goal.turn_end-requires-clause-class
-turn_end-requires-clause-class c =
-    let side = c.args.side.now in
-    let to = c.requires.way in
-    subst (λ r. IsClass (side_lists side) r c.in-Some.pair.two) (ap (round_of (side_frame side)) (sym to.leads) ∙ sym to.way.round)
-    (pair (goal.at.turn_end-requires-clause-class c).In-Some).class
-
 pub loop-pair-preserved : goal.loop-pair-preserved
 loop-pair-preserved c =
     let side = c.args.side.now in
@@ -51,31 +45,24 @@ loop-pair-preserved c =
           (λ pays rise h. c.turn_end.ensures.turned c.args.end pays rise c.requires.end c.requires.way.leads h);
     }
 
-pub returns-clause-pushed : goal.returns-clause-pushed
-returns-clause-pushed c =
-    row_ended c.args.side.now c.args.end c.args.class c.requires.end c.args.is_on c.args.now c.loop-pair.pair-iterator c.args.tally.now c.loop-pair.tally
-    c.loop-pair.invariant.walk c.in-None.ensures.steps.0
+pub returns : goal.returns
+returns c = record {
+  room = grind arith;
+  moved = c.loop-pair.invariant.moved;
+  picks = c.loop-pair.invariant.picks;
+  pushed = row_ended c.args.side.now c.args.end c.args.class c.requires.end c.args.is_on c.args.now c.loop-pair.pair-iterator c.args.tally.now c.loop-pair.tally
+      c.loop-pair.invariant.walk c.in-None.ensures.steps.0;
+}
 
-pub turn_end-requires-clause-room : goal.turn_end-requires-clause-room
-turn_end-requires-clause-room c = grind arith
+pub turn_end-requires : goal.turn_end-requires
+turn_end-requires c = record {
+  way = c.requires.way.way;
+  class = let side = c.args.side.now in
+      let to = c.requires.way in
+      subst (λ r. IsClass (side_lists side) r c.in-Some.pair.two) (ap (round_of (side_frame side)) (sym to.leads) ∙ sym to.way.round)
+      (pair (goal.at.turn_end-requires c).In-Some).class;
+  room = grind arith;
+}
 
-pub returns-clause-room : goal.returns-clause-room
-returns-clause-room c = grind arith
-
-pub returns-clause-picks : goal.returns-clause-picks
-returns-clause-picks c = c.loop-pair.invariant.picks
-
-pub returns-clause-moved : goal.returns-clause-moved
-returns-clause-moved c = c.loop-pair.invariant.moved
-
-pub turn_end-requires-clause-way : goal.turn_end-requires-clause-way
-turn_end-requires-clause-way c = c.requires.way.way
-
-pub pairs-pair-items-requires-clause-class : goal.pairs-pair-items-requires-clause-class
-pairs-pair-items-requires-clause-class c = grind arith
-
-pub pairs-pair-items-requires-clause-top : goal.pairs-pair-items-requires-clause-top
-pairs-pair-items-requires-clause-top c = omega arith
-
-pub pairs-pair-items-requires-clause-some : goal.pairs-pair-items-requires-clause-some
-pairs-pair-items-requires-clause-some c = grind arith
+pub pairs-pair-items-requires : goal.pairs-pair-items-requires
+pairs-pair-items-requires c = grind (arith, common_steps)

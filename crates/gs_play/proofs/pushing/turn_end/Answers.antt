@@ -14,30 +14,25 @@ returns-then-more-eq0-clause-turned c =
     subst (λ r. IsTally (side_frame side) (side_lists side) side.player pays r c.args.now c.args.tally.now)
     (sym (ap (risen rise z c.args.class) none ∙ risen_none rise z c.args.class)) h
 
-pub returns-clause-turned : goal.returns-clause-turned
-returns-clause-turned c =
-    let side = c.args.side.now in
-    let f = side_frame side in
-    let way = c.requires.way in
-    let kept : to_z w64 (of_z w64 c.args.more) ≡ c.args.more = to_z-of_z c.ranges.more in
-    λ z pays rise lz leads h.
-    let class : IsClass (side_lists side) (round_of f (at_end z)) c.args.class =
-    subst (λ r. IsClass (side_lists side) r c.args.class) (way.round ∙ ap (round_of f) leads) c.requires.class in
-    turned_fed f (side_lists side) side.player (walked side) pays rise c.args.now z c.args.class c.args.more lz class c.args.tally.now h c.requires.room
-    c.args.way (record { way = way; leads = leads }) c.rising.result (c.rising.ensures.at ∙ ap (λ x. wrapped (pos 0 -ℤ x *ℤ pos c.args.now)) kept)
-    (c.rising.ensures.slope ∙ kept) c.feed.new.tally c.feed.ensures.class c.feed.ensures.fed
-
-pub returns-clause-room : goal.returns-clause-room
-returns-clause-room c = grind arith
-
 pub feed-requires-clause-room : goal.feed-requires-clause-room
 feed-requires-clause-room c = c.requires.room
 
 pub returns-then-more-eq0-clause-room : goal.returns-then-more-eq0-clause-room
 returns-then-more-eq0-clause-room c = c.requires.room
 
-pub returns-clause-picks : goal.returns-clause-picks
-returns-clause-picks c = grind arith
-
-pub returns-clause-moved : goal.returns-clause-moved
-returns-clause-moved c = grind arith
+pub returns : goal.returns
+returns c = record {
+  room = grind arith;
+  moved = grind arith;
+  picks = grind arith;
+  turned = let side = c.args.side.now in
+      let f = side_frame side in
+      let way = c.requires.way in
+      let kept : to_z w64 (of_z w64 c.args.more) ≡ c.args.more = to_z-of_z c.ranges.more in
+      λ z pays rise lz leads h.
+      let class : IsClass (side_lists side) (round_of f (at_end z)) c.args.class =
+      subst (λ r. IsClass (side_lists side) r c.args.class) (way.round ∙ ap (round_of f) leads) c.requires.class in
+      turned_fed f (side_lists side) side.player (walked side) pays rise c.args.now z c.args.class c.args.more lz class c.args.tally.now h c.requires.room
+      c.args.way (record { way = way; leads = leads }) c.rising.result (c.rising.ensures.at ∙ ap (λ x. wrapped (pos 0 -ℤ x *ℤ pos c.args.now)) kept)
+      (c.rising.ensures.slope ∙ kept) c.feed.new.tally c.feed.ensures.class c.feed.ensures.fed;
+}

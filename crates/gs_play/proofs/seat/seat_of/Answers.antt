@@ -4,9 +4,6 @@ use Rattle.gs_play.specs.Sides.{side_frame, side_lists}
 use Rattle.gs_play.proofs.AtStart.{at_start}
 use Rattle.gs_play.proofs.seat.seat_of.Goals as goal
 
-pub begin-requires-clause-room : goal.begin-requires-clause-room
-begin-requires-clause-room c = c.in_ok-tally.ensures.room (side_frame c.args.side.now) (side_lists c.args.side.now) c.args.side.now.plotted
-
 pub returns : goal.returns
 returns c =
     let side = c.args.side.now in
@@ -14,8 +11,9 @@ returns c =
     c.in_ok-tally.tally c.begin.new.tally c.in_ok-tally.ensures.clear c.in_ok-begin.ensures.room c.in_ok-begin.ensures.picks c.in_ok-begin.ensures.moved
     (class_plan (side_frame side) (side_lists side) c.in_ok-other.other) c.in_ok-other.ensures.first c.in_ok-begin.ensures.begun
 
-pub begin-requires-clause-other : goal.begin-requires-clause-other
-begin-requires-clause-other c = grind arith
-
-pub begin-requires-clause-one : goal.begin-requires-clause-one
-begin-requires-clause-one c = grind arith
+pub begin-requires : goal.begin-requires
+begin-requires c = record {
+  other = grind arith;
+  one = grind arith;
+  room = c.in_ok-tally.ensures.room (side_frame c.args.side.now) (side_lists c.args.side.now) c.args.side.now.plotted;
+}

@@ -50,66 +50,59 @@ index_mut-requires c = omega (arith, inside (goal.at.index_mut-requires c).After
 pub overflow_add-way : goal.overflow_add-way
 overflow_add-way c = omega (arith, cell_few c.args.form.now c.args.way c.requires.way c.class_above.result c.class_above.ensures.class)
 
-pub set_due-requires-clause-place : goal.set_due-requires-clause-place
-set_due-requires-clause-place c =
-    let up = c.class_above.result in
-    omega (
-      arith,
-      cell_there c.args.form.now c.args.way c.requires.way up,
-      cell_first c.args.form.now c.args.way c.requires.way up c.class_above.ensures.class,
-      c.requires.room.turns,
-    )
-
-pub returns-clause-fed : goal.returns-clause-fed
-returns-clause-fed c =
-    let f = abstract_frame c.args.form.now in
-    let lists = lists_of c.args.form.now in
-    let w = c.args.way in
-    let up = up_of f lists w c.args.class in
-    let xs = c.args.tally.now.worths.items in
-    let place = w.row.worth + ((c.class_above.result - 1) * w.row.moves + c.from.result) in
-    let at : place ≡ worth_place f lists w.row.point up w.choice =
-    omega (arith, c.from.ensures, worth_there c.args.form.now w c.requires.way c.class_above.result)
-    ∙ ap (λ k. worth_place f lists w.row.point k w.choice) c.class_above.ensures.value in
-    let cell : w.row.cell + (c.class_above.result - 1) ≡ cell_place f lists w.row.point up =
-    cell_there c.args.form.now w c.requires.way c.class_above.result ∙ ap (cell_place f lists w.row.point) c.class_above.ensures.value in
-    let within : place < length xs = omega (arith, inside (goal.at.returns-clause-fed c).After-class_above, c.from.ensures) in
-    let read : c.index.result.now ≡ line_at xs (worth_place f lists w.row.point up w.choice) =
-    c.index.ensures ∙ get_or_default xs place c.index.result.now flat within ∙ ap (line_at xs) at in
-    record {
-      worth = c.sum.result;
-      at_is = c.sum.ensures.at ∙ ap (λ (l : Line). wrapped (l.at +ℤ c.args.more.at)) read;
-      slope_is = c.sum.ensures.slope ∙ ap (λ (l : Line). wrapped (l.slope +ℤ c.args.more.slope)) read;
-      worths = ap (λ i. set xs i c.sum.result) at;
-      dues = c.set_due.ensures.turns ∙ ap (λ i. set c.args.tally.now.dues.turns.items i 0) cell;
-      totals = refl;
-      picks = refl;
-    }
-
 pub class_above-requires-clause-top : goal.class_above-requires-clause-top
 class_above-requires-clause-top c = grind (arith, common_steps)
 
-pub returns-clause-room : goal.returns-clause-room
-returns-clause-room c =
-    let t = c.args.tally.now in
-    let w = c.args.way.row in
-    let room = c.requires.room in
-    let due = c.set_due.ensures in
-    record {
-      worths = length-set t.worths.items (w.worth + ((c.class_above.result - 1) * w.moves + c.from.result)) c.sum.result ∙ room.worths;
-      totals = room.totals;
-      picks = room.picks;
-      turns = ap (λ (l : List ℕ). length l) due.turns ∙ length-set t.dues.turns.items (w.cell + (c.class_above.result - 1)) 0 ∙ room.turns;
-      dues = due.dues;
-      blocks = due.blocks ∙ room.blocks;
-      moved = room.moved;
-    }
+pub set_due-requires : goal.set_due-requires
+set_due-requires c = record {
+  dues = c.requires.room.dues;
+  place = let up = c.class_above.result in
+      omega (
+        arith,
+        cell_there c.args.form.now c.args.way c.requires.way up,
+        cell_first c.args.form.now c.args.way c.requires.way up c.class_above.ensures.class,
+        c.requires.room.turns,
+      );
+}
 
-pub set_due-requires-clause-dues : goal.set_due-requires-clause-dues
-set_due-requires-clause-dues c = c.requires.room.dues
-
-pub returns-clause-moved : goal.returns-clause-moved
-returns-clause-moved c = grind arith
-
-pub returns-clause-class : goal.returns-clause-class
-returns-clause-class c = grind arith
+pub returns : goal.returns
+returns c = record {
+  room = let t = c.args.tally.now in
+      let w = c.args.way.row in
+      let room = c.requires.room in
+      let due = c.set_due.ensures in
+      record {
+        worths = length-set t.worths.items (w.worth + ((c.class_above.result - 1) * w.moves + c.from.result)) c.sum.result ∙ room.worths;
+        totals = room.totals;
+        picks = room.picks;
+        turns = ap (λ (l : List ℕ). length l) due.turns ∙ length-set t.dues.turns.items (w.cell + (c.class_above.result - 1)) 0 ∙ room.turns;
+        dues = due.dues;
+        blocks = due.blocks ∙ room.blocks;
+        moved = room.moved;
+      };
+  class = grind arith;
+  fed = let f = abstract_frame c.args.form.now in
+      let lists = lists_of c.args.form.now in
+      let w = c.args.way in
+      let up = up_of f lists w c.args.class in
+      let xs = c.args.tally.now.worths.items in
+      let place = w.row.worth + ((c.class_above.result - 1) * w.row.moves + c.from.result) in
+      let at : place ≡ worth_place f lists w.row.point up w.choice =
+      omega (arith, c.from.ensures, worth_there c.args.form.now w c.requires.way c.class_above.result)
+      ∙ ap (λ k. worth_place f lists w.row.point k w.choice) c.class_above.ensures.value in
+      let cell : w.row.cell + (c.class_above.result - 1) ≡ cell_place f lists w.row.point up =
+      cell_there c.args.form.now w c.requires.way c.class_above.result ∙ ap (cell_place f lists w.row.point) c.class_above.ensures.value in
+      let within : place < length xs = omega (arith, inside (goal.at.returns c).After-class_above, c.from.ensures) in
+      let read : c.index.result.now ≡ line_at xs (worth_place f lists w.row.point up w.choice) =
+      c.index.ensures ∙ get_or_default xs place c.index.result.now flat within ∙ ap (line_at xs) at in
+      record {
+        worth = c.sum.result;
+        at_is = c.sum.ensures.at ∙ ap (λ (l : Line). wrapped (l.at +ℤ c.args.more.at)) read;
+        slope_is = c.sum.ensures.slope ∙ ap (λ (l : Line). wrapped (l.slope +ℤ c.args.more.slope)) read;
+        worths = ap (λ i. set xs i c.sum.result) at;
+        dues = c.set_due.ensures.turns ∙ ap (λ i. set c.args.tally.now.dues.turns.items i 0) cell;
+        totals = refl;
+        picks = refl;
+      };
+  moved = grind arith;
+}

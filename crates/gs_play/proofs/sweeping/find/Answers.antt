@@ -58,55 +58,44 @@ choose-requires-clause-some c = omega (arith, (form_moves c.args.side.now.form.n
 pub choose-requires-clause-few : goal.choose-requires-clause-few
 choose-requires-clause-few c = omega (arith, (form_moves c.args.side.now.form.now c.args.row.point c.requires.row.inside).few, c.requires.row.moves)
 
-pub add_up-requires-clause-cell : goal.add_up-requires-clause-cell
-add_up-requires-clause-cell c = omega (arith, in_room (goal.at.add_up-requires-clause-cell c).Start, c.requires.room.turns)
+pub returns-then-row-side : goal.returns-then-row-side
+returns-then-row-side c = record {
+  room = let s = c.args.side.now in
+      room_chosen (side_frame s) (side_lists s) _ c.args.row.point c.args.cell c.args.now c.args.last c.args.tally.now c.choose.new.tally c.requires.room
+      c.choose.ensures.worths c.choose.ensures.dues c.choose.ensures.blocks c.choose.ensures.found;
+  found = grind arith;
+  tells = let f = side_frame c.args.side.now in
+      let lists = side_lists c.args.side.now in
+      let row = c.requires.row in
+      let is = cell_is (goal.at.returns-then-row-side c).Start in
+      let picked = c.choose.ensures.found.picked in
+      let new = c.choose.new.tally in
+      tells_picked f lists c.args.row.point (class_here f lists c.args.row row c.args.cell) _ c.args.tally.now new
+      (class_in f lists c.args.row row c.args.cell is)
+      (subst (λ i. IsPicked c.args.row.point i (slice_index new.picks.items c.args.cell) c.args.tally.now new)
+      (sym (place_here f lists c.args.row row c.args.cell is)) picked);
+}
 
-pub add_up-requires-clause-totals : goal.add_up-requires-clause-totals
-add_up-requires-clause-totals c = omega (arith, in_room (goal.at.add_up-requires-clause-totals c).Start, c.requires.room.totals)
-
-pub add_up-requires-clause-worths : goal.add_up-requires-clause-worths
-add_up-requires-clause-worths c = worths_in (goal.at.add_up-requires-clause-worths c).Start
-
-pub returns-then-row-side-clause-tells : goal.returns-then-row-side-clause-tells
-returns-then-row-side-clause-tells c =
-    let f = side_frame c.args.side.now in
-    let lists = side_lists c.args.side.now in
-    let row = c.requires.row in
-    let is = cell_is (goal.at.returns-then-row-side-clause-tells c).Start in
-    let picked = c.choose.ensures.found.picked in
-    let new = c.choose.new.tally in
-    tells_picked f lists c.args.row.point (class_here f lists c.args.row row c.args.cell) _ c.args.tally.now new
-    (class_in f lists c.args.row row c.args.cell is)
-    (subst (λ i. IsPicked c.args.row.point i (slice_index new.picks.items c.args.cell) c.args.tally.now new)
-    (sym (place_here f lists c.args.row row c.args.cell is)) picked)
-
-pub returns-else-row-side-clause-found : goal.returns-else-row-side-clause-found
-returns-else-row-side-clause-found c = grind arith
-
-pub returns-then-row-side-clause-found : goal.returns-then-row-side-clause-found
-returns-then-row-side-clause-found c = grind arith
-
-pub returns-then-row-side-clause-room : goal.returns-then-row-side-clause-room
-returns-then-row-side-clause-room c =
-    let s = c.args.side.now in
-    room_chosen (side_frame s) (side_lists s) _ c.args.row.point c.args.cell c.args.now c.args.last c.args.tally.now c.choose.new.tally c.requires.room
-    c.choose.ensures.worths c.choose.ensures.dues c.choose.ensures.blocks c.choose.ensures.found
-
-pub returns-else-row-side-clause-room : goal.returns-else-row-side-clause-room
-returns-else-row-side-clause-room c =
-    let s = c.args.side.now in
-    room_added (side_frame s) (side_lists s) _ c.args.cell c.args.last c.args.tally.now c.add_up.new.tally c.requires.room
-    c.add_up.ensures.worths c.add_up.ensures.dues c.add_up.ensures.blocks c.add_up.ensures.moved c.add_up.ensures.found
-
-pub returns-else-row-side-clause-tells : goal.returns-else-row-side-clause-tells
-returns-else-row-side-clause-tells c = tells_same (side_frame c.args.side.now) (side_lists c.args.side.now) c.args.tally.now c.add_up.new.tally
-    (c.add_up.ensures.found.picks) c.add_up.ensures.moved
+pub returns-else-row-side : goal.returns-else-row-side
+returns-else-row-side c = record {
+  room = let s = c.args.side.now in
+      room_added (side_frame s) (side_lists s) _ c.args.cell c.args.last c.args.tally.now c.add_up.new.tally c.requires.room
+      c.add_up.ensures.worths c.add_up.ensures.dues c.add_up.ensures.blocks c.add_up.ensures.moved c.add_up.ensures.found;
+  found = grind arith;
+  tells = tells_same (side_frame c.args.side.now) (side_lists c.args.side.now) c.args.tally.now c.add_up.new.tally
+      (c.add_up.ensures.found.picks) c.add_up.ensures.moved;
+}
 
 pub choose-requires-clause-dues : goal.choose-requires-clause-dues
 choose-requires-clause-dues c = grind arith
 
-pub add_up-requires-clause-dues : goal.add_up-requires-clause-dues
-add_up-requires-clause-dues c = grind arith
+pub add_up-requires : goal.add_up-requires
+add_up-requires c = record {
+  dues = grind arith;
+  cell = omega (arith, in_room (goal.at.add_up-requires c).Start, c.requires.room.turns);
+  totals = omega (arith, in_room (goal.at.add_up-requires c).Start, c.requires.room.totals);
+  worths = worths_in (goal.at.add_up-requires c).Start;
+}
 
 pub choose-requires-clause-point : goal.choose-requires-clause-point
 choose-requires-clause-point c = grind arith

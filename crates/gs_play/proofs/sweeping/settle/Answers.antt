@@ -43,20 +43,6 @@ same_line x y a s =
     let with : ℤ → ℤ → Line = λ at slope. record { at = at; slope = slope } in
     ap (λ i. with i x.slope) a ∙ ap (with y.at) s
 
-pub returns-then-eq-clause-kept : goal.returns-then-eq-clause-kept
-returns-then-eq-clause-kept c =
-    let s = c.args.side.now in
-    let at = (goal.at.returns-then-eq-clause-kept c).Start in
-    let read = (goal.at.returns-then-eq-clause-kept c).After-index-2 in
-    let new = c.index-2.result.now in
-    let old = c.index.result.now in
-    let within = in_room at in
-    let both = and_parts (int_eq new.at old.at) (int_eq new.slope old.slope) (sym c.eq.ensures ∙ c.if-eq.true) in
-    let same : new ≡ old = same_line new old ((Decides-int_eq new.at old.at).0 both.0) ((Decides-int_eq new.slope old.slope).0 both.1) in
-    same_kept (side_frame s) (side_lists s) s.player (walked s) c.args.now c.args.last c.requires.order c.requires.turns c.args.cell
-    c.args.row c.requires.row (has at) c.args.tally.now c.find.new.tally c.requires.room c.find.ensures.found
-    (sym (new_is read (omega (arith, within, c.find.ensures.room.totals))) ∙ same ∙ old_is read (omega (arith, within, c.requires.room.totals)))
-
 small : (c : Start) → c.args.cell ≤ 2147483648
 small c = omega (arith, in_room c, starts_few c.args.side.now.form.now (point_count (side_frame c.args.side.now)) (omega arith))
 
@@ -73,105 +59,88 @@ to c =
     let q = at_point c.args.row.point in
     subst (λ o. MatchOption o (HasNoWay f q) (LeadsTo f (side_lists c.args.side.now) q)) c.in-Some.is c.requires.way
 
-pub feed-requires-clause-way : goal.feed-requires-clause-way
-feed-requires-clause-way c = (to (goal.at.feed-requires-clause-way c).In-Some).way
+pub returns-in-Some : goal.returns-in-Some
+returns-in-Some c = record {
+  room = c.feed.ensures.room;
+  later = let s = c.args.side.now in
+      let at = goal.at.returns-in-Some c in
+      fed_later (side_frame s) (side_lists s) s.player (walked s) c.args.now c.args.last c.requires.order c.requires.turns c.args.cell c.args.row
+      c.requires.row (has at.Start) c.args.tally.now c.find.new.tally c.requires.room c.find.ensures.found c.in-Some.way (to at.In-Some)
+      c.feed.ensures.class c.above.result c.feed.new.tally c.feed.ensures.fed;
+  behind = let s = c.args.side.now in
+      let at = goal.at.returns-in-Some c in
+      fed_behind (side_frame s) (side_lists s) s.player (walked s) c.args.now c.args.last c.requires.order c.requires.turns c.args.cell c.args.row
+      c.requires.row (has at.Start) c.args.tally.now c.find.new.tally c.requires.room c.find.ensures.found c.in-Some.way (to at.In-Some)
+      c.feed.ensures.class c.above.result c.feed.new.tally c.feed.ensures.fed;
+  tells = let s = c.args.side.now in
+      tells_next (side_frame s) (side_lists s) c.args.tally.now c.find.new.tally c.feed.new.tally c.find.ensures.tells
+      (tells_same (side_frame s) (side_lists s) c.find.new.tally c.feed.new.tally c.feed.ensures.fed.picks c.feed.ensures.moved);
+  kept = let s = c.args.side.now in
+      let at = goal.at.returns-in-Some c in
+      let within = in_room at.Start in
+      let xs = c.args.tally.now.totals.items in
+      let ys = c.find.new.tally.totals.items in
+      let less : (part : Line → ℤ) → part c.index-2.result.now -ℤ part c.index.result.now ≡ part (line_at ys c.args.cell) -ℤ part (line_at xs c.args.cell) =
+      λ part. ap (λ (l : Line). part l -ℤ part c.index.result.now) (new_is at.After-index-2 (omega (arith, within, c.find.ensures.room.totals)))
+      ∙ ap (λ (l : Line). part (line_at ys c.args.cell) -ℤ part l) (old_is at.After-index-2 (omega (arith, within, c.requires.room.totals))) in
+      fed_kept (side_frame s) (side_lists s) s.player (walked s) c.args.now c.args.last c.requires.order c.requires.turns c.args.cell c.args.row
+      c.requires.row (has at.Start) c.args.tally.now c.find.new.tally c.requires.room c.find.ensures.found c.in-Some.way (to at.In-Some)
+      c.feed.ensures.class c.above.result c.feed.new.tally c.feed.ensures.fed
+      (ap wrapped (c.above.ensures.at ∙ ap wrapped (less at_part)) ∙ wrapped_twice _)
+      (ap wrapped (c.above.ensures.slope ∙ ap wrapped (less slope_part)) ∙ wrapped_twice _);
+}
 
-pub feed-requires-clause-class : goal.feed-requires-clause-class
-feed-requires-clause-class c =
-    let at = goal.at.feed-requires-clause-class c in
-    let s = c.args.side.now in
-    let by = to at.In-Some in
-    subst (λ i. IsClass (side_lists s) i (c.args.cell - c.args.row.cell + 1)) (sym (by.way.round ∙ ap (round_of (side_frame s)) by.leads))
-    (class_in (side_frame s) (side_lists s) c.args.row c.requires.row c.args.cell (has at.Start))
+pub feed-requires : goal.feed-requires
+feed-requires c = record {
+  way = (to (goal.at.feed-requires c).In-Some).way;
+  class = let at = goal.at.feed-requires c in
+      let s = c.args.side.now in
+      let by = to at.In-Some in
+      subst (λ i. IsClass (side_lists s) i (c.args.cell - c.args.row.cell + 1)) (sym (by.way.round ∙ ap (round_of (side_frame s)) by.leads))
+      (class_in (side_frame s) (side_lists s) c.args.row c.requires.row c.args.cell (has at.Start));
+  room = c.find.ensures.room;
+}
 
-pub returns-in-Some-clause-later : goal.returns-in-Some-clause-later
-returns-in-Some-clause-later c =
-    let s = c.args.side.now in
-    let at = goal.at.returns-in-Some-clause-later c in
-    fed_later (side_frame s) (side_lists s) s.player (walked s) c.args.now c.args.last c.requires.order c.requires.turns c.args.cell c.args.row
-    c.requires.row (has at.Start) c.args.tally.now c.find.new.tally c.requires.room c.find.ensures.found c.in-Some.way (to at.In-Some)
-    c.feed.ensures.class c.above.result c.feed.new.tally c.feed.ensures.fed
+pub returns-then-eq : goal.returns-then-eq
+returns-then-eq c = record {
+  room = c.find.ensures.room;
+  later = let s = c.args.side.now in
+      found_later (side_frame s) (side_lists s) s.player (walked s) c.args.now c.args.last c.requires.order c.requires.turns c.args.cell
+      c.args.row c.requires.row (has (goal.at.returns-then-eq c).Start) c.args.tally.now c.find.new.tally c.requires.room c.find.ensures.found;
+  behind = let s = c.args.side.now in
+      found_behind (side_frame s) (side_lists s) s.player (walked s) c.args.now c.args.last c.requires.order c.requires.turns c.args.cell
+      c.args.row c.requires.row (has (goal.at.returns-then-eq c).Start) c.args.tally.now c.find.new.tally c.requires.room c.find.ensures.found;
+  tells = c.find.ensures.tells;
+  kept = let s = c.args.side.now in
+      let at = (goal.at.returns-then-eq c).Start in
+      let read = (goal.at.returns-then-eq c).After-index-2 in
+      let new = c.index-2.result.now in
+      let old = c.index.result.now in
+      let within = in_room at in
+      let both = and_parts (int_eq new.at old.at) (int_eq new.slope old.slope) (sym c.eq.ensures ∙ c.if-eq.true) in
+      let same : new ≡ old = same_line new old ((Decides-int_eq new.at old.at).0 both.0) ((Decides-int_eq new.slope old.slope).0 both.1) in
+      same_kept (side_frame s) (side_lists s) s.player (walked s) c.args.now c.args.last c.requires.order c.requires.turns c.args.cell
+      c.args.row c.requires.row (has at) c.args.tally.now c.find.new.tally c.requires.room c.find.ensures.found
+      (sym (new_is read (omega (arith, within, c.find.ensures.room.totals))) ∙ same ∙ old_is read (omega (arith, within, c.requires.room.totals)));
+}
 
-pub returns-in-Some-clause-behind : goal.returns-in-Some-clause-behind
-returns-in-Some-clause-behind c =
-    let s = c.args.side.now in
-    let at = goal.at.returns-in-Some-clause-behind c in
-    fed_behind (side_frame s) (side_lists s) s.player (walked s) c.args.now c.args.last c.requires.order c.requires.turns c.args.cell c.args.row
-    c.requires.row (has at.Start) c.args.tally.now c.find.new.tally c.requires.room c.find.ensures.found c.in-Some.way (to at.In-Some)
-    c.feed.ensures.class c.above.result c.feed.new.tally c.feed.ensures.fed
-
-pub returns-in-Some-clause-tells : goal.returns-in-Some-clause-tells
-returns-in-Some-clause-tells c =
-    let s = c.args.side.now in
-    tells_next (side_frame s) (side_lists s) c.args.tally.now c.find.new.tally c.feed.new.tally c.find.ensures.tells
-    (tells_same (side_frame s) (side_lists s) c.find.new.tally c.feed.new.tally c.feed.ensures.fed.picks c.feed.ensures.moved)
-
-pub returns-in-Some-clause-kept : goal.returns-in-Some-clause-kept
-returns-in-Some-clause-kept c =
-    let s = c.args.side.now in
-    let at = goal.at.returns-in-Some-clause-kept c in
-    let within = in_room at.Start in
-    let xs = c.args.tally.now.totals.items in
-    let ys = c.find.new.tally.totals.items in
-    let less : (part : Line → ℤ) → part c.index-2.result.now -ℤ part c.index.result.now ≡ part (line_at ys c.args.cell) -ℤ part (line_at xs c.args.cell) =
-    λ part. ap (λ (l : Line). part l -ℤ part c.index.result.now) (new_is at.After-index-2 (omega (arith, within, c.find.ensures.room.totals)))
-    ∙ ap (λ (l : Line). part (line_at ys c.args.cell) -ℤ part l) (old_is at.After-index-2 (omega (arith, within, c.requires.room.totals))) in
-    fed_kept (side_frame s) (side_lists s) s.player (walked s) c.args.now c.args.last c.requires.order c.requires.turns c.args.cell c.args.row
-    c.requires.row (has at.Start) c.args.tally.now c.find.new.tally c.requires.room c.find.ensures.found c.in-Some.way (to at.In-Some)
-    c.feed.ensures.class c.above.result c.feed.new.tally c.feed.ensures.fed
-    (ap wrapped (c.above.ensures.at ∙ ap wrapped (less at_part)) ∙ wrapped_twice _)
-    (ap wrapped (c.above.ensures.slope ∙ ap wrapped (less slope_part)) ∙ wrapped_twice _)
-
-pub returns-in_default-clause-kept : goal.returns-in_default-clause-kept
-returns-in_default-clause-kept c =
-    let s = c.args.side.now in
-    let f = side_frame s in
-    let q = at_point c.args.row.point in
-    nowhere_kept f (side_lists s) s.player (walked s) c.args.now c.args.last c.requires.order c.requires.turns c.args.cell
-    c.args.row c.requires.row (has (goal.at.returns-in_default-clause-kept c).Start) c.args.tally.now c.find.new.tally c.requires.room c.find.ensures.found
-    (subst (λ o. MatchOption o (HasNoWay f q) (LeadsTo f (side_lists s) q)) c.in_default.is c.requires.way)
-
-pub returns-then-eq-clause-later : goal.returns-then-eq-clause-later
-returns-then-eq-clause-later c =
-    let s = c.args.side.now in
-    found_later (side_frame s) (side_lists s) s.player (walked s) c.args.now c.args.last c.requires.order c.requires.turns c.args.cell
-    c.args.row c.requires.row (has (goal.at.returns-then-eq-clause-later c).Start) c.args.tally.now c.find.new.tally c.requires.room c.find.ensures.found
-
-pub returns-in_default-clause-later : goal.returns-in_default-clause-later
-returns-in_default-clause-later c =
-    let s = c.args.side.now in
-    found_later (side_frame s) (side_lists s) s.player (walked s) c.args.now c.args.last c.requires.order c.requires.turns c.args.cell
-    c.args.row c.requires.row (has (goal.at.returns-in_default-clause-later c).Start) c.args.tally.now c.find.new.tally c.requires.room c.find.ensures.found
-
-pub returns-in-Some-clause-room : goal.returns-in-Some-clause-room
-returns-in-Some-clause-room c = c.feed.ensures.room
-
-pub feed-requires-clause-room : goal.feed-requires-clause-room
-feed-requires-clause-room c = c.find.ensures.room
-
-pub returns-in_default-clause-room : goal.returns-in_default-clause-room
-returns-in_default-clause-room c = c.find.ensures.room
-
-pub returns-then-eq-clause-room : goal.returns-then-eq-clause-room
-returns-then-eq-clause-room c = c.find.ensures.room
-
-pub returns-then-eq-clause-behind : goal.returns-then-eq-clause-behind
-returns-then-eq-clause-behind c =
-    let s = c.args.side.now in
-    found_behind (side_frame s) (side_lists s) s.player (walked s) c.args.now c.args.last c.requires.order c.requires.turns c.args.cell
-    c.args.row c.requires.row (has (goal.at.returns-then-eq-clause-behind c).Start) c.args.tally.now c.find.new.tally c.requires.room c.find.ensures.found
-
-pub returns-then-eq-clause-tells : goal.returns-then-eq-clause-tells
-returns-then-eq-clause-tells c = c.find.ensures.tells
-
-pub returns-in_default-clause-behind : goal.returns-in_default-clause-behind
-returns-in_default-clause-behind c =
-    let s = c.args.side.now in
-    found_behind (side_frame s) (side_lists s) s.player (walked s) c.args.now c.args.last c.requires.order c.requires.turns c.args.cell
-    c.args.row c.requires.row (has (goal.at.returns-in_default-clause-behind c).Start) c.args.tally.now c.find.new.tally c.requires.room c.find.ensures.found
-
-pub returns-in_default-clause-tells : goal.returns-in_default-clause-tells
-returns-in_default-clause-tells c = c.find.ensures.tells
+pub returns-in_default : goal.returns-in_default
+returns-in_default c = record {
+  room = c.find.ensures.room;
+  later = let s = c.args.side.now in
+      found_later (side_frame s) (side_lists s) s.player (walked s) c.args.now c.args.last c.requires.order c.requires.turns c.args.cell
+      c.args.row c.requires.row (has (goal.at.returns-in_default c).Start) c.args.tally.now c.find.new.tally c.requires.room c.find.ensures.found;
+  behind = let s = c.args.side.now in
+      found_behind (side_frame s) (side_lists s) s.player (walked s) c.args.now c.args.last c.requires.order c.requires.turns c.args.cell
+      c.args.row c.requires.row (has (goal.at.returns-in_default c).Start) c.args.tally.now c.find.new.tally c.requires.room c.find.ensures.found;
+  tells = c.find.ensures.tells;
+  kept = let s = c.args.side.now in
+      let f = side_frame s in
+      let q = at_point c.args.row.point in
+      nowhere_kept f (side_lists s) s.player (walked s) c.args.now c.args.last c.requires.order c.requires.turns c.args.cell
+      c.args.row c.requires.row (has (goal.at.returns-in_default c).Start) c.args.tally.now c.find.new.tally c.requires.room c.find.ensures.found
+      (subst (λ o. MatchOption o (HasNoWay f q) (LeadsTo f (side_lists s) q)) c.in_default.is c.requires.way);
+}
 
 pub find-requires-clause-room : goal.find-requires-clause-room
 find-requires-clause-room c = c.requires.room

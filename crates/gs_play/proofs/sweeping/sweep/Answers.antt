@@ -1,3 +1,4 @@
+use Rattle.std.proofs.lemmas.Grind.{common_steps}
 use Rattle.std.proofs.{Common.{◌≡◌, ◌-◌, ◌/◌, ◌<◌, length, sym, ap, ◌∙◌, arith, ⊎_elim}, lemmas.Bool.{cases_eq}, lemmas.List.{get_or_default}}
 use Rattle.std.specs.Prelude.{slice_index}
 use Rattle.gs_play.specs.Sides.{side_frame, side_lists}
@@ -55,14 +56,8 @@ sweep_block-requires-clause-room c = c.loop-block.invariant.room
 pub sweep_block-requires-clause-behind : goal.sweep_block-requires-clause-behind
 sweep_block-requires-clause-behind c = λ k lo hi. c.loop-block.invariant.none k (omega (arith, lo, c.loop-block-test.true)) hi
 
-pub returns-clause-room : goal.returns-clause-room
-returns-clause-room c = c.loop-block.invariant.room
-
-pub returns-clause-settled : goal.returns-clause-settled
-returns-clause-settled c = grind arith
-
-pub returns-clause-tells : goal.returns-clause-tells
-returns-clause-tells c = grind arith
+pub returns : goal.returns
+returns c = grind (arith, common_steps)
 
 pub sweep_block-requires-clause-block : goal.sweep_block-requires-clause-block
 sweep_block-requires-clause-block c = omega arith

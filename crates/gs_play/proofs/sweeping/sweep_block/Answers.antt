@@ -1,3 +1,4 @@
+use Rattle.std.proofs.lemmas.Grind.{common_steps}
 use Rattle.std.proofs.Common.{ℕ, ◌-◌, ◌<◌, ◌≤◌, List, length, ap, sym, subst, arith, Vec}
 use Rattle.std.specs.declared.alloc.Global.{Global}
 use Rattle.gs_best.specs.Tables.{moves_of}
@@ -19,28 +20,6 @@ row_of c =
 
 has : (c : After-index-row) → IsCellOf (side_frame c.args.side.now) (side_lists c.args.side.now) c.index-row.result.now.point (c.loop-left.left - 1)
 has c = subst (λ q. IsCellOf (side_frame c.args.side.now) (side_lists c.args.side.now) q (c.loop-left.left - 1)) (sym (row_of c).point) (point_is c)
-
-pub sweep_row-requires-clause-row : goal.sweep_row-requires-clause-row
-sweep_row-requires-clause-row c = (row_of (goal.at.sweep_row-requires-clause-row c).After-index-row).known
-
-pub sweep_row-requires-clause-below : goal.sweep_row-requires-clause-below
-sweep_row-requires-clause-below c =
-    let at = (goal.at.sweep_row-requires-clause-below c).After-index-row in
-    omega (arith, (has at).below, (row_of at).known.cell, c.loop-left-test.true)
-
-pub sweep_row-requires-clause-run : goal.sweep_row-requires-clause-run
-sweep_row-requires-clause-run c =
-    let at = (goal.at.sweep_row-requires-clause-run c).After-index-row in
-    omega (arith, (has at).from, (row_of at).known.cell, c.loop-left-test.true, c.max-first.ensures)
-
-pub past_due-left-requires-in-loop-left-clause-within : goal.past_due-left-requires-in-loop-left-clause-within
-past_due-left-requires-in-loop-left-clause-within c =
-    let at = (goal.at.past_due-left-requires-in-loop-left-clause-within c).After-index-row in
-    let run : c.max-first.result ≤ c.loop-left.left = omega (arith, (has at).from, (row_of at).known.cell, c.loop-left-test.true, c.max-first.ensures) in
-    let turns = ap (λ (xs : List ℕ). length xs) c.deref-in-loop-left.ensures.value in
-    let was = c.loop-left.invariant in
-    let is = c.sweep_row.ensures.room in
-    omega (arith, run, turns, was.few, was.room.totals, is.turns)
 
 pub loop-left-smaller : goal.loop-left-smaller
 loop-left-smaller c =
@@ -65,39 +44,8 @@ loop-left-preserved c =
       kept = λ pays rise few h. is.kept pays rise few (was.kept pays rise few h);
     }
 
-pub returns-clause-kept : goal.returns-clause-kept
-returns-clause-kept c = λ pays rise few h.
-    let f = side_frame c.args.side.now in
-    let lists = side_lists c.args.side.now in
-    let t = c.loop-left.tally in
-    let k = c.loop-left.invariant.kept pays rise few h in
-    record {
-      zeros = k.zeros;
-      slopes = k.slopes;
-      settled = subst (λ (v : Vec ℕ Global). AreSettledUntil f lists c.args.side.now.player (zeros_of f lists pays rise c.args.now t.totals.items)
-          (slopes_of f lists rise t.totals.items) (moves_of f lists t.picks.items) (moves_of f lists v.items) c.args.now) (sym c.renew.ensures.turns) k.settled;
-    }
-
 pub loop-left-init : goal.loop-left-init
 loop-left-init c = grind arith
-
-pub past_due-left-requires-in-loop-left-clause-behind : goal.past_due-left-requires-in-loop-left-clause-behind
-past_due-left-requires-in-loop-left-clause-behind c = grind arith
-
-pub sweep_row-requires-clause-room : goal.sweep_row-requires-clause-room
-sweep_row-requires-clause-room c = c.loop-left.invariant.room
-
-pub sweep_row-requires-clause-behind : goal.sweep_row-requires-clause-behind
-sweep_row-requires-clause-behind c = grind arith
-
-pub returns-clause-settled : goal.returns-clause-settled
-returns-clause-settled c = grind arith
-
-pub returns-clause-room : goal.returns-clause-room
-returns-clause-room c = grind arith
-
-pub past_due-left-requires-clause-behind : goal.past_due-left-requires-clause-behind
-past_due-left-requires-clause-behind c = grind arith
 
 pub index-row-requires : goal.index-row-requires
 index-row-requires c =
@@ -106,41 +54,59 @@ index-row-requires c =
     (omega (arith, c.loop-left.invariant.few, c.loop-left-test.true, c.loop-left.invariant.room.totals)) c.index.ensures in
     omega (arith, at.inside, s.plotted.many)
 
-pub returns-clause-tells : goal.returns-clause-tells
-returns-clause-tells c = c.loop-left.invariant.tells
+pub returns : goal.returns
+returns c = record {
+  room = grind arith;
+  settled = grind arith;
+  tells = c.loop-left.invariant.tells;
+  kept = λ pays rise few h.
+      let f = side_frame c.args.side.now in
+      let lists = side_lists c.args.side.now in
+      let t = c.loop-left.tally in
+      let k = c.loop-left.invariant.kept pays rise few h in
+      record {
+        zeros = k.zeros;
+        slopes = k.slopes;
+        settled = subst (λ (v : Vec ℕ Global). AreSettledUntil f lists c.args.side.now.player (zeros_of f lists pays rise c.args.now t.totals.items)
+            (slopes_of f lists rise t.totals.items) (moves_of f lists t.picks.items) (moves_of f lists v.items) c.args.now) (sym c.renew.ensures.turns) k.settled;
+      };
+}
 
 pub index-requires : goal.index-requires
 index-requires c = grind arith
 
-pub past_due-left-requires-in-loop-left-clause-order : goal.past_due-left-requires-in-loop-left-clause-order
-past_due-left-requires-in-loop-left-clause-order c = grind arith
+pub past_due-left-requires-in-loop-left : goal.past_due-left-requires-in-loop-left
+past_due-left-requires-in-loop-left c = record {
+  order = grind arith;
+  within = let at = (goal.at.past_due-left-requires-in-loop-left c).After-index-row in
+      let run : c.max-first.result ≤ c.loop-left.left = omega (arith, (has at).from, (row_of at).known.cell, c.loop-left-test.true, c.max-first.ensures) in
+      let turns = ap (λ (xs : List ℕ). length xs) c.deref-in-loop-left.ensures.value in
+      let was = c.loop-left.invariant in
+      let is = c.sweep_row.ensures.room in
+      omega (arith, run, turns, was.few, was.room.totals, is.turns);
+  behind = grind arith;
+}
 
-pub renew-requires-clause-dues : goal.renew-requires-clause-dues
-renew-requires-clause-dues c = grind arith
+pub renew-requires : goal.renew-requires
+renew-requires c = grind (arith, common_steps)
 
-pub renew-requires-clause-whole : goal.renew-requires-clause-whole
-renew-requires-clause-whole c = omega arith
+pub sweep_row-requires : goal.sweep_row-requires
+sweep_row-requires c = record {
+  row = (row_of (goal.at.sweep_row-requires c).After-index-row).known;
+  from = grind arith;
+  run = let at = (goal.at.sweep_row-requires c).After-index-row in
+      omega (arith, (has at).from, (row_of at).known.cell, c.loop-left-test.true, c.max-first.ensures);
+  below = let at = (goal.at.sweep_row-requires c).After-index-row in
+      omega (arith, (has at).below, (row_of at).known.cell, c.loop-left-test.true);
+  room = c.loop-left.invariant.room;
+  order = grind arith;
+  turns = grind arith;
+  behind = grind arith;
+}
 
-pub sweep_row-requires-clause-from : goal.sweep_row-requires-clause-from
-sweep_row-requires-clause-from c = grind arith
-
-pub sweep_row-requires-clause-turns : goal.sweep_row-requires-clause-turns
-sweep_row-requires-clause-turns c = grind arith
-
-pub sweep_row-requires-clause-order : goal.sweep_row-requires-clause-order
-sweep_row-requires-clause-order c = grind arith
-
-pub renew-requires-clause-block : goal.renew-requires-clause-block
-renew-requires-clause-block c = omega arith
-
-pub renew-requires-clause-order : goal.renew-requires-clause-order
-renew-requires-clause-order c = grind arith
-
-pub renew-requires-clause-within : goal.renew-requires-clause-within
-renew-requires-clause-within c = omega arith
-
-pub past_due-left-requires-clause-order : goal.past_due-left-requires-clause-order
-past_due-left-requires-clause-order c = grind arith
-
-pub past_due-left-requires-clause-within : goal.past_due-left-requires-clause-within
-past_due-left-requires-clause-within c = grind arith
+pub past_due-left-requires : goal.past_due-left-requires
+past_due-left-requires c = record {
+  order = grind arith;
+  within = grind arith;
+  behind = grind arith;
+}

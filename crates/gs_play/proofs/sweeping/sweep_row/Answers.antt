@@ -1,3 +1,4 @@
+use Rattle.std.proofs.lemmas.Grind.{common_steps}
 use Rattle.std.proofs.{Common.{◌≡◌, ◌-◌, ◌<◌, length, sym, ◌∙◌, subst, arith, ⊎_elim}, lemmas.Bool.{cases_eq}, lemmas.List.{get_or_default}}
 use Rattle.std.specs.Prelude.{slice_index}
 use Rattle.gs_play.specs.{Plots.{IsCellOf}, Sides.{side_frame, side_lists}}
@@ -37,8 +38,8 @@ loop-cell-preserved-then-index-now c =
       kept = λ pays rise few h. is.kept pays rise few (λ k lo hi. was.none k (omega (arith, lo, c.loop-cell-test.true)) hi) (was.kept pays rise few h);
     }
 
-pub settle-requires-clause-room : goal.settle-requires-clause-room
-settle-requires-clause-room c = c.loop-cell.invariant.room
+pub settle-requires : goal.settle-requires
+settle-requires c = grind (arith, common_steps)
 
 pub loop-cell-preserved : goal.loop-cell-preserved
 loop-cell-preserved c =
@@ -70,12 +71,3 @@ returns-clause-tells c = grind arith
 
 pub loop-cell-smaller : goal.loop-cell-smaller
 loop-cell-smaller c = grind arith
-
-pub settle-requires-clause-below : goal.settle-requires-clause-below
-settle-requires-clause-below c = omega arith
-
-pub settle-requires-clause-from : goal.settle-requires-clause-from
-settle-requires-clause-from c = grind arith
-
-pub settle-requires-clause-order : goal.settle-requires-clause-order
-settle-requires-clause-order c = grind arith

@@ -2,7 +2,7 @@ use Rattle.std.proofs.{Common.{◌≡◌, List, Option, None, length, get_or, re
 use Rattle.gs_game.specs.declared.positions.Step.{Step as StoredStep}
 use Rattle.gs_model.specs.{Frame.{end_count, point_count}, Positions.{at_end, at_point}}
 use Rattle.gs_seq.specs.Abstracts.{abstract_frame, lists_of}
-use Rattle.gs_play.specs.{Plots.{AreRowsBefore, AreSpans, AreMovesNoted, MatchMove, span_in}, declared.plot.Row.{Row}, declared.plot.Span.{Span}}
+use Rattle.gs_play.specs.{Plots.{AreRowsBefore, AreSpans, AreMovesNoted, MatchMove, span_in}, declared.plot.PointRow.{PointRow}, declared.plot.Span.{Span}}
 use Rattle.gs_play.proofs.{PlotLaws.{no_ends_in, ways_match, ways_none}, plot.Plot.of.Goals.{In_ok-spans, In_ok-to_ends, In_ok-to_points}}
 use Rattle.gs_play.proofs.plot.Plot.of.Goals as goal
 
@@ -15,16 +15,6 @@ no_points c = c.in_ok-to_points.ensures.items_if_clones_equal (λ y k. search ru
 
 no_ends : (c : In_ok-to_ends) → c.in_ok-to_ends.to_ends.items ≡ replicate c.end_total.result None
 no_ends c = c.in_ok-to_ends.ensures.items_if_clones_equal (λ y k. search rules)
-
-pub lay_all-requires-clause-none : goal.lay_all-requires-clause-none
-lay_all-requires-clause-none c =
-    let at = goal.at.lay_all-requires-clause-none c in
-    let f = abstract_frame c.args.form.now in
-    subst (λ (points : List (Option StoredStep)). AreMovesNoted f 0 0 points c.deref_mut-2.result.now)
-    (sym (c.deref_mut.ensures.value ∙ no_points at.In_ok-to_points))
-    (subst (λ (ends : List (Option StoredStep)). AreMovesNoted f 0 0 (replicate c.point_total-points.result None) ends)
-    (sym (c.deref_mut-2.ensures.value ∙ no_ends at.In_ok-to_ends))
-    (ways_none f c.point_total-points.result c.end_total.result))
 
 pub returns : goal.returns
 returns c =
@@ -73,18 +63,25 @@ widen_all-requires c =
       };
     }
 
-pub gates_of-requires-clause-rows : goal.gates_of-requires-clause-rows
-gates_of-requires-clause-rows c = subst (λ (rows : List Row). AreRowsBefore (abstract_frame c.args.form.now) (lists_of c.args.form.now) (point_count (abstract_frame c.args.form.now)) rows)
-    (sym c.deref.ensures.value) c.in_ok-rows.ensures.rows
+pub gates_of-requires : goal.gates_of-requires
+gates_of-requires c = record {
+  long_rows = ap (λ (rows : List PointRow). length rows) c.deref.ensures.value ∙ c.in_ok-rows.ensures.many;
+  rows = subst (λ (rows : List PointRow). AreRowsBefore (abstract_frame c.args.form.now) (lists_of c.args.form.now) (point_count (abstract_frame c.args.form.now)) rows)
+      (sym c.deref.ensures.value) c.in_ok-rows.ensures.rows;
+}
 
-pub gates_of-requires-clause-long_rows : goal.gates_of-requires-clause-long_rows
-gates_of-requires-clause-long_rows c = ap (λ (rows : List Row). length rows) c.deref.ensures.value ∙ c.in_ok-rows.ensures.many
-
-pub lay_all-requires-clause-points : goal.lay_all-requires-clause-points
-lay_all-requires-clause-points c = omega (arith, c.deref_mut.ensures.len, c.in_ok-to_points.ensures.len, c.point_total-points.ensures)
-
-pub lay_all-requires-clause-ends : goal.lay_all-requires-clause-ends
-lay_all-requires-clause-ends c = omega (arith, c.deref_mut-2.ensures.len, c.in_ok-to_ends.ensures.len, c.end_total.ensures)
+pub lay_all-requires : goal.lay_all-requires
+lay_all-requires c = record {
+  points = omega (arith, c.deref_mut.ensures.len, c.in_ok-to_points.ensures.len, c.point_total-points.ensures);
+  ends = omega (arith, c.deref_mut-2.ensures.len, c.in_ok-to_ends.ensures.len, c.end_total.ensures);
+  none = let at = goal.at.lay_all-requires c in
+      let f = abstract_frame c.args.form.now in
+      subst (λ (points : List (Option StoredStep)). AreMovesNoted f 0 0 points c.deref_mut-2.result.now)
+      (sym (c.deref_mut.ensures.value ∙ no_points at.In_ok-to_points))
+      (subst (λ (ends : List (Option StoredStep)). AreMovesNoted f 0 0 (replicate c.point_total-points.result None) ends)
+      (sym (c.deref_mut-2.ensures.value ∙ no_ends at.In_ok-to_ends))
+      (ways_none f c.point_total-points.result c.end_total.result));
+}
 
 pub overflow_cast-end_total : goal.overflow_cast-end_total
 overflow_cast-end_total c = grind arith

@@ -2,8 +2,8 @@ use Rattle.std.proofs.lemmas.Grind.{common_steps}
 use Rattle.std.proofs.{Common.{◌≡◌, ◌+◌, ◌^◌, ◌<◌, true, sym, subst, ap, ◌∙◌, arith, rules, to_z, of_z}, lemmas.Int.{ints, to_z-of_z}}
 use Rattle.std.specs.{Prelude.{ℤ, ◌-ℤ◌, ◌<ℤ◌, unsigned_abs}, Int.RustNames.{FitsSigned}, Int.Signed.{lt_z}}
 use mir.Syntax.{w128}
-use Rattle.gs_play.proofs.{Overtaking.{behind_by, slower_stays, within_by}, gap.behind.Goals.{After-above-gain}}
-use Rattle.gs_play.proofs.gap.behind.Goals as goal
+use Rattle.gs_play.proofs.{Overtaking.{behind_by, slower_stays, within_by}, lasting.behind.Goals.{After-above-gain}}
+use Rattle.gs_play.proofs.lasting.behind.Goals as goal
 
 below_from : (a b x y : ℤ) → x ≡ a → y ≡ b → lt_z x y ≡ true → a <ℤ b
 below_from a b x y e f t = omega (arith, ints, e, f, t)
@@ -47,8 +47,8 @@ returns-else-slope-rise-clause-behind c = slower_stays c.args.before c.args.valu
 pub returns-then-slope-rise-clause-some : goal.returns-then-slope-rise-clause-some
 returns-then-slope-rise-clause-some c = grind arith
 
-pub within_gap-requires-clause-gap : goal.within_gap-requires-clause-gap
-within_gap-requires-clause-gap c = grind (arith, common_steps)
+pub within_gap-requires : goal.within_gap-requires
+within_gap-requires c = grind (arith, common_steps)
 
 pub above-gain-requires : goal.above-gain-requires
 above-gain-requires c =
@@ -59,6 +59,3 @@ pub above-gap-requires : goal.above-gap-requires
 above-gap-requires c =
     subst (λ x. unsigned_abs (x -ℤ to_z w128 (of_z w128 c.args.worth)) < 2 ^ 120) (sym (to_z-of_z w128 c.args.value c.ranges.value))
     (subst (λ x. unsigned_abs (c.args.value -ℤ x) < 2 ^ 120) (sym (to_z-of_z w128 c.args.worth c.ranges.worth)) c.requires.gap)
-
-pub within_gap-requires-clause-gain : goal.within_gap-requires-clause-gain
-within_gap-requires-clause-gain c = grind (arith, common_steps)

@@ -1,6 +1,6 @@
 use Rattle.std.proofs.Common.{◌≡◌, Bool, sym, ap, ◌∙◌, arith}
-use Rattle.gs_play.proofs.{Overtaking.{past_quotient, turns_within, within_quotient}, gap.within_gap.Goals.{After-from, then-before, else-before}}
-use Rattle.gs_play.proofs.gap.within_gap.Goals as goal
+use Rattle.gs_play.proofs.{Overtaking.{past_quotient, turns_within, within_quotient}, lasting.within_gap.Goals.{After-from, then-before, else-before}}
+use Rattle.gs_play.proofs.lasting.within_gap.Goals as goal
 
 most_is : (c : After-from) → c.if-before.most ≡ turns_within c.args.before c.args.gap c.args.gain
 most_is c = elim c.if-before.branch [

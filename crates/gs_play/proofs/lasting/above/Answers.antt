@@ -2,7 +2,7 @@ use Rattle.std.proofs.Common.{rules}
 use Rattle.std.proofs.{Common.{◌≡◌, ◌^◌, ◌<◌, ap, ◌∙◌, of_z, to_z, to_z-of_z, arith}, lemmas.Int.{fits_signed_from_abs}}
 use Rattle.std.specs.{Prelude.{ℤ, ◌-ℤ◌, unsigned_abs}, Int.RustNames.{FitsSigned}}
 use mir.Syntax.{w128}
-use Rattle.gs_play.proofs.gap.above.Goals as goal
+use Rattle.gs_play.proofs.lasting.above.Goals as goal
 
 -- numbers that are read, and a small difference, stay what they are
 read : (x y : ℤ) → FitsSigned w128 x → FitsSigned w128 y → unsigned_abs (x -ℤ y) < 2 ^ 120
