@@ -3,17 +3,25 @@ use Rattle.std.proofs.Common.{◌≡◌, ℕ, List, Result, Ok, Err, refl, sym, 
 use Rattle.std.specs.Result.{IsErrAnd}
 use Rattle.serde_json.specs.{Data.{Data}, Find.{as_str}}
 use Rattle.gs_json.specs.{Shapes.{list_in, whole_in}, Steps.{◌>>=◌}}
-use Rattle.gs_certificate.specs.{Faults.{FailsSo, Gives}, declared.text_fault.CertTextFault.{CertTextFault}}
+use Rattle.gs_certificate.specs.{Faults.{FailsSo, MayGive}, declared.text_fault.CertTextError.{CertTextError}, declared.text_fault.CertTextFault.{CertTextFault}}
+use Rattle.gs_certificate.specs.declared.text_fault.CertTextError.TheVariants as errors
 use Rattle.gs_certificate.specs.Reading.{CertificateTexts, SideTexts, named, no_other_key, side_at, texts_at, well_shaped}
 use Rattle.gs_certificate.proofs.Steps.{fails_so}
 
--- a fault that is handed on is the fault of the whole reading, where a step has it
-pub handed_on : {X Y Z : Type 0} (view : X → Z) (answer : Result X CertTextFault) (why : CertTextFault) (step : Result Y CertTextFault)
-    (next : Y → Result Z CertTextFault) (read : Result Z CertTextFault) → IsErrAnd answer (λ e. e ≡ why) → FailsSo why (λ a. step ≡ a)
-    → read ≡ step >>= next → Gives view answer read
-handed_on view (Ok x) why step next read is h at = absurd is
-handed_on view (Err e) why step next read is h at = subst (λ e. FailsSo e (λ a. read ≡ a)) (sym is)
-    (fails_so why (λ a. step ≡ a) (λ a. read ≡ a) h (λ w so. at ∙ ap (λ s. s >>= next) so))
+-- a fault of a step that is handed on as an error is the fault of the whole reading
+pub handed_up : {X Y Z : Type 0} (view : X → Z) (answer : Result X CertTextError) (why : CertTextFault) (step : Result Y CertTextFault)
+    (next : Y → Result Z CertTextFault) (read : Result Z CertTextFault) → IsErrAnd answer (λ e. e ≡ errors.Fault why) → step ≡ Err why
+    → read ≡ step >>= next → MayGive view answer read
+handed_up view (Ok x) why step next read is h at = absurd is
+handed_up view (Err e) why step next read is h at = subst (λ e. FailsSo e (λ a. read ≡ a)) (sym is) (at ∙ ap (λ s. s >>= next) h)
+
+-- an error of a step that is handed on is the error of the whole reading
+pub handed_over : {X Y Z : Type 0} (view : X → Z) (answer : Result X CertTextError) (error : CertTextError) (step : Result Y CertTextFault)
+    (next : Y → Result Z CertTextFault) (read : Result Z CertTextFault) → IsErrAnd answer (λ e. e ≡ error) → FailsSo error (λ a. step ≡ a)
+    → read ≡ step >>= next → MayGive view answer read
+handed_over view (Ok x) error step next read is h at = absurd is
+handed_over view (Err e) error step next read is h at = subst (λ e. FailsSo e (λ a. read ≡ a)) (sym is)
+    (fails_so error (λ a. step ≡ a) (λ a. read ≡ a) h (λ w so. at ∙ ap (λ s. s >>= next) so))
 
 -- ---- a player's texts
 

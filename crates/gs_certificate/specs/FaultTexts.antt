@@ -20,4 +20,3 @@ cert_text_fault_text (text.Version number) = codes "version " ++ decimal number
 cert_text_fault_text (text.Value player at) = codes "value of player " ++ decimal player ++ codes " at " ++ decimal at
 cert_text_fault_text (text.Fraction player why) = codes "bound of player " ++ decimal player ++ codes " " ++ fraction_fault_text why
 cert_text_fault_text (text.NotCanonical at) = codes "not canonical at " ++ decimal at
-cert_text_fault_text text.Memory = codes "out of memory"

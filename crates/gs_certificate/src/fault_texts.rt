@@ -72,7 +72,6 @@ pub fn cert_text_fault_text(alloc: Global, fault: &CertTextFault) -> Result<Vec<
         CertTextFault::Value { player, at } => value_text(alloc, *player, *at),
         CertTextFault::Fraction { player, fault } => fraction_fault(alloc, *player, fault),
         CertTextFault::NotCanonical { at } => numbered(alloc, "not canonical at ", *at),
-        CertTextFault::Memory => String::from_str(alloc, "out of memory"),
     };
     Ok(text?.into_bytes())
 }

@@ -14,18 +14,16 @@ use crate::numerals::number_of as wide_number;
 use gs_frac::{Fraction, is_minus_zero, sign};
 use std::alloc::{AllocError, Global};
 
-/// Why a certificate was not read straight.
+/// Why a certificate is not read straight: memory ran out, or the bytes are not the text of bounds and numbers.
 #[derive(Clone, Copy)]
-pub(crate) enum Stop {
-    /// The bytes are not the text of bounds and numbers.
-    Other,
-    /// Memory ran out.
+pub(crate) enum StraightError {
     Memory,
+    Fault,
 }
 
-impl<E: Into<AllocError> + Drop> From<E> for Stop {
-    fn from(_: E) -> Stop {
-        Stop::Memory
+impl<E: Into<AllocError> + Drop> From<E> for StraightError {
+    fn from(_: E) -> StraightError {
+        StraightError::Memory
     }
 }
 
@@ -38,17 +36,17 @@ struct Side<'b> {
 }
 
 /// Returns the bytes after the prefix `front`. It is an error if the bytes do not begin with it.
-fn behind<'b>(bytes: &'b [u8], front: &[u8]) -> Result<&'b [u8], Stop>
+fn behind<'b>(bytes: &'b [u8], front: &[u8]) -> Result<&'b [u8], StraightError>
     ensures { IfOk result (λ rest. bytes.now ≡ front.now ++ rest.now) }
 {
     match bytes.strip_prefix(front) {
         Some(rest) => Ok(rest),
-        None => Err(Stop::Other),
+        None => Err(StraightError::Fault),
     }
 }
 
 /// Returns the bytes before the first quote, and the bytes from the quote on.
-fn to_quote(bytes: &[u8]) -> Result<(&[u8], &[u8]), Stop>
+fn to_quote(bytes: &[u8]) -> Result<(&[u8], &[u8]), StraightError>
     ensures { IfOk result (λ p. bytes.now ≡ p.0.now ++ p.1.now) }
 {
     for (i, b) in bytes.iter().enumerate() {
@@ -56,7 +54,7 @@ fn to_quote(bytes: &[u8]) -> Result<(&[u8], &[u8]), Stop>
             return Ok((&bytes[..i], &bytes[i..]));
         }
     }
-    Err(Stop::Other)
+    Err(StraightError::Fault)
 }
 
 /// Returns the number that the first digits represent, and how many digits these are. It stops at the first other byte, or once the number is 10^17 or more.
@@ -118,19 +116,19 @@ fn narrow_in(bytes: &[u8]) -> Option<(i128, &[u8])>
 }
 
 /// Returns a number of any width before the first quote, and the bytes from the quote on.
-fn wide_in(bytes: &[u8]) -> Result<(i128, &[u8]), Stop>
+fn wide_in(bytes: &[u8]) -> Result<(i128, &[u8]), StraightError>
     ensures text { IfOk result (λ p. bytes.now ≡ signed_decimal p.0 ++ p.1.now) }
     ensures small { IfOk result (λ p. unsigned_abs p.0 < 2 ^ 90) }
 {
     let (text, rest) = to_quote(bytes)?;
     match wide_number(text) {
         Some(number) => Ok((number, rest)),
-        None => Err(Stop::Other),
+        None => Err(StraightError::Fault),
     }
 }
 
 /// Returns the number before the first quote, and the bytes from the quote on.
-fn number_in(bytes: &[u8]) -> Result<(i128, &[u8]), Stop>
+fn number_in(bytes: &[u8]) -> Result<(i128, &[u8]), StraightError>
     ensures text { IfOk result (λ p. bytes.now ≡ signed_decimal p.0 ++ p.1.now) }
     ensures small { IfOk result (λ p. unsigned_abs p.0 < 2 ^ 90) }
 {
@@ -141,7 +139,7 @@ fn number_in(bytes: &[u8]) -> Result<(i128, &[u8]), Stop>
 }
 
 /// Returns the numbers of an array, from the bytes after its first quote, and the bytes after the array.
-fn numbers_in<'b>(alloc: Global, bytes: &'b [u8]) -> Result<(Vec<i128>, &'b [u8]), Stop>
+fn numbers_in<'b>(alloc: Global, bytes: &'b [u8]) -> Result<(Vec<i128>, &'b [u8]), StraightError>
     ensures text { IfOk result (λ p. StandsFor bytes.now p.0.items p.1.now) }
     ensures small { IfOk result (λ p. All (λ z. unsigned_abs z < 2 ^ 90) p.0.items) }
 {
@@ -156,25 +154,25 @@ fn numbers_in<'b>(alloc: Global, bytes: &'b [u8]) -> Result<(Vec<i128>, &'b [u8]
             Err(_) => return Ok((numbers, behind(rest, b"\"]")?)),
         }
     }
-    Err(Stop::Other)
+    Err(StraightError::Fault)
 }
 
 /// Returns the bound before the first quote, and the bytes from the quote on.
-fn bound_in(bytes: &[u8]) -> Result<(Fraction, &[u8]), Stop>
+fn bound_in(bytes: &[u8]) -> Result<(Fraction, &[u8]), StraightError>
     ensures { IfOk result (λ p. bytes.now ≡ fraction_text p.0.num p.0.den ++ p.1.now) }
 {
     let (text, rest) = to_quote(bytes)?;
     match std::str::from_utf8(text) {
         Ok(text) => match Fraction::parse(text) {
             Ok(bound) => Ok((bound, rest)),
-            Err(_) => Err(Stop::Other),
+            Err(_) => Err(StraightError::Fault),
         },
-        Err(_) => Err(Stop::Other),
+        Err(_) => Err(StraightError::Fault),
     }
 }
 
 /// Returns a player's part, and the bytes after it.
-fn side_in<'b>(alloc: Global, bytes: &'b [u8]) -> Result<Side<'b>, Stop>
+fn side_in<'b>(alloc: Global, bytes: &'b [u8]) -> Result<Side<'b>, StraightError>
     ensures text { IfOk result (λ s. bytes.now ≡ compact_text (side_data (record { bound = fraction_parts s.bound; values = s.values.items }))
         ++ s.rest.now) }
     ensures small { IfOk result (λ s. All (λ z. unsigned_abs z < 2 ^ 90) s.values.items) }
@@ -192,7 +190,7 @@ fn side_in<'b>(alloc: Global, bytes: &'b [u8]) -> Result<Side<'b>, Stop>
 }
 
 /// Returns the certificate whose text the bytes are.
-pub(crate) fn straight(alloc: Global, bytes: &[u8]) -> Result<Certificate, Stop>
+pub(crate) fn straight(alloc: Global, bytes: &[u8]) -> Result<Certificate, StraightError>
     ensures text { IfOk result (λ c. bytes.now ≡ text_of (certificate_view c)) }
     ensures small { IfOk result AreSmall }
 {
@@ -202,7 +200,7 @@ pub(crate) fn straight(alloc: Global, bytes: &[u8]) -> Result<Certificate, Stop>
     let two = side_in(alloc, rest)?;
     let rest = behind(two.rest, b",\"version\":1}\n")?;
     if !rest.is_empty() {
-        return Err(Stop::Other);
+        return Err(StraightError::Fault);
     }
     Ok(Certificate {
         bound1: one.bound,

@@ -1,3 +1,4 @@
+use Rattle.std.proofs.lemmas.Grind.{common_steps}
 use Rattle.std.specs.Prelude.{unwrap_or}
 use Rattle.std.proofs.Common.{Bor, subst, ap, arith, refl}
 use Rattle.gs_seq.specs.{Abstracts.{abstract_frame, lists_of}, Plans.{class_plan}}
@@ -8,8 +9,8 @@ use Rattle.gs_certificate.proofs.checking.certified_payoff.Goals as goal
 pub returns-clause-bounds : goal.returns-clause-bounds
 returns-clause-bounds c = c.in-None.ensures.bounds refl
 
-pub plans_pay-requires-clause-x : goal.plans_pay-requires-clause-x
-plans_pay-requires-clause-x c = c.requires.x
+pub plans_pay-requires : goal.plans_pay-requires
+plans_pay-requires c = grind (arith, common_steps)
 
 pub returns-clause-paid : goal.returns-clause-paid
 returns-clause-paid c = read_back c.plans_pay.result _ (record { sfits = c.plans_pay.type_inv }) c.plans_pay.ensures
@@ -45,17 +46,8 @@ invariant_of-second c = record {
   plan = c.requires.x;
 }
 
-pub returns-in-Some-clause-exact : goal.returns-in-Some-clause-exact
-returns-in-Some-clause-exact c = grind arith
+pub returns-in-Some : goal.returns-in-Some
+returns-in-Some c = grind (arith, common_steps)
 
 pub invariant_of-first : goal.invariant_of-first
 invariant_of-first c = grind arith
-
-pub plans_pay-requires-clause-first : goal.plans_pay-requires-clause-first
-plans_pay-requires-clause-first c = omega arith
-
-pub returns-in-Some-clause-paid : goal.returns-in-Some-clause-paid
-returns-in-Some-clause-paid c = omega arith
-
-pub returns-in-Some-clause-bounds : goal.returns-in-Some-clause-bounds
-returns-in-Some-clause-bounds c = omega arith

@@ -1,3 +1,4 @@
+use Rattle.std.proofs.lemmas.Grind.{common_steps}
 use Rattle.std.proofs.Common.{◌≡◌, ◌+◌, ap, ◌∙◌, arith, of_z, to_z}
 use Rattle.std.specs.{Int.{w128}, List.{range_with_len}, Prelude.{◌+ℤ◌}}
 use Rattle.gs_model.specs.{Classes.{IsClass, class_count}, Frame.{round_of}, Pairs.{class_number}, Positions.{at_end}, Sums.{sum_z}}
@@ -78,14 +79,8 @@ returns c =
     omega (arith, c.loop-before-test.false, c.loop-before.auto.before-end, count_is (goal.at.returns c).After-class_total-before-end) in
     c.loop-before.invariant ∙ ap (λ n. sum_z (class_term f ls (class_plan f ls c.args.x.now) (class_plan f ls d.other.now) c.args.end) (range_with_len 1 n)) all
 
-pub kept_at-requires-clause-ends : goal.kept_at-requires-clause-ends
-kept_at-requires-clause-ends c = grind arith
-
-pub kept_at-requires-clause-class : goal.kept_at-requires-clause-class
-kept_at-requires-clause-class c = grind arith
+pub kept_at-requires : goal.kept_at-requires
+kept_at-requires c = grind (arith, common_steps)
 
 pub number_at_end-number-requires-clause-plan : goal.number_at_end-number-requires-clause-plan
 number_at_end-number-requires-clause-plan c = grind arith
-
-pub kept_at-requires-clause-end : goal.kept_at-requires-clause-end
-kept_at-requires-clause-end c = omega arith

@@ -106,8 +106,5 @@ returns-in-End-clause-value c =
     read_back c.paid_at.result _ (record { sfits = c.paid_at.type_inv }) c.paid_at.ensures
     ∙ ap (λ t. claimed_totals k t c.args.class) (sym (ap target_of c.in-End.is))
 
-pub paid_at-requires-clause-end : goal.paid_at-requires-clause-end
-paid_at-requires-clause-end c = grind arith
-
-pub paid_at-requires-clause-class : goal.paid_at-requires-clause-class
-paid_at-requires-clause-class c = grind arith
+pub paid_at-requires : goal.paid_at-requires
+paid_at-requires c = grind (arith, common_steps)
