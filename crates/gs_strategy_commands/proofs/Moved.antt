@@ -1,11 +1,9 @@
 -- What holds of a game in sequence form holds of the strategy that it was made of; and what is told is an answer.
-use Rattle.std.proofs.{Common.{◌≡◌, ◌≢◌, ℤ, Result, Ok, Err, refl, sym, subst}, lemmas.Result.{IfOk-at_ok}}
+use Rattle.std.proofs.{Common.{◌≡◌, ℤ, Result, Ok, Err, sym, subst}, lemmas.Result.{IfOk-at_ok}}
 use Rattle.std.specs.Prelude.{IfOk, MatchResult}
-use Rattle.gs_certificate.specs.{Checks.{IsFault, IsSound, IsStop}, Faults.{FailsSo}, Promises.{BoundsAll}, Reading.{CertificateResult}}
-use Rattle.gs_certificate.specs.{declared.certificate.Certificate.{Certificate}, declared.fault.CertFault.{CertFault}, declared.stop.CertStop.{CertStop}}
-use Rattle.gs_certificate.specs.declared.stop.CertStop.TheVariants as stop
-use Rattle.gs_certificate.specs.declared.text_fault.CertTextFault.{CertTextFault}
-use Rattle.gs_certificate.specs.declared.text_fault.CertTextFault.TheVariants as fault
+use Rattle.gs_certificate.specs.{Checks.{IsFault, IsSound, IsStop}, Promises.{BoundsAll}}
+use Rattle.gs_certificate.specs.{declared.certificate.Certificate.{Certificate}, declared.fault.CertFault.{CertFault}, declared.stop.CertError.{CertError}}
+use Rattle.gs_certificate.specs.declared.stop.CertError.TheVariants as stop
 use Rattle.gs_strategy_commands.specs.{Held.{HoldsStrategy}, Troubles.{SaysTooLarge}, Verifying.{SaysChecked}}
 use Rattle.gs_lossless.specs.declared.checking.Lossless.{Lossless}
 use Rattle.gs_model.specs.{Classes.{ClassLists}, Frame.{Frame}}
@@ -42,17 +40,17 @@ abbrev BoundsIn : Stored → Certificate → Frame → ClassLists → Type 0
 BoundsIn s k f n = BoundsAll f (lifted f n s.one) (lifted f n s.two) k
 
 module _ (l : Lossless) (s : Stored) (k : Certificate) (held : HoldsStrategy l s) where
-  abbrev Exact : Result ℤ CertStop → Type 0
+  abbrev Exact : Result ℤ CertError → Type 0
   Exact r = let f = frame_in l.signals.now.game.now in let n = l.classes.now.lists in
       MatchResult r (λ _. SoundIn s k f n) (IsStop f n (lifted f n s.one) (lifted f n s.two) k)
 
-  pub sound_moved : (r : Result ℤ CertStop) (paid : ℤ) → r ≡ Ok paid → Exact r → SoundIn s k (frame_in s.game) s.classes.lists
+  pub sound_moved : (r : Result ℤ CertError) (paid : ℤ) → r ≡ Ok paid → Exact r → SoundIn s k (frame_in s.game) s.classes.lists
   sound_moved r paid is h = moved (SoundIn s k) l s held (subst Exact is h)
 
-  pub fault_moved : (r : Result ℤ CertStop) (why : CertFault) → r ≡ Err (stop.Fault why) → Exact r → FaultIn s k why (frame_in s.game) s.classes.lists
+  pub fault_moved : (r : Result ℤ CertError) (why : CertFault) → r ≡ Err (stop.Fault why) → Exact r → FaultIn s k why (frame_in s.game) s.classes.lists
   fault_moved r why is h = moved (FaultIn s k why) l s held (subst Exact is h)
 
-  pub bounds_moved : (r : Result ℤ CertStop) (paid : ℤ) → r ≡ Ok paid → IfOk r (λ _. BoundsIn s k (frame_in l.signals.now.game.now) l.classes.now.lists)
+  pub bounds_moved : (r : Result ℤ CertError) (paid : ℤ) → r ≡ Ok paid → IfOk r (λ _. BoundsIn s k (frame_in l.signals.now.game.now) l.classes.now.lists)
       → BoundsIn s k (frame_in s.game) s.classes.lists
   bounds_moved r paid is h = moved (BoundsIn s k) l s held (IfOk-at_ok (λ (paid : ℤ). BoundsIn s k (frame_in l.signals.now.game.now) l.classes.now.lists) is
       h)
@@ -63,13 +61,3 @@ unlike_said s c = stops_more (SaysUnlike s.game s.classes) (SaysChecked s c) (λ
 
 pub large_said : (s : Strategy) (c : Certificate) (e : Stop) → StopsFor (SaysTooLarge s) e → StopsFor (SaysChecked s c) e
 large_said s c = stops_more (SaysTooLarge s) (SaysChecked s c) (λ r h. subst (λ (x : Reply). SaysChecked s c x) (sym h.2) h.1)
-
--- the fault of a certificate's text, where memory did not run out
-pub fault_is : (told : CertTextFault) (says : CertificateResult → Type 0) → told ≢ fault.Memory → FailsSo told says → says (Err told)
-fault_is fault.NotJson says some h = h
-fault_is fault.Shape says some h = h
-fault_is (fault.Version number) says some h = h
-fault_is (fault.Value player at) says some h = h
-fault_is (fault.Fraction player why) says some h = h
-fault_is (fault.NotCanonical at) says some h = h
-fault_is fault.Memory says some h = absurd (some refl)

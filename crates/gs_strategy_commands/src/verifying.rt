@@ -9,7 +9,7 @@ ghost use Rattle.gs_strategy.specs.Views.{parts_of, stored_view};
 use crate::checks::{form_of, lossless_of};
 use crate::value::value_of;
 use gs_certificate::{
-    CertStop, CertTextFault, Certificate, cert_fault_text, cert_text_fault_text, certified_payoff,
+    CertError, CertTextError, Certificate, cert_fault_text, cert_text_fault_text, certified_payoff,
     read_certificate,
 };
 use gs_frac::{Fraction, push_line};
@@ -37,8 +37,8 @@ fn sound(alloc: Global, stored: &Stored, form: &Abstract, c: &Certificate) -> Re
     ensures { Answers (SaysChecked (stored_view stored.now) c.now) result }
 {
     match certified_payoff(alloc, form, &stored.one, &stored.two, c) {
-        Err(CertStop::Memory) => Err(Stop::Memory),
-        Err(CertStop::Fault(fault)) => {
+        Err(CertError::Memory) => Err(Stop::Memory),
+        Err(CertError::Fault(fault)) => {
             let why = cert_fault_text(alloc, &fault)?;
             Err(Stop::Refused(Refusal::BadCertificate(why)))
         }
@@ -76,9 +76,10 @@ pub(crate) fn verified(alloc: Global, stored: &Stored, bytes: &[u8]) -> Result<V
 {
     match read_certificate(alloc, bytes) {
         Ok(c) => checked(alloc, stored, &c),
-        Err(CertTextFault::Memory) => Err(Stop::Memory),
-        Err(fault) => Err(Stop::Refused(Refusal::BadCertificate(cert_text_fault_text(
-            alloc, &fault,
-        )?))),
+        Err(CertTextError::Memory) => Err(Stop::Memory),
+        Err(CertTextError::Fault(fault)) => {
+            let told = cert_text_fault_text(alloc, &fault)?;
+            Err(Stop::Refused(Refusal::BadCertificate(told)))
+        }
     }
 }

@@ -1,10 +1,9 @@
-use Rattle.std.proofs.Common.{◌≢◌, ap, inl, inr, refl, rules, sym}
-use Rattle.gs_certificate.specs.{FaultTexts.{cert_text_fault_text}, Reading.{ReadsCertificate}, declared.text_fault.CertTextFault.TheVariants.{Memory}}
+use Rattle.std.proofs.Common.{ap, inl, inr, refl, sym}
+use Rattle.gs_certificate.specs.FaultTexts.{cert_text_fault_text}
 use Rattle.gs_reply.proofs.Refused.{answers_more}
 use Rattle.gs_reply.specs.Refusals.{Bad_certificate}
 use Rattle.gs_strategy.specs.Views.{stored_view}
 use Rattle.gs_strategy_commands.specs.Verifying.{SaysChecked, SaysVerified}
-use Rattle.gs_strategy_commands.proofs.Moved.{fault_is}
 use Rattle.gs_strategy_commands.proofs.verifying.verified.Goals as goal
 
 pub returns-in-Ok : goal.returns-in-Ok
@@ -14,11 +13,10 @@ returns-in-Ok c =
     answers_more (SaysChecked s k) (SaysVerified c.args.bytes.now s)
     (λ r said. inr (k, record { text = c.in-Ok.ensures.found; small = c.in-Ok.ensures.small }, said)) c.checked.result c.checked.ensures
 
-pub returns-in_ok-cert_text_fault_text-in-Err : goal.returns-in_ok-cert_text_fault_text-in-Err
-returns-in_ok-cert_text_fault_text-in-Err c =
-    let why = c.in-Err.fault in
-    let told : why ≢ Memory = search rules in (
+pub returns-in_ok-told-in-Err-Fault : goal.returns-in_ok-told-in-Err-Fault
+returns-in_ok-told-in-Err-Fault c =
+    let why = c.in-Err-Fault.fault in (
       Bad_certificate (cert_text_fault_text why),
-      inl (record { why = why; reads = fault_is why (ReadsCertificate c.args.bytes.now) told c.in-Err.ensures.exact; told = refl }),
-      ap Bad_certificate (sym c.in_ok-cert_text_fault_text-in-Err.ensures),
+      inl (record { why = why; reads = rw c.in-Err-Fault.field-0-is at c.in-Err-Fault.ensures.exact; told = refl }),
+      ap Bad_certificate (sym c.in_ok-told-in-Err-Fault.ensures),
     )
