@@ -40,17 +40,14 @@ returns-then-col-ones-clause-number c = λ f lists u.
     kept_64 c.negated.result c.negated.ensures.narrow ∙ c.negated.ensures.number ∙ ap neg_ℤ read
     ∙ sym (ap (λ n. form_number f lists (n + t) s) u.size.one_rows ∙ payoff_number f lists t s s_in))
 
-pub returns-then-col-first_slack-clause-number : goal.returns-then-col-first_slack-clause-number
-returns-then-col-first_slack-clause-number c = grind (arith, common_steps)
+pub returns-then-col-first_slack : goal.returns-then-col-first_slack
+returns-then-col-first_slack c = grind (arith, common_steps)
 
 pub returns-else-col-first_slack-clause-number : goal.returns-else-col-first_slack-clause-number
 returns-else-col-first_slack-clause-number c = grind (arith, common_steps)
 
 pub returns-else-col-first_slack-clause-narrow : goal.returns-else-col-first_slack-clause-narrow
 returns-else-col-first_slack-clause-narrow c = narrow_passed c.one_or_none.result c.one_or_none.ensures.narrow
-
-pub returns-then-col-first_slack-clause-narrow : goal.returns-then-col-first_slack-clause-narrow
-returns-then-col-first_slack-clause-narrow c = grind arith
 
 pub overflow_add-col : goal.overflow_add-col
 overflow_add-col c = grind arith
