@@ -4,26 +4,25 @@ ghost use Rattle.gs_reply.specs.Replies.{Answers, StopsFor};
 ghost use Rattle.gs_simplex.specs.{declared.program.Program.{Program}, Answer.{IsStop}};
 ghost use Rattle.gs_seq.specs.Abstracts.{abstract_frame, lists_of};
 ghost use Rattle.gs_game_commands.specs.{Paths.{ShowsPath}, Settling.{file_game_in}};
-ghost use Rattle.gs_solve.specs.{Solutions.{IsGamePath, IsProgramStop, most_pivots}, Stops.{IsMet}};
+ghost use Rattle.gs_solve.specs.{Solutions.{IsGamePath, IsProgramError, most_pivots}, Stops.{IsMet}};
 
 use crate::lines::path_text;
 use gs_reply::{Limit, Overflow, Refusal, Stop};
 use gs_seq::Abstract;
 use gs_simplex::{Stop as PathStop, sparse};
-use gs_solve::{MOST_PIVOTS, SolveStop, sparse_program};
+use gs_solve::{MOST_PIVOTS, SolveError, SolveFault, sparse_program};
 use std::alloc::Global;
 
 // Returns why a game's linear program is not made.
-fn unmade(form: &Abstract, stop: SolveStop) -> Stop
-    requires { IsProgramStop (abstract_frame form.now) (lists_of form.now) stop }
+fn unmade(form: &Abstract, error: SolveError) -> Stop
+    requires { IsProgramError (abstract_frame form.now) (lists_of form.now) error }
     ensures { StopsFor (ShowsPath (file_game_in form.now) (lists_of form.now)) result }
 {
-    match stop {
-        SolveStop::TableTooLarge { count } => Stop::Refused(Refusal::TooLarge(Limit::TableNumbers {
-            count,
-        })),
-        SolveStop::Wide { .. } | SolveStop::Pivots | SolveStop::Total { .. } | SolveStop::Memory =>
-            Stop::Memory,
+    match error {
+        SolveError::Fault(SolveFault::TableTooLarge { count }) => {
+            Stop::Refused(Refusal::TooLarge(Limit::TableNumbers { count }))
+        }
+        _ => Stop::Memory,
     }
 }
 
@@ -58,7 +57,7 @@ pub(crate) fn shown(alloc: Global, form: &Abstract) -> Result<Vec<u8>, Stop>
 {
     let (p, opening) = match sparse_program(alloc, form) {
         Ok(made) => made,
-        Err(stop) => return Err(unmade(form, stop)),
+        Err(error) => return Err(unmade(form, error)),
     };
     match p.path(alloc, &opening, MOST_PIVOTS) {
         Ok(path) => Ok(path_text(alloc, &path)?.into_bytes()),
