@@ -85,3 +85,15 @@ pub record IsTurned (old new : ℕ → ℤ) (c width : ℕ) : Type 0 where
 pub record IsLeadOf (old new : ℕ → ℤ) (c width : ℕ) : Type 0 where
   pub own : pos 0 ≤ℤ new c
   pub divided : (IsDivided width old new) ⊎ IsDivided width (λ j. neg_ℤ (old j)) new
+
+-- a narrow number, and a number below 2^62 that divides it
+pub record IsNarrowMultiple (number : ℤ) (by : ℕ) : Type 0 where
+  pub some : 0 < by
+  pub small : by < 2 ^ 62
+  pub narrow : IsNarrow number
+  pub divides : by ∣ unsigned_abs number
+
+-- their quotient
+pub record IsNarrowQuotient (number : ℤ) (by : ℕ) (quotient : ℤ) : Type 0 where
+  pub value : number ≡ pos by *ℤ quotient
+  pub narrow : IsNarrow quotient

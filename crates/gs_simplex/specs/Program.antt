@@ -1,5 +1,5 @@
 -- A linear program in whole numbers, lists of basic pairs, and the rows that a list determines.
-use Rattle.std.specs.Prelude.{◌≡◌, ◌≢◌, ℕ, ◌+◌, ◌<◌, ◌≤◌, false, List, [], length, take, slice_index_or, ℤ, pos, ◌*ℤ◌, ◌<ℤ◌, ◌≤ℤ◌, IsTrue, Contains}
+use Rattle.std.specs.Prelude.{◌≡◌, ◌≢◌, ℕ, ◌+◌, ◌<◌, ◌≤◌, ◌^◌, false, List, [], length, take, slice_index_or, ℤ, pos, ◌*ℤ◌, ◌<ℤ◌, ◌≤ℤ◌, IsTrue, Contains}
 use Rattle.gs_simplex.specs.{declared.program.Program.{Program}, Sums.{sum_to}, Rows.{IsUnlistedRow, IsListedRow, IsAimRow, IsPrimitive, IsRegular, IsNarrow}}
 
 -- the rows as lists, each with its right side at the end
@@ -93,3 +93,15 @@ pub record IsOpening (p : Program) (l : Listing) : Type 0 where
   pub taken : IsTakenInTurn p l
   pub free_named : (j : ℕ) → j < p.cols → IsFree p j → ColListed l j
   pub feasible : (d : ℤ) × (v : ℕ → ℤ) × (IsFeasible p d v) × ((j : ℕ) → j < p.cols → ¬ ColListed l j → v j ≡ pos 0)
+
+-- a program and an opening of it, of a size that the path can be begun in
+pub record IsOpened (p : Program) (l : Listing) : Type 0 where
+  pub small_rows : p.rows < 2 ^ 31
+  pub small_cols : p.cols < 2 ^ 31
+  pub shaped : IsShaped p
+  pub opens : IsOpening p l
+
+-- these, and a most number of pivots that can be counted
+pub record IsTask (p : Program) (l : Listing) (limit : ℕ) : Type 0 where
+  pub opened : IsOpened p l
+  pub small_limit : limit < 2 ^ 31

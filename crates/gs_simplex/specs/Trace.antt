@@ -1,8 +1,8 @@
 -- The trace of a path: its pivots, its bases, and the aim's value at both ends.
-use Rattle.std.specs.{Prelude.{◌≡◌, ℕ, ◌+◌, ◌<◌, ◌≤◌, ◌^◌, Result, Ok, Err, List, length, slice_index, ℤ, ◌*ℤ◌, Contains, Vec}, List.{HoldsAt}}
+use Rattle.std.specs.{Prelude.{◌≡◌, ℕ, ◌+◌, ◌<◌, ◌≤◌, Result, Ok, Err, List, length, slice_index, ℤ, ◌*ℤ◌, Contains, Vec}, List.{HoldsAt}}
 use Rattle.std.specs.declared.alloc.Global.{Global}
 use Rattle.gs_frac.specs.declared.value.Fraction.{Fraction}
-use Rattle.gs_simplex.specs.{declared.program.Program.{Program}, Program.{Listing, ColListed, IsShaped, IsOpening}, Path.{States, IsPath, ends, Stops}}
+use Rattle.gs_simplex.specs.{declared.program.Program.{Program}, Program.{ColListed, IsTask, Listing}, Path.{States, IsPath, ends, Stops}}
 use Rattle.gs_simplex.specs.{declared.answer.Turn.{Turn}, declared.answer.Path.{Path}, declared.answer.PathTrace.{PathTrace}, declared.answer.Stop.{Stop}}
 use Rattle.gs_simplex.specs.{declared.path.Position.{Position}, declared.table.Table.{Table}, State.{IsState, IsTurnAt}, Answer.{IsSmallTable, IsStop}}
 
@@ -84,11 +84,7 @@ pub record IsBegun (p : Program) (o : Listing) (at : Position) : Type 0 where
 
 -- The path can be followed from the end of the opening: this list is the opening, and this table is the state there.
 pub record CanFollow (p : Program) (o : Listing) (limit : ℕ) (basis : Listing) (held : Table) : Type 0 where
-  pub few_rows : p.rows < 2 ^ 31
-  pub few_cols : p.cols < 2 ^ 31
-  pub few_pivots : limit < 2 ^ 31
+  pub task : IsTask p o limit
   pub small : IsSmallTable p
-  pub shaped : IsShaped p
-  pub opens : IsOpening p o
   pub same : basis ≡ o
   pub state : IsState p o (length o) o held

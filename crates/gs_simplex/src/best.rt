@@ -77,6 +77,18 @@ fn values(
     Ok(value)
 }
 
+// Returns the number of the aim's row in column `j`, negated, over the row's multiple.
+pub(crate) fn negated_share(p: &Program, table: &Table, j: usize) -> Fraction
+    requires table { IsHeld p.now table.now }
+    requires column { j < p.now.cols + 1 }
+    requires multiple { pos 0 <ℤ table_aim p.now (grid_of p.now table.now) (p.now.cols + 1) }
+    ensures { result.num *ℤ table_aim p.now (grid_of p.now table.now) (p.now.cols + 1) ≡ neg_ℤ (grid_of p.now table.now p.now.rows j) *ℤ result.den }
+{
+    let number = number_at(p, table, p.rows as usize, j);
+    let multiple = number_at(p, table, p.rows as usize, p.cols as usize + 1);
+    Fraction::new(-i128::from(number), i128::from(multiple))
+}
+
 // Returns the price of column `j`.
 fn price_at(p: &Program, table: &Table, j: usize) -> Fraction
     requires table { IsHeld p.now table.now }
@@ -84,9 +96,7 @@ fn price_at(p: &Program, table: &Table, j: usize) -> Fraction
     requires multiple { pos 0 <ℤ table_aim p.now (grid_of p.now table.now) (p.now.cols + 1) }
     ensures { result.num *ℤ table_aim p.now (grid_of p.now table.now) (p.now.cols + 1) ≡ neg_ℤ (table_aim p.now (grid_of p.now table.now) j) *ℤ result.den }
 {
-    let falls = number_at(p, table, p.rows as usize, j);
-    let multiple = number_at(p, table, p.rows as usize, p.cols as usize + 1);
-    Fraction::new(-i128::from(falls), i128::from(multiple))
+    negated_share(p, table, j)
 }
 
 // Returns the price of each column.

@@ -21,8 +21,7 @@ mod start;
 mod table;
 mod tracing;
 
-ghost use Rattle.std.specs.Prelude.{◌<◌, ◌^◌};
-ghost use Rattle.gs_simplex.specs.{Program.{IsShaped, IsOpening}, Answer.{IsAnswer}, Trace.{IsTraceAnswer}};
+ghost use Rattle.gs_simplex.specs.{Program.{IsTask}, Answer.{IsAnswer}, Trace.{IsTraceAnswer}};
 
 pub use answer::{Best, Path, PathTrace, Stop, Turn};
 pub use program::Program;
@@ -36,11 +35,7 @@ pub const MOST_NUMBERS: u64 = 1_048_576;
 /// The opening lists pairs of a row and a column, both counted from 1. `limit` is the most pivots after the opening.
 /// A table of more than [`MOST_NUMBERS`] numbers is refused before any step. Otherwise the error is the first stop that the path meets, or out of memory.
 pub fn run(alloc: Global, p: &Program, opening: &[(u32, u32)], limit: u32) -> Result<Best, Stop>
-    requires small_rows { p.now.rows < 2 ^ 31 }
-    requires small_cols { p.now.cols < 2 ^ 31 }
-    requires small_limit { limit < 2 ^ 31 }
-    requires shaped { IsShaped p.now }
-    requires opens { IsOpening p.now opening.now }
+    requires { IsTask p.now opening.now limit }
     ensures { IsAnswer p.now opening.now limit result }
 {
     sparse::Program::of(alloc, p)?.run(alloc, opening, limit)
@@ -53,11 +48,7 @@ pub fn trace(
     opening: &[(u32, u32)],
     limit: u32,
 ) -> Result<PathTrace, Stop>
-    requires small_rows { p.now.rows < 2 ^ 31 }
-    requires small_cols { p.now.cols < 2 ^ 31 }
-    requires small_limit { limit < 2 ^ 31 }
-    requires shaped { IsShaped p.now }
-    requires opens { IsOpening p.now opening.now }
+    requires { IsTask p.now opening.now limit }
     ensures { IsTraceAnswer p.now opening.now limit result }
 {
     sparse::Program::of(alloc, p)?.trace(alloc, opening, limit)

@@ -2,7 +2,7 @@
 
 ghost use Rattle.std.specs.Prelude.{◌≡◌, ◌≢◌, IfNone, MatchOption, MatchResult, ℕ, ◌+◌, ◌*◌, ◌<◌, ◌≤◌, ◌^◌, pos, length, slice_index_or};
 ghost use Rattle.std.specs.Prelude.{unsigned_abs, Some};
-ghost use Rattle.gs_simplex.specs.{Program.{IsShaped, IsPairList, IsOpening}, Table.{grid_of, table_aim, stated, IsTable, IsHeld, IsTableOf}};
+ghost use Rattle.gs_simplex.specs.{Program.{IsShaped, IsPairList, IsOpened, IsTask}, Table.{grid_of, table_aim, stated, IsTable, IsHeld, IsTableOf}};
 ghost use Rattle.gs_simplex.specs.{State.{IsStart, IsState, IsChoice, IsPivoted, IsWidePivot, IsEnd, IsTurnedState}, Answer.{IsSmallTable, IsStop}};
 ghost use Rattle.gs_simplex.specs.Trace.{IsBegun, CanFollow};
 
@@ -69,10 +69,8 @@ pub(crate) struct Position {
 
 // Lists the pairs of the opening one by one, or returns the stop at the first number that is not narrow.
 pub(crate) fn open(p: &Program, opening: &[(u32, u32)], table: &mut Table) -> Result<(), Stop>
-    requires small_rows { p.now.rows < 2 ^ 31 }
-    requires small_cols { p.now.cols < 2 ^ 31 }
+    requires opened { IsOpened p.now opening.now }
     requires small { IsSmallTable p.now }
-    requires opens { IsOpening p.now opening.now }
     requires start { IsStart p.now table.old }
     ensures { MatchResult result (λ _. IsState p.now opening.now (length opening.now) opening.now table.new)
         (λ e. (limit : ℕ) → IsStop p.now opening.now limit e) }
@@ -88,10 +86,7 @@ pub(crate) fn open(p: &Program, opening: &[(u32, u32)], table: &mut Table) -> Re
 
 // Returns the position after the opening. The error is a table that is too large, a number that is not narrow, or out of memory.
 pub(crate) fn begin(alloc: Global, p: &Program, opening: &[(u32, u32)]) -> Result<Position, Stop>
-    requires small_rows { p.now.rows < 2 ^ 31 }
-    requires small_cols { p.now.cols < 2 ^ 31 }
-    requires shaped { IsShaped p.now }
-    requires opens { IsOpening p.now opening.now }
+    requires { IsOpened p.now opening.now }
     ensures { MatchResult result (IsBegun p.now opening.now) (λ e. (limit : ℕ) → IsStop p.now opening.now limit e) }
 {
     let count = (u64::from(p.rows) + 1) * (u64::from(p.cols) + 1);
@@ -142,13 +137,9 @@ pub(crate) fn step(
     basis: &mut [(u32, u32)],
     table: &mut Table,
 ) -> Result<Option<Turn>, Stop>
-    requires small_rows { p.now.rows < 2 ^ 31 }
-    requires small_cols { p.now.cols < 2 ^ 31 }
-    requires small_limit { limit < 2 ^ 31 }
+    requires task { IsTask p.now opening.now limit }
     requires within { made ≤ limit }
     requires small { IsSmallTable p.now }
-    requires shaped { IsShaped p.now }
-    requires opens { IsOpening p.now opening.now }
     requires state { IsState p.now opening.now (length opening.now + made) basis.old table.old }
     ensures { MatchResult result
         (λ r. MatchOption r (IsEnd p.now opening.now limit made basis.new table.new)

@@ -7,6 +7,7 @@ ghost use Prim.Native.Nat.{◌∣◌};
 ghost use Rattle.std.specs.Int.{IsGcd};
 ghost use Rattle.gs_simplex.specs.Rows.{IsNarrow};
 ghost use Rattle.gs_simplex.specs.Numbers.{at, AreNarrowNumbers, AllAtMost, IsDivisor, IsShared, IsQuotient, HasWideQuotient, IsMultiple, IsDivided};
+ghost use Rattle.gs_simplex.specs.Numbers.{IsNarrowMultiple, IsNarrowQuotient};
 ghost use Rattle.gs_simplex.specs.{Numbers.{IsMixed, IsWideReduced}, Support.{IsSupport, IsChange}};
 
 use crate::exact::{Divisor, short_gcd};
@@ -67,12 +68,8 @@ pub(crate) fn greatest(row: &[i64], places: &[u32], found: usize) -> u64
 
 // Returns `number` over `by`, which divides it, for narrow numbers.
 fn narrow_quotient(number: i64, by: u64) -> i64
-    requires some { 0 < by }
-    requires small { by < 2 ^ 62 }
-    requires narrow { IsNarrow number }
-    requires divides { by ∣ unsigned_abs number }
-    ensures value { number ≡ pos by *ℤ result }
-    ensures narrow { IsNarrow result }
+    requires { IsNarrowMultiple number by }
+    ensures { IsNarrowQuotient number by result }
 {
     if number == 0 {
         return 0;
@@ -83,12 +80,8 @@ fn narrow_quotient(number: i64, by: u64) -> i64
 // Returns `number` over `by`, which divides it, for narrow numbers. Takes the divisor's guess where there is one, and divides otherwise.
 fn guessed_quotient(number: i64, by: u64, divisor: &Divisor) -> i64
     requires same { divisor.now.number ≡ pos by }
-    requires some { 0 < by }
-    requires small { by < 2 ^ 62 }
-    requires narrow { IsNarrow number }
-    requires divides { by ∣ unsigned_abs number }
-    ensures value { number ≡ pos by *ℤ result }
-    ensures narrow { IsNarrow result }
+    requires multiple { IsNarrowMultiple number by }
+    ensures { IsNarrowQuotient number by result }
 {
     if number == 0 {
         return 0;

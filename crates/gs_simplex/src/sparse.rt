@@ -1,7 +1,7 @@
 //! A linear program whose rows keep only the numbers other than 0.
 
-ghost use Rattle.std.specs.Prelude.{◌≡◌, ◌<◌, ◌^◌, ◌++◌, [], ◌∷◌, IfOk, OnOk, pos, replicate};
-ghost use Rattle.gs_simplex.specs.{Program.{IsShaped, IsOpening}, Answer.{IsAnswer}, Trace.{IsPathAnswer, IsTraceAnswer}};
+ghost use Rattle.std.specs.Prelude.{◌≡◌, ◌++◌, [], ◌∷◌, IfOk, OnOk, pos, replicate};
+ghost use Rattle.gs_simplex.specs.{Program.{IsTask}, Answer.{IsAnswer}, Trace.{IsPathAnswer, IsTraceAnswer}};
 
 use crate::answer::{Best, Path, PathTrace, Stop};
 use crate::best::best;
@@ -156,11 +156,7 @@ impl Program {
 
     /// Returns what [`crate::run`] returns for the program.
     pub fn run(&self, alloc: Global, opening: &[(u32, u32)], limit: u32) -> Result<Best, Stop>
-        requires small_rows { self.now.rows < 2 ^ 31 }
-        requires small_cols { self.now.cols < 2 ^ 31 }
-        requires small_limit { limit < 2 ^ 31 }
-        requires shaped { IsShaped self.now }
-        requires opens { IsOpening self.now opening.now }
+        requires { IsTask self.now opening.now limit }
         ensures { IsAnswer self.now opening.now limit result }
     {
         let Position {
@@ -173,11 +169,7 @@ impl Program {
 
     /// Returns the path's pivots, with the aim's value after the opening and at the end, or what stopped the path first. It stops as [`crate::run`] does.
     pub fn path(&self, alloc: Global, opening: &[(u32, u32)], limit: u32) -> Result<Path, Stop>
-        requires small_rows { self.now.rows < 2 ^ 31 }
-        requires small_cols { self.now.cols < 2 ^ 31 }
-        requires small_limit { limit < 2 ^ 31 }
-        requires shaped { IsShaped self.now }
-        requires opens { IsOpening self.now opening.now }
+        requires { IsTask self.now opening.now limit }
         ensures { IsPathAnswer self.now opening.now limit result }
     {
         let Position {
@@ -198,11 +190,7 @@ impl Program {
         opening: &[(u32, u32)],
         limit: u32,
     ) -> Result<PathTrace, Stop>
-        requires small_rows { self.now.rows < 2 ^ 31 }
-        requires small_cols { self.now.cols < 2 ^ 31 }
-        requires small_limit { limit < 2 ^ 31 }
-        requires shaped { IsShaped self.now }
-        requires opens { IsOpening self.now opening.now }
+        requires { IsTask self.now opening.now limit }
         ensures { IsTraceAnswer self.now opening.now limit result }
     {
         let Path { start, turns, aim } = self.path(alloc, opening, limit)?;

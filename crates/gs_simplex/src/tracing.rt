@@ -1,12 +1,11 @@
 //! The pivots of a path, its bases, and the aim's value.
 
 ghost use Rattle.std.specs.Prelude.{MatchResult, IfOk, OnOk, ◌≡◌, ℕ, ◌+◌, ◌<◌, ◌^◌, [], ◌∷◌, ◌++◌, ℤ, pos, ◌<ℤ◌, length, slice_index_or, slice_set};
-ghost use Rattle.gs_simplex.specs.{Program.{IsPairList, IsOpening}, Table.{grid_of, table_aim, IsHeld}, State.{IsEnd}, Answer.{IsStop}, Values.{IsRowIndex}};
+ghost use Rattle.gs_simplex.specs.{Program.{IsPairList, IsOpened}, Table.{grid_of, table_aim, IsHeld}, State.{IsEnd}, Answer.{IsStop}, Values.{IsRowIndex}};
 ghost use Rattle.gs_simplex.specs.Trace.{IsAimValue, IsBasis, IsReachedBy, AreTurns, AreBases, CanFollow};
 
 use crate::answer::{Stop, Turn};
-use crate::best::listed_rows;
-use crate::choice::number_at;
+use crate::best::{listed_rows, negated_share};
 use crate::path::step;
 use crate::sparse::Program;
 use crate::table::Table;
@@ -19,9 +18,7 @@ pub(crate) fn aim_value(p: &Program, table: &Table) -> Fraction
     requires multiple { pos 0 <ℤ table_aim p.now (grid_of p.now table.now) (p.now.cols + 1) }
     ensures { IsAimValue p.now (table_aim p.now (grid_of p.now table.now)) result }
 {
-    let last = number_at(p, table, p.rows as usize, p.cols as usize);
-    let multiple = number_at(p, table, p.rows as usize, p.cols as usize + 1);
-    Fraction::new(-i128::from(last), i128::from(multiple))
+    negated_share(p, table, p.cols as usize)
 }
 
 // Returns the columns that are listed with some row, counted from 1, in rising order.
@@ -79,9 +76,7 @@ pub(crate) fn bases_of(
     opening: &[(u32, u32)],
     turns: &[Turn],
 ) -> Result<Vec<Vec<u32>>, AllocError>
-    requires small_rows { p.now.rows < 2 ^ 31 }
-    requires small_cols { p.now.cols < 2 ^ 31 }
-    requires opens { IsOpening p.now opening.now }
+    requires opened { IsOpened p.now opening.now }
     requires path { IsReachedBy p.now opening.now 0 opening.now }
     requires turns { AreTurns p.now opening.now turns.now }
     ensures { IfOk result (λ v. AreBases p.now opening.now (length turns.now + 1) v.items) }

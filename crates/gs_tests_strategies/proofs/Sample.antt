@@ -2,7 +2,7 @@
 use Rattle.std.proofs.Common.{◌≡◌, ℕ, zero, suc, ◌+◌, ◌<◌, ◌⊎◌, inl, inr, List, [], ◌∷◌, Bool, false, IsTrue, length, slice_index_or, take, ℤ, pos}
 use Rattle.std.proofs.Common.{negsuc, ◌+ℤ◌, ◌*ℤ◌, ◌≤ℤ◌, refl, sym, ap, subst, ◌∙◌, arith}
 use Rattle.gs_simplex.specs.{declared.program.Program.{Program}, Sums.{sum_to}, Rows.{IsNarrow, IsUnlistedRow}}
-use Rattle.gs_simplex.specs.Program.{number, IsFree, IsShaped, Listing, IsListed, RowListed, ColListed, CanTake, IsOpening}
+use Rattle.gs_simplex.specs.Program.{number, IsFree, IsShaped, Listing, IsListed, RowListed, ColListed, CanTake, IsOpened, IsOpening}
 use Rattle.gs_simplex.proofs.{Ring.{linear}, Solutions.{only_at, only_at_same, only_at_other, program_row}}
 use Rattle.gs_tests_strategies.specs.Programs.{IsWideSample}
 
@@ -154,7 +154,7 @@ row_sum p s i = ap (λ k. sum_to k (λ j. number p i j *ℤ value j)) s.cols ∙
 side : (p : Program) → IsWideSample p → (i : ℕ) → number p i p.cols ≡ at_listed i 2
 side p s i = ap (number p i) s.cols ∙ at_row p s i 2
 
-pub sample_opens : (p : Program) → IsWideSample p → IsOpening p ((1, 1) ∷ (2, 2) ∷ [])
+sample_opens : (p : Program) → IsWideSample p → IsOpening p ((1, 1) ∷ (2, 2) ∷ [])
 sample_opens p s = record {
   long = sym s.rows;
   each_row = λ i h. elim (two i (omega (arith, s.rows))) [
@@ -188,4 +188,12 @@ sample_opens p s = record {
       | inr e ↦ absurd (out (1, (let P : ℕ → Type 0 = λ x. IsListed opening 1 x in subst P (sym e) (1, omega arith, refl))))
     ],
   );
+}
+
+pub sample_opened : (p : Program) → IsWideSample p → IsOpened p opening
+sample_opened p s = record {
+  small_rows = omega (arith, s.rows);
+  small_cols = omega (arith, s.cols);
+  shaped = sample_shaped p s;
+  opens = sample_opens p s;
 }

@@ -39,10 +39,3 @@ pub record IsFeasibleOver (p : Program) (o : Listing) (over : ℤ) (values : Lis
   pub positive : pos 0 <ℤ over
   pub placed : (j : ℕ) → j < p.cols → IsPlaced p o values j
   pub solves : (i : ℕ) → i < p.rows → sum_to p.cols (λ j. number p i j *ℤ at values j) ≡ over *ℤ number p i p.cols
-
--- what `run` asks
-pub record MayRun (p : Program) (o : Listing) : Type 0 where
-  pub small_rows : p.rows < 2 ^ 31
-  pub small_cols : p.cols < 2 ^ 31
-  pub shaped : IsShaped p
-  pub opens : IsOpening p o

@@ -2,8 +2,8 @@
 
 ghost use Rattle.std.specs.Prelude.{◌≡◌, ◌≢◌, ℕ, ◌+◌, ◌<◌, ◌≤◌, ◌^◌, ◌*ℤ◌, ◌≤ℤ◌, IsTrue, IfOk, [], pos, length, map, slice_index_or};
 ghost use Rattle.std.specs.{Vec.{vec_items}, Option.{ForSome}};
-ghost use Rattle.gs_simplex.specs.{Program.{number, IsShaped, IsTakenInTurn, IsOpening}, Numbers.{at, AreNarrowNumbers}, Sums.{sum_to}};
-ghost use Rattle.gs_tests_strategies.specs.Openings.{IsWideRow, IsNewPair, IsTakenAt, combined, HasRowBefore, IsPlaced, IsFeasibleOver, MayRun};
+ghost use Rattle.gs_simplex.specs.{Program.{number, IsShaped, IsTakenInTurn, IsOpened, IsOpening}, Numbers.{at, AreNarrowNumbers}, Sums.{sum_to}};
+ghost use Rattle.gs_tests_strategies.specs.Openings.{IsWideRow, IsNewPair, IsTakenAt, combined, HasRowBefore, IsPlaced, IsFeasibleOver};
 
 use crate::elimination::{eliminate, start_rows, values_of};
 use gs_simplex::Program;
@@ -310,7 +310,7 @@ fn opens(alloc: Global, p: &Program, opening: &[(u32, u32)]) -> Result<bool, All
 
 /// Returns whether it is shown that `run` may be called for the program and the list. It is where they are small.
 pub(crate) fn meets(alloc: Global, p: &Program, opening: &[(u32, u32)]) -> Result<bool, AllocError>
-    ensures { IfOk result (λ b. IsTrue b → MayRun p.now opening.now) }
+    ensures { IfOk result (λ b. IsTrue b → IsOpened p.now opening.now) }
 {
     if p.rows > 1000 || p.cols > 1000 || !is_shaped(p) {
         return Ok(false);

@@ -30,8 +30,8 @@ unended-requires-clause-met c =
 pub unended-requires-clause-path : goal.unended-requires-clause-path
 unended-requires-clause-path c = grind arith
 
-pub path-requires-clause-opens : goal.path-requires-clause-opens
-path-requires-clause-opens c = grind arith
-
-pub path-requires-clause-shaped : goal.path-requires-clause-shaped
-path-requires-clause-shaped c = grind arith
+pub path-requires : goal.path-requires
+path-requires c = record {
+  opened = record { small_rows = grind arith; small_cols = grind arith; shaped = grind arith; opens = grind arith };
+  small_limit = omega arith;
+}

@@ -65,11 +65,6 @@ values-requires-clause-rows c =
     can_value p l grid c.deref-2.result.now c.in_ok-rows.rows.items c.requires.pairs c.requires.rows
     (index_of p l c.deref.result.now c.in_ok-rows.rows.items c.deref.ensures.value c.in_ok-rows.ensures) c.deref-2.ensures.value
 
-pub prices-requires-clause-multiple : goal.prices-requires-clause-multiple
-prices-requires-clause-multiple c =
-    let p = c.args.p.now in let grid = grid_of p c.args.table.now in
-    let w = c.requires.rows.rows_of in multiple_kept w.3 w.2.aim_row.2.multiple
-
 pub returns : goal.returns
 returns c =
     let p = c.args.p.now in let grid = grid_of p c.args.table.now in let l = c.args.basis.items in
@@ -87,8 +82,9 @@ returns c =
       );
     }
 
-pub listed_rows-requires-clause-pairs : goal.listed_rows-requires-clause-pairs
-listed_rows-requires-clause-pairs c = grind (arith, common_steps)
-
-pub prices-requires-clause-table : goal.prices-requires-clause-table
-prices-requires-clause-table c = grind arith
+pub prices-requires : goal.prices-requires
+prices-requires c = record {
+  table = grind arith;
+  multiple = let p = c.args.p.now in let grid = grid_of p c.args.table.now in
+      let w = c.requires.rows.rows_of in multiple_kept w.3 w.2.aim_row.2.multiple;
+}

@@ -26,8 +26,8 @@ loop-place-preserved c =
     (omega (arith, c.loop-place.auto.rows, c.requires.long)) c.loop-place-test.true
     c.pair_at-row.ensures.pair c.pair_at-row.ensures.column c.loop-place.invariant
 
-pub returns-clause-listed : goal.returns-clause-listed
-returns-clause-listed c = λ i j h. c.loop-place.invariant.listed h.0 i j (omega (arith, h.1)) (place_of c.args.basis.now i j h)
-
-pub returns-clause-unlisted : goal.returns-clause-unlisted
-returns-clause-unlisted c = λ j out. c.loop-place.invariant.unlisted j (λ k h. no_column j k c.requires.pairs out (omega arith))
+pub returns : goal.returns
+returns c = record {
+  listed = λ i j h. c.loop-place.invariant.listed h.0 i j (omega (arith, h.1)) (place_of c.args.basis.now i j h);
+  unlisted = λ j out. c.loop-place.invariant.unlisted j (λ k h. no_column j k c.requires.pairs out (omega arith));
+}

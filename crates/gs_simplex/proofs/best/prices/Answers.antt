@@ -16,6 +16,3 @@ loop-j-preserved c =
 
 pub price_at-requires-clause-column : goal.price_at-requires-clause-column
 price_at-requires-clause-column c = grind arith
-
-pub returns-clause-prices : goal.returns-clause-prices
-returns-clause-prices c = grind arith

@@ -30,8 +30,5 @@ new-requires-2-clause-positive c =
     ∙ c.number_at-own.ensures.value in
     let P : ℤ → Type 0 = λ z. pos 0 <ℤ z in subst P (sym own) (c.requires.row.inside i e).1
 
-pub number_at-own-requires-clause-row : goal.number_at-own-requires-clause-row
-number_at-own-requires-clause-row c = grind arith
-
 pub new-requires-2-clause-fits : goal.new-requires-2-clause-fits
 new-requires-2-clause-fits c = widened_fits c.number_at-side.result c.from.result c.number_at-side.ensures.narrow c.from.ensures

@@ -14,9 +14,3 @@ loop-j-preserved c =
       done = pushed_all (λ k (f : Fraction). IsColumnValue p grid (slice_index c.args.rows.now k) k f) xs c.push.new.self.items c.value_at.result c.loop-j.j
           items v.long v.done c.value_at.ensures;
     }
-
-pub returns-clause-values : goal.returns-clause-values
-returns-clause-values c = grind arith
-
-pub value_at-requires-clause-row : goal.value_at-requires-clause-row
-value_at-requires-clause-row c = grind arith

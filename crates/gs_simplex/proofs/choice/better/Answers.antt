@@ -3,6 +3,3 @@ use Rattle.gs_simplex.proofs.choice.better.Goals as goal
 
 pub returns-then-is_before : goal.returns-then-is_before
 returns-then-is_before c = grind arith
-
-pub returns-else-is_before : goal.returns-else-is_before
-returns-else-is_before c = grind arith

@@ -10,9 +10,6 @@ loop-j-preserved c =
     below_more (λ k. grid_of p t p.rows k ≤ℤ pos 0) c.loop-j.j c.loop-j.invariant
     (subst P (kept_64 x c.number_at.ensures.narrow ∙ c.number_at.ensures.value) (lt_false (pos 0) (to_z w64 (of_z w64 x)) c.if-number_at-gt0.false))
 
-pub returns : goal.returns
-returns c = grind (arith, common_steps)
-
 pub returns-then-number_at-gt0 : goal.returns-then-number_at-gt0
 returns-then-number_at-gt0 c =
     let x = c.number_at.result in let P : ℤ → Type 0 = λ z. pos 0 <ℤ z in (

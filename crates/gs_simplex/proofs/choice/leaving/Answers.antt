@@ -1,3 +1,4 @@
+use Rattle.std.proofs.lemmas.Grind.{common_steps}
 use Rattle.std.proofs.Common.{◌≡◌, ℕ, Option, Some, None, length, sym, subst, arith}
 use Rattle.gs_simplex.specs.{declared.choice.Ratio.{Ratio}, Table.{grid_of}, Choice.{IsLeaving}}
 use Rattle.gs_simplex.proofs.Choosing.{IsLeastSoFar, one_more, none_leaves_from, leaves_from}
@@ -29,11 +30,8 @@ returns c =
 pub ratio_at-requires-clause-shaped : goal.ratio_at-requires-clause-shaped
 ratio_at-requires-clause-shaped c = c.requires.shaped
 
-pub better-best-requires-clause-best : goal.better-best-requires-clause-best
-better-best-requires-clause-best c = grind arith
+pub better-best-requires : goal.better-best-requires
+better-best-requires c = grind (arith, common_steps)
 
 pub loop-place-init : goal.loop-place-init
 loop-place-init c = grind arith
-
-pub better-best-requires-clause-next : goal.better-best-requires-clause-next
-better-best-requires-clause-next c = grind arith

@@ -46,50 +46,40 @@ index-requires-then-stand-rows c =
           (slot_inside c),
     )
 
-pub returns-then-stand-rows-clause-narrow : goal.returns-then-stand-rows-clause-narrow
-returns-then-stand-rows-clause-narrow c =
-    let g = goal.at.returns-then-stand-rows-clause-narrow c in let k = c.index.result.now - c.args.p.now.rows in
-    narrow_passed c.index-then-stand-rows.result.now (read_narrow c.args.p.now c.args.table.now c.requires.table c.args.i k (c.args.i * c.len.result + k)
-    c.index-then-stand-rows.result.now c.requires.row (slot_inside g.Then-stand-rows) (ap (λ x. c.args.i * x + k) c.len.ensures)
-    c.index-then-stand-rows.ensures)
+pub returns-then-stand-rows : goal.returns-then-stand-rows
+returns-then-stand-rows c = record {
+  value = let g = goal.at.returns-then-stand-rows c in let p = c.args.p.now in let t = c.args.table.now in let w = vec_len t.room.lead in
+      let k = c.index.result.now - p.rows in let x = c.index-then-stand-rows.result.now in
+      let is : c.args.i * c.len.result + k ≡ c.args.i * w + k = ap (λ x. c.args.i * x + k) c.len.ensures in
+      let e = ap (λ s. place_in p.rows w s c.args.i) (sym (stand_is g.After-index)) ∙ place_slot p.rows w c.index.result.now c.args.i c.if-stand-rows.true in
+      kept_64 x (read_narrow p t c.requires.table c.args.i k (c.args.i * c.len.result + k) x c.requires.row (slot_inside g.Then-stand-rows) is
+      c.index-then-stand-rows.ensures)
+      ∙ read_grid p t c.requires.table c.args.i k (c.args.i * c.len.result + k) x c.requires.row (slot_inside g.Then-stand-rows) is
+      c.index-then-stand-rows.ensures c.args.j e;
+  narrow = let g = goal.at.returns-then-stand-rows c in let k = c.index.result.now - c.args.p.now.rows in
+      narrow_passed c.index-then-stand-rows.result.now (read_narrow c.args.p.now c.args.table.now c.requires.table c.args.i k (c.args.i * c.len.result + k)
+      c.index-then-stand-rows.result.now c.requires.row (slot_inside g.Then-stand-rows) (ap (λ x. c.args.i * x + k) c.len.ensures)
+      c.index-then-stand-rows.ensures);
+}
 
-pub returns-then-stand-rows-clause-value : goal.returns-then-stand-rows-clause-value
-returns-then-stand-rows-clause-value c =
-    let g = goal.at.returns-then-stand-rows-clause-value c in let p = c.args.p.now in let t = c.args.table.now in let w = vec_len t.room.lead in
-    let k = c.index.result.now - p.rows in let x = c.index-then-stand-rows.result.now in
-    let is : c.args.i * c.len.result + k ≡ c.args.i * w + k = ap (λ x. c.args.i * x + k) c.len.ensures in
-    let e = ap (λ s. place_in p.rows w s c.args.i) (sym (stand_is g.After-index)) ∙ place_slot p.rows w c.index.result.now c.args.i c.if-stand-rows.true in
-    kept_64 x (read_narrow p t c.requires.table c.args.i k (c.args.i * c.len.result + k) x c.requires.row (slot_inside g.Then-stand-rows) is
-    c.index-then-stand-rows.ensures)
-    ∙ read_grid p t c.requires.table c.args.i k (c.args.i * c.len.result + k) x c.requires.row (slot_inside g.Then-stand-rows) is
-    c.index-then-stand-rows.ensures c.args.j e
-
-pub returns-then-stand-i-clause-narrow : goal.returns-then-stand-i-clause-narrow
-returns-then-stand-i-clause-narrow c =
-    let w = vec_len c.args.table.now.room.lead in
-    let is : c.args.i * c.len.result ≡ c.args.i * w + 0 = ap (λ x. c.args.i * x) c.len.ensures ∙ omega arith in
-    narrow_passed c.index-then-stand-i.result.now (read_narrow c.args.p.now c.args.table.now c.requires.table c.args.i 0 (c.args.i * c.len.result)
-    c.index-then-stand-i.result.now c.requires.row (omega (arith, c.requires.table.some)) is c.index-then-stand-i.ensures)
-
-pub returns-then-stand-i-clause-value : goal.returns-then-stand-i-clause-value
-returns-then-stand-i-clause-value c =
-    let g = goal.at.returns-then-stand-i-clause-value c in let p = c.args.p.now in let t = c.args.table.now in let w = vec_len t.room.lead in
-    let x = c.index-then-stand-i.result.now in
-    let is : c.args.i * c.len.result ≡ c.args.i * w + 0 = ap (λ x. c.args.i * x) c.len.ensures ∙ omega arith in
-    let some : 0 < w = omega (arith, c.requires.table.some) in
-    let e = ap (λ s. place_in p.rows w s c.args.i) (sym (stand_is g.After-index))
-    ∙ place_own p.rows w c.index.result.now c.args.i c.if-stand-rows.false c.if-stand-i.true in
-    kept_64 x (read_narrow p t c.requires.table c.args.i 0 (c.args.i * c.len.result) x c.requires.row some is c.index-then-stand-i.ensures)
-    ∙ read_grid p t c.requires.table c.args.i 0 (c.args.i * c.len.result) x c.requires.row some is c.index-then-stand-i.ensures c.args.j e
+pub returns-then-stand-i : goal.returns-then-stand-i
+returns-then-stand-i c = record {
+  value = let g = goal.at.returns-then-stand-i c in let p = c.args.p.now in let t = c.args.table.now in let w = vec_len t.room.lead in
+      let x = c.index-then-stand-i.result.now in
+      let is : c.args.i * c.len.result ≡ c.args.i * w + 0 = ap (λ x. c.args.i * x) c.len.ensures ∙ omega arith in
+      let some : 0 < w = omega (arith, c.requires.table.some) in
+      let e = ap (λ s. place_in p.rows w s c.args.i) (sym (stand_is g.After-index))
+      ∙ place_own p.rows w c.index.result.now c.args.i c.if-stand-rows.false c.if-stand-i.true in
+      kept_64 x (read_narrow p t c.requires.table c.args.i 0 (c.args.i * c.len.result) x c.requires.row some is c.index-then-stand-i.ensures)
+      ∙ read_grid p t c.requires.table c.args.i 0 (c.args.i * c.len.result) x c.requires.row some is c.index-then-stand-i.ensures c.args.j e;
+  narrow = let w = vec_len c.args.table.now.room.lead in
+      let is : c.args.i * c.len.result ≡ c.args.i * w + 0 = ap (λ x. c.args.i * x) c.len.ensures ∙ omega arith in
+      narrow_passed c.index-then-stand-i.result.now (read_narrow c.args.p.now c.args.table.now c.requires.table c.args.i 0 (c.args.i * c.len.result)
+      c.index-then-stand-i.result.now c.requires.row (omega (arith, c.requires.table.some)) is c.index-then-stand-i.ensures);
+}
 
 pub index-requires-then-stand-i : goal.index-requires-then-stand-i
 index-requires-then-stand-i c = grind (arith, common_steps)
 
 pub overflow_mul-start : goal.overflow_mul-start
 overflow_mul-start c = grind arith
-
-pub overflow_add-start : goal.overflow_add-start
-overflow_add-start c = grind arith
-
-pub returns-clause-value : goal.returns-clause-value
-returns-clause-value c = grind (arith, common_steps)

@@ -13,12 +13,10 @@ pair_back x i j e =
     let f : x.0 ≡ x.0 - 1 + 1 = omega arith in let g : x.1 ≡ x.1 - 1 + 1 = omega arith in
     ap (λ (t : ℕ). (t, x.1)) f ∙ ap (λ (t : ℕ). (x.0 - 1 + 1, t)) g
 
-pub returns-clause-pair : goal.returns-clause-pair
-returns-clause-pair c = let n = c.requires.pairs.named c.args.place c.requires.inside in pair_back
-    (slice_index_or c.args.basis.now c.args.place (0, 0)) n.0 n.1 n.2
-
-pub returns-clause-row : goal.returns-clause-row
-returns-clause-row c = let n = c.requires.pairs.named c.args.place c.requires.inside in omega (arith, n.3, ap (λ (x : ℕ × ℕ). x.0) n.2)
-
-pub returns-clause-column : goal.returns-clause-column
-returns-clause-column c = let n = c.requires.pairs.named c.args.place c.requires.inside in omega (arith, n.4, ap (λ (x : ℕ × ℕ). x.1) n.2)
+pub returns : goal.returns
+returns c = record {
+  pair = let n = c.requires.pairs.named c.args.place c.requires.inside in pair_back
+      (slice_index_or c.args.basis.now c.args.place (0, 0)) n.0 n.1 n.2;
+  row = let n = c.requires.pairs.named c.args.place c.requires.inside in omega (arith, n.3, ap (λ (x : ℕ × ℕ). x.0) n.2);
+  column = let n = c.requires.pairs.named c.args.place c.requires.inside in omega (arith, n.4, ap (λ (x : ℕ × ℕ). x.1) n.2);
+}

@@ -86,14 +86,8 @@ loop-j-preserved-then-place-mixed c =
     let none : w ≤ k = omega (arith, c.place_of-place.ensures, c.if-place-mixed.true) in
     below_more N c.loop-j.j c.loop-j.invariant (λ row u. subst P (sym (number_none w row k none)) (omega arith))
 
-pub bounds-mixed-place : goal.bounds-mixed-place
-bounds-mixed-place c = grind arith
-
 pub offset_bounds-mixed-place : goal.offset_bounds-mixed-place
 offset_bounds-mixed-place c = grind arith
-
-pub loop-j-init : goal.loop-j-init
-loop-j-init c = grind arith
 
 pub unreachable-requires : goal.unreachable-requires
 unreachable-requires c = grind arith

@@ -24,8 +24,5 @@ loop-j-preserved c =
 pub loop-j-init : goal.loop-j-init
 loop-j-init c = grind (arith, common_steps)
 
-pub returns : goal.returns
-returns c = grind (arith, common_steps)
-
 pub bounds-live-found : goal.bounds-live-found
 bounds-live-found c = grind (arith, common_steps)

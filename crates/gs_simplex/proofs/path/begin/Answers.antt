@@ -24,14 +24,8 @@ pub start-requires-clause-small : goal.start-requires-clause-small
 start-requires-clause-small c =
     small_table c.args.p.now.rows c.args.p.now.cols c.from.result c.from-2.result c.from.ensures c.from-2.ensures c.if-count-gt-MOST_NUMBERS.false
 
-pub returns-then-count-gt-MOST_NUMBERS : goal.returns-then-count-gt-MOST_NUMBERS
-returns-then-count-gt-MOST_NUMBERS c = grind arith
-
 pub returns-in_err-basis : goal.returns-in_err-basis
 returns-in_err-basis c = grind arith
 
-pub open-requires-clause-small_cols : goal.open-requires-clause-small_cols
-open-requires-clause-small_cols c = grind arith
-
-pub open-requires-clause-small_rows : goal.open-requires-clause-small_rows
-open-requires-clause-small_rows c = grind arith
+pub open-requires-clause-opened : goal.open-requires-clause-opened
+open-requires-clause-opened c = c.requires

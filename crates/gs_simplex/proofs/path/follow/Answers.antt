@@ -5,11 +5,8 @@ use Rattle.gs_simplex.proofs.path.follow.Goals as goal
 pub returns-in-None : goal.returns-in-None
 returns-in-None c = grind arith
 
-pub loop-made-preserved : goal.loop-made-preserved
-loop-made-preserved c = grind arith
-
-pub step-requires-clause-shaped : goal.step-requires-clause-shaped
-step-requires-clause-shaped c = c.requires.ready.shaped
+pub step-requires-clause-task : goal.step-requires-clause-task
+step-requires-clause-task c = c.requires.ready.task
 
 not_below : (n : ℕ) → 0 ≤ n
 not_below n = omega arith

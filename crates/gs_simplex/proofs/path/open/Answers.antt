@@ -14,12 +14,12 @@ loop-step-init c =
     }
 
 pub pair_at-row-requires-clause-pairs : goal.pair_at-row-requires-clause-pairs
-pair_at-row-requires-clause-pairs c = opening_pairs c.requires.opens
+pair_at-row-requires-clause-pairs c = opening_pairs c.requires.opened.opens
 
 pub list-requires-clause-nonzero : goal.list-requires-clause-nonzero
 list-requires-clause-nonzero c =
     let v = c.loop-step.invariant in
-    open_nonzero c.pair_at-row.result.0 c.pair_at-row.result.1 c.requires.opens c.loop-step-test.true c.pair_at-row.ensures.pair v.table v.so_far
+    open_nonzero c.pair_at-row.result.0 c.pair_at-row.result.1 c.requires.opened.opens c.loop-step-test.true c.pair_at-row.ensures.pair v.table v.so_far
 
 pub returns-in-Some : goal.returns-in-Some
 returns-in-Some c = λ limit.
@@ -27,7 +27,7 @@ returns-in-Some c = λ limit.
     let P : Stop → Type 0 = λ x. IsStop c.args.p.now c.args.opening.now limit x in
     subst P (sym c.wide_stop.ensures) (
       c.requires.small,
-      open_wide c.pair_at-row.result.0 c.pair_at-row.result.1 c.requires.opens c.loop-step-test.true c.pair_at-row.ensures.pair v.table v.so_far w.row
+      open_wide c.pair_at-row.result.0 c.pair_at-row.result.1 c.requires.opened.opens c.loop-step-test.true c.pair_at-row.ensures.pair v.table v.so_far w.row
           w.column w.number
           c.in-Some.ensures.listed limit,
     )
@@ -42,8 +42,8 @@ loop-step-preserved c =
     record {
       laid = if_none c.list.result (IsHeld p c.list.new.self) c.in_default.is c.list.ensures.laid;
       table = a.table;
-      pairs = open_pairs r k c.requires.opens c.loop-step-test.true c.pair_at-row.ensures.pair v.table v.so_far (t + 1) (omega (arith, c.loop-step-test.true));
-      so_far = open_next r k c.requires.opens c.loop-step-test.true c.pair_at-row.ensures.pair v.table v.so_far new a;
+      pairs = open_pairs r k c.requires.opened.opens c.loop-step-test.true c.pair_at-row.ensures.pair v.table v.so_far (t + 1) (omega (arith, c.loop-step-test.true));
+      so_far = open_next r k c.requires.opened.opens c.loop-step-test.true c.pair_at-row.ensures.pair v.table v.so_far new a;
     }
 
 pub returns : goal.returns
@@ -51,3 +51,9 @@ returns c = grind (arith, elements)
 
 pub list-requires-clause-table : goal.list-requires-clause-table
 list-requires-clause-table c = grind arith
+
+pub wide_stop-requires-clause-small_rows : goal.wide_stop-requires-clause-small_rows
+wide_stop-requires-clause-small_rows c = c.requires.opened.small_rows
+
+pub wide_stop-requires-clause-small_cols : goal.wide_stop-requires-clause-small_cols
+wide_stop-requires-clause-small_cols c = c.requires.opened.small_cols

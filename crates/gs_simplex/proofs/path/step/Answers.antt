@@ -1,3 +1,4 @@
+use Rattle.std.proofs.lemmas.Grind.{common_steps}
 use Rattle.std.proofs.Common.{◌≡◌, ℕ, ◌+◌, length, sym, subst, arith}
 use Rattle.gs_simplex.specs.{Path.{PathStops, wide}, declared.answer.Stop.{Stop}, Table.{grid_of, IsHeld, stated}}
 use Rattle.gs_simplex.specs.{State.{IsSoFar, IsPivoted, IsWidePivot}, Answer.{IsStop}}
@@ -25,7 +26,7 @@ returns-in-Some c =
     let a : PathStops p o c.args.limit (wide (t + 1) (w.row + 1) (w.column + 1) (stated p w.row w.column w.number)) =
     pivot_wide c.in-Leaves.place (omega arith) v.pairs v.table v.so_far f.0 f.1 w.row w.column w.number c.in-Some.ensures.pivoted c.args.limit
     (omega (arith, c.requires.within, c.if-made-limit.false)) in
-    let s : t + 1 ≡ p.rows + c.args.made + 1 = omega (arith, c.requires.opens.long) in
+    let s : t + 1 ≡ p.rows + c.args.made + 1 = omega (arith, c.requires.task.opened.opens.long) in
     let Q : ℕ → Type 0 = λ k. PathStops p o c.args.limit (wide k (w.row + 1) (w.column + 1) (stated p w.row w.column w.number)) in
     let R : Stop → Type 0 = λ x. IsStop p o c.args.limit x in
     subst R (sym c.wide_stop.ensures) (c.requires.small, subst Q s a)
@@ -48,7 +49,7 @@ returns-in_default c =
         so_far = subst T s n.2;
       };
       within = omega (arith, c.requires.within, c.if-made-limit.false);
-      pivot = turn_at c.args.made q (c.pair_at-leaving.result.0) (c.pair_at-leaving.result.1) c.requires.opens v.pairs v.so_far f.0 f.1
+      pivot = turn_at c.args.made q (c.pair_at-leaving.result.0) (c.pair_at-leaving.result.1) c.requires.task.opened.opens v.pairs v.so_far f.0 f.1
           c.pair_at-leaving.ensures.pair n.2;
     }
 
@@ -59,37 +60,22 @@ pub pivot-requires-clause-rises : goal.pivot-requires-clause-rises
 pivot-requires-clause-rises c = leaving_nonzero c.in-Leaves.place c.in-Leaves.ensures.1
 
 pub choose-requires-clause-shaped : goal.choose-requires-clause-shaped
-choose-requires-clause-shaped c = c.requires.shaped
+choose-requires-clause-shaped c = c.requires.task.opened.shaped
 
 pub pivot-requires-clause-table : goal.pivot-requires-clause-table
 pivot-requires-clause-table c = c.requires.state.table
 
-pub wide_stop-requires-clause-row : goal.wide_stop-requires-clause-row
-wide_stop-requires-clause-row c = grind arith
-
-pub wide_stop-requires-clause-small_rows : goal.wide_stop-requires-clause-small_rows
-wide_stop-requires-clause-small_rows c = grind arith
-
-pub wide_stop-requires-clause-small_cols : goal.wide_stop-requires-clause-small_cols
-wide_stop-requires-clause-small_cols c = grind arith
-
-pub wide_stop-requires-clause-column : goal.wide_stop-requires-clause-column
-wide_stop-requires-clause-column c = grind arith
-
-pub overflow_add-p-in-Some : goal.overflow_add-p-in-Some
-overflow_add-p-in-Some c = omega arith
+pub wide_stop-requires : goal.wide_stop-requires
+wide_stop-requires c = grind (arith, common_steps)
 
 pub overflow_cast-result-in-Leaves-2 : goal.overflow_cast-result-in-Leaves-2
 overflow_cast-result-in-Leaves-2 c = omega arith
 
-pub overflow_add-result-in-Leaves-2 : goal.overflow_add-result-in-Leaves-2
-overflow_add-result-in-Leaves-2 c = omega arith
-
-pub pivot-requires-clause-inside : goal.pivot-requires-clause-inside
-pivot-requires-clause-inside c = grind arith
-
 pub overflow_add-p : goal.overflow_add-p
 overflow_add-p c = omega arith
 
-pub wide_stop-requires-clause-size : goal.wide_stop-requires-clause-size
-wide_stop-requires-clause-size c = grind arith
+pub pivot-requires-clause-small_rows : goal.pivot-requires-clause-small_rows
+pivot-requires-clause-small_rows c = c.requires.task.opened.small_rows
+
+pub pivot-requires-clause-small_cols : goal.pivot-requires-clause-small_cols
+pivot-requires-clause-small_cols c = c.requires.task.opened.small_cols

@@ -5,8 +5,8 @@ use Rattle.gs_simplex.specs.Numbers.{at}
 use Rattle.gs_simplex.proofs.{Ring.{times_zero}, Fits.{kept_64, narrow_passed}, Supports.{columns_of, still_old, left_more, done_more, all_written}}
 use Rattle.gs_simplex.proofs.row.divide_all.Goals as goal
 
-pub guessed_quotient-requires-clause-divides : goal.guessed_quotient-requires-clause-divides
-guessed_quotient-requires-clause-divides c =
+pub guessed_quotient-requires-clause-multiple : goal.guessed_quotient-requires-clause-multiple
+guessed_quotient-requires-clause-multiple c =
     let v = c.loop-k.invariant in let k = c.loop-k.k in let old = c.args.row.now in let row = c.loop-k.row in let places = c.args.places.now in let j =
     slice_index places k in
     let u = c.requires.support in let w = columns_of places c.args.found (length old) (at old) (at old) u in let kf = c.loop-k-test.true in
@@ -15,7 +15,12 @@ guessed_quotient-requires-clause-divides c =
     let N : ℤ → Type 0 = λ t. unsigned_abs t < 2 ^ 62 in
     let narrow : unsigned_abs (at row j) < 2 ^ 62 = subst N (sym e) (c.requires.narrow j inside) in
     let P : ℤ → Type 0 = λ t. c.args.by ∣ unsigned_abs t in
-    subst P (sym (kept_64 (at row j) narrow ∙ e)) (c.requires.divides j inside)
+    record {
+      some = c.requires.some;
+      small = c.requires.small;
+      narrow = narrow_passed (at row j) narrow;
+      divides = subst P (sym (kept_64 (at row j) narrow ∙ e)) (c.requires.divides j inside);
+    }
 
 -- the quotient as it is stored
 stored_is : (by : ℕ) (x old q : ℤ) → unsigned_abs old < 2 ^ 62 → unsigned_abs q < 2 ^ 62 → x ≡ old → to_z w64 (of_z w64 x) ≡ pos by *ℤ q
@@ -51,16 +56,6 @@ returns c =
       narrow = all_written (λ j (t : ℤ). unsigned_abs t < 2 ^ 62) places c.args.found (length old) row (λ k h. v.narrow k (omega arith))
           (λ j h none. subst P (sym (v.left j (λ k l. none k (omega arith)))) (c.requires.narrow j h));
     }
-
-pub guessed_quotient-requires-clause-narrow : goal.guessed_quotient-requires-clause-narrow
-guessed_quotient-requires-clause-narrow c =
-    let k = c.loop-k.k in let old = c.args.row.now in let row = c.loop-k.row in let places = c.args.places.now in
-    let j = slice_index places k in
-    let u = c.requires.support in let w = columns_of places c.args.found (length old) (at old) (at old) u in
-    let e : at row j ≡ at old j =
-    still_old places c.args.found k (length old) old row (pos 0) w c.loop-k-test.true c.loop-k.auto.row c.loop-k.invariant.left in
-    let N : ℤ → Type 0 = λ t. unsigned_abs t < 2 ^ 62 in
-    narrow_passed (at row j) (subst N (sym e) (c.requires.narrow j (u.inside k c.loop-k-test.true)))
 
 pub bounds-row-j : goal.bounds-row-j
 bounds-row-j c = grind (arith, common_steps)

@@ -18,12 +18,6 @@ pub returns-clause-divided : goal.returns-clause-divided
 returns-clause-divided c = undivided_row c.args.row.now c.narrow_divisor-by.result c.requires.some c.narrow_divisor-by.ensures
     (omega (arith, c.if-by-gt1.false))
 
-pub returns-clause-bound : goal.returns-clause-bound
-returns-clause-bound c = grind arith
-
-pub divide_all-requires-clause-narrow : goal.divide_all-requires-clause-narrow
-divide_all-requires-clause-narrow c = grind arith
-
 pub returns-then-by-gt1-clause-narrow : goal.returns-then-by-gt1-clause-narrow
 returns-then-by-gt1-clause-narrow c = grind arith
 

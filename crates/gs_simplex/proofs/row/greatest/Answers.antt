@@ -11,6 +11,3 @@ returns c =
 
 pub loop-k-preserved : goal.loop-k-preserved
 loop-k-preserved c = grind arith
-
-pub bounds-row-places : goal.bounds-row-places
-bounds-row-places c = grind arith

@@ -15,14 +15,5 @@ returns-clause-multiple c = c.divide_row-by.ensures.divided.multiple
 pub returns-clause-bound : goal.returns-clause-bound
 returns-clause-bound c = λ j h. c.divide_row-by.ensures.bound c.greatest-most.result c.greatest-most.ensures j h
 
-pub returns-clause-narrow : goal.returns-clause-narrow
-returns-clause-narrow c = grind arith
-
-pub returns-then-most-lt-LONG-clause-narrow : goal.returns-then-most-lt-LONG-clause-narrow
-returns-then-most-lt-LONG-clause-narrow c = grind arith
-
-pub divide_row-by-requires-clause-narrow : goal.divide_row-by-requires-clause-narrow
-divide_row-by-requires-clause-narrow c = grind arith
-
 pub returns-then-most-lt-LONG-clause-bound : goal.returns-then-most-lt-LONG-clause-bound
 returns-then-most-lt-LONG-clause-bound c = grind arith

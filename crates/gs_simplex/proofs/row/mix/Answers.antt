@@ -35,24 +35,15 @@ loop-j-preserved c = record {
 before_end : (j n end : ℕ) → j < n → n ≤ end → j < end
 before_end j n end h l = omega arith
 
-pub returns-clause-within : goal.returns-clause-within
-returns-clause-within c = λ j h. c.loop-j.invariant.within j (omega arith)
+pub returns : goal.returns
+returns c = record {
+  mixed = λ j h.
+      let row = c.args.row.now in let lead = c.args.lead.now in
+      c.loop-j.invariant.mixed j (before_end j (length row) c.loop-j.j h c.loop-j-test.false)
+      ∙ ap (λ t. t *ℤ at row j -ℤ to_z w64 (of_z w64 c.args.far) *ℤ at lead j) (kept_64 c.args.own c.requires.narrow_own)
+      ∙ ap (λ t. c.args.own *ℤ at row j -ℤ t *ℤ at lead j) (kept_64 c.args.far c.requires.narrow_far);
+  within = λ j h. c.loop-j.invariant.within j (omega arith);
+}
 
-pub returns-clause-mixed : goal.returns-clause-mixed
-returns-clause-mixed c = λ j h.
-    let row = c.args.row.now in let lead = c.args.lead.now in
-    c.loop-j.invariant.mixed j (before_end j (length row) c.loop-j.j h c.loop-j-test.false)
-    ∙ ap (λ t. t *ℤ at row j -ℤ to_z w64 (of_z w64 c.args.far) *ℤ at lead j) (kept_64 c.args.own c.requires.narrow_own)
-    ∙ ap (λ t. c.args.own *ℤ at row j -ℤ t *ℤ at lead j) (kept_64 c.args.far c.requires.narrow_far)
-
-pub mixed_number-requires-clause-narrow_y : goal.mixed_number-requires-clause-narrow_y
-mixed_number-requires-clause-narrow_y c = grind (arith, common_steps)
-
-pub mixed_number-requires-clause-narrow_x : goal.mixed_number-requires-clause-narrow_x
-mixed_number-requires-clause-narrow_x c = grind (arith, common_steps)
-
-pub mixed_number-requires-clause-narrow_far : goal.mixed_number-requires-clause-narrow_far
-mixed_number-requires-clause-narrow_far c = grind arith
-
-pub mixed_number-requires-clause-narrow_own : goal.mixed_number-requires-clause-narrow_own
-mixed_number-requires-clause-narrow_own c = grind arith
+pub mixed_number-requires : goal.mixed_number-requires
+mixed_number-requires c = grind (arith, common_steps)

@@ -57,27 +57,19 @@ loop-k-preserved c =
       left = left_more places c.args.found k (length old) old row z w kf long v.left;
     }
 
-pub returns-clause-mixed : goal.returns-clause-mixed
-returns-clause-mixed c =
-    let v = c.loop-k.invariant in let old = c.args.row.now in let lead = c.args.lead.now in let row = c.loop-k.row in let places = c.args.places.now in
-    let own = to_z w64 (of_z w64 c.args.own) in let far = to_z w64 (of_z w64 c.args.far) in let u = c.requires.change in
-    all_written (λ j (t : ℤ). t ≡ c.args.own *ℤ at old j -ℤ c.args.far *ℤ at lead j) places c.args.found (length old) row
-    (λ k h. let j = slice_index places k in v.mixed k (omega arith) ∙ ap (λ t. t *ℤ at old j -ℤ far *ℤ at lead j) (to_z-of_z w64 c.args.own c.ranges.own)
-    ∙ ap (λ t. c.args.own *ℤ at old j -ℤ t *ℤ at lead j) (to_z-of_z w64 c.args.far c.ranges.far))
-    (λ j h none. v.left j (λ i il. none i (omega arith)) ∙ sym (u.outside j h none))
-
-pub returns-clause-narrow : goal.returns-clause-narrow
-returns-clause-narrow c =
-    let v = c.loop-k.invariant in let old = c.args.row.now in let row = c.loop-k.row in let places = c.args.places.now in
-    let P : ℤ → Type 0 = λ t. unsigned_abs t < 2 ^ 62 in
-    λ j h. all_written (λ i (t : ℤ). unsigned_abs t < 2 ^ 62) places c.args.found (length old) row (λ k l. v.narrow k (omega arith))
-    (λ i l none. subst P (sym (v.left i (λ k m. none k (omega arith)))) (c.requires.narrow_row i l)) j (omega (arith, c.loop-k.auto.row))
-
-pub bounds-row-j : goal.bounds-row-j
-bounds-row-j c = grind (arith, common_steps)
-
-pub slice_copy_out-narrow_mixed_number : goal.slice_copy_out-narrow_mixed_number
-slice_copy_out-narrow_mixed_number c = grind arith
+pub returns : goal.returns
+returns c = record {
+  mixed = let v = c.loop-k.invariant in let old = c.args.row.now in let lead = c.args.lead.now in let row = c.loop-k.row in let places = c.args.places.now in
+      let own = to_z w64 (of_z w64 c.args.own) in let far = to_z w64 (of_z w64 c.args.far) in let u = c.requires.change in
+      all_written (λ j (t : ℤ). t ≡ c.args.own *ℤ at old j -ℤ c.args.far *ℤ at lead j) places c.args.found (length old) row
+      (λ k h. let j = slice_index places k in v.mixed k (omega arith) ∙ ap (λ t. t *ℤ at old j -ℤ far *ℤ at lead j) (to_z-of_z w64 c.args.own c.ranges.own)
+      ∙ ap (λ t. c.args.own *ℤ at old j -ℤ t *ℤ at lead j) (to_z-of_z w64 c.args.far c.ranges.far))
+      (λ j h none. v.left j (λ i il. none i (omega arith)) ∙ sym (u.outside j h none));
+  narrow = let v = c.loop-k.invariant in let old = c.args.row.now in let row = c.loop-k.row in let places = c.args.places.now in
+      let P : ℤ → Type 0 = λ t. unsigned_abs t < 2 ^ 62 in
+      λ j h. all_written (λ i (t : ℤ). unsigned_abs t < 2 ^ 62) places c.args.found (length old) row (λ k l. v.narrow k (omega arith))
+      (λ i l none. subst P (sym (v.left i (λ k m. none k (omega arith)))) (c.requires.narrow_row i l)) j (omega (arith, c.loop-k.auto.row));
+}
 
 pub bounds-lead-j : goal.bounds-lead-j
 bounds-lead-j c = grind arith

@@ -1,8 +1,5 @@
 use Rattle.std.proofs.Common.{arith}
 use Rattle.gs_simplex.proofs.row.mixed_most.Goals as goal
 
-pub overflow_mul-result : goal.overflow_mul-result
-overflow_mul-result c = grind arith
-
 pub overflow_mul-result-2 : goal.overflow_mul-result-2
 overflow_mul-result-2 c = grind arith

@@ -1,6 +1,6 @@
 use Rattle.std.proofs.lemmas.Grind.{common_steps}
 use Rattle.std.proofs.{Common.{pos, ◌*ℤ◌, sym, ap, ◌∙◌, arith}, lemmas.Int.{ints}}
-use Rattle.gs_simplex.proofs.Fits.{kept_64}
+use Rattle.gs_simplex.proofs.Fits.{kept_64, narrow_passed}
 use Rattle.gs_simplex.proofs.row.multipliers.Goals as goal
 
 pub returns-clause-shared : goal.returns-clause-shared
@@ -18,11 +18,10 @@ returns-clause-shared c =
 pub returns-clause-narrow_own : goal.returns-clause-narrow_own
 returns-clause-narrow_own c = grind (arith, common_steps)
 
-pub returns-clause-narrow_far : goal.returns-clause-narrow_far
-returns-clause-narrow_far c = grind (arith, common_steps)
+pub narrow_quotient-requires : goal.narrow_quotient-requires
+narrow_quotient-requires c =
+    let s = c.shared-by.ensures in record { some = s.some; small = s.small; narrow = narrow_passed c.args.own c.requires.narrow_own; divides = s.of_own }
 
-pub narrow_quotient-requires-clause-narrow : goal.narrow_quotient-requires-clause-narrow
-narrow_quotient-requires-clause-narrow c = grind arith
-
-pub narrow_quotient-requires-2-clause-narrow : goal.narrow_quotient-requires-2-clause-narrow
-narrow_quotient-requires-2-clause-narrow c = grind arith
+pub narrow_quotient-requires-2 : goal.narrow_quotient-requires-2
+narrow_quotient-requires-2 c =
+    let s = c.shared-by.ensures in record { some = s.some; small = s.small; narrow = narrow_passed c.args.far c.requires.narrow_far; divides = s.of_far }

@@ -25,8 +25,5 @@ returns-clause-value c =
 pub returns-clause-narrow : goal.returns-clause-narrow
 returns-clause-narrow c = let a = c.args in rw (returns-clause-value c) (narrow_difference a.own a.x a.far a.y c.requires)
 
-pub overflow_mul-result-2 : goal.overflow_mul-result-2
-overflow_mul-result-2 c = grind (arith, common_steps)
-
 pub overflow_mul-result : goal.overflow_mul-result
 overflow_mul-result c = grind (arith, common_steps)

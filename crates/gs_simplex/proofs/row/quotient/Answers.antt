@@ -24,9 +24,6 @@ returns-then-unsigned_abs-lt-WIDE-clause-value c =
 pub nonzero_div-number : goal.nonzero_div-number
 nonzero_div-number c = grind (arith, common_steps)
 
-pub returns-then-by-eq1-clause-value : goal.returns-then-by-eq1-clause-value
-returns-then-by-eq1-clause-value c = grind arith
-
 pub returns-then-unsigned_abs-lt-WIDE-clause-small_result : goal.returns-then-unsigned_abs-lt-WIDE-clause-small_result
 returns-then-unsigned_abs-lt-WIDE-clause-small_result c = grind arith
 

@@ -1,8 +1,5 @@
 use Rattle.std.proofs.{Common.{arith}, lemmas.Grind.{common_steps}}
 use Rattle.gs_simplex.proofs.sparse.push_zeros.Goals as goal
 
-pub loop-preserved : goal.loop-preserved
-loop-preserved c = grind (arith, common_steps)
-
 pub returns : goal.returns
 returns c = grind arith

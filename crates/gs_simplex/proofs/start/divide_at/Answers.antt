@@ -13,24 +13,19 @@ divided xs ys start w n e h long some u =
     (λ j l. at_part xs start n j (omega arith)) (λ j l. sym (at_put_inside xs ys start n j (omega arith) long (omega arith)))
     (subst P (part_long xs start w n e h) u)
 
-pub returns-clause-divided : goal.returns-clause-divided
-returns-clause-divided c =
-    let w = c.args.width in let s = c.args.start in let n = s + w - s in
-    let long : length c.divide_row.new.row ≡ n = omega (arith, c.divide_row.auto.row, part_long c.args.numbers.now s w n refl c.requires.inside) in
-    divided c.args.numbers.now c.divide_row.new.row s w n refl c.requires.inside long c.requires.some c.divide_row.ensures.divided
-
-pub returns-clause-narrow : goal.returns-clause-narrow
-returns-clause-narrow c =
-    let w = c.args.width in let s = c.args.start in let n = s + w - s in
-    let long : length c.divide_row.new.row ≡ n = omega (arith, c.divide_row.auto.row, part_long c.args.numbers.now s w n refl c.requires.inside) in
-    λ k h. narrow_put c.args.numbers.now c.divide_row.new.row s n long (omega (arith, c.requires.inside)) c.requires.narrow c.divide_row.ensures.narrow k
-    (let e = length_put c.args.numbers.now c.divide_row.new.row s n long (omega (arith, c.requires.inside)) in omega arith)
-
-pub returns-clause-others : goal.returns-clause-others
-returns-clause-others c =
-    let w = c.args.width in let s = c.args.start in let n = s + w - s in
-    others_put c.args.numbers.now c.divide_row.new.row s w n refl c.requires.inside
-    (c.divide_row.auto.row ∙ part_long c.args.numbers.now s w n refl c.requires.inside ∙ omega arith)
+pub returns : goal.returns
+returns c = record {
+  others = let w = c.args.width in let s = c.args.start in let n = s + w - s in
+      others_put c.args.numbers.now c.divide_row.new.row s w n refl c.requires.inside
+      (c.divide_row.auto.row ∙ part_long c.args.numbers.now s w n refl c.requires.inside ∙ omega arith);
+  divided = let w = c.args.width in let s = c.args.start in let n = s + w - s in
+      let long : length c.divide_row.new.row ≡ n = omega (arith, c.divide_row.auto.row, part_long c.args.numbers.now s w n refl c.requires.inside) in
+      divided c.args.numbers.now c.divide_row.new.row s w n refl c.requires.inside long c.requires.some c.divide_row.ensures.divided;
+  narrow = let w = c.args.width in let s = c.args.start in let n = s + w - s in
+      let long : length c.divide_row.new.row ≡ n = omega (arith, c.divide_row.auto.row, part_long c.args.numbers.now s w n refl c.requires.inside) in
+      λ k h. narrow_put c.args.numbers.now c.divide_row.new.row s n long (omega (arith, c.requires.inside)) c.requires.narrow c.divide_row.ensures.narrow k
+      (let e = length_put c.args.numbers.now c.divide_row.new.row s n long (omega (arith, c.requires.inside)) in omega arith);
+}
 
 pub divide_row-requires-clause-narrow : goal.divide_row-requires-clause-narrow
 divide_row-requires-clause-narrow c = grind (arith, common_steps)

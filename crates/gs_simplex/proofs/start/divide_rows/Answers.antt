@@ -1,3 +1,4 @@
+use Rattle.std.proofs.lemmas.Grind.{common_steps}
 use Rattle.std.proofs.Common.{◌≡◌, ◌⊎◌, ℕ, ◌+◌, ◌*◌, ◌<◌, ◌≤◌, ℤ, List, refl, sym, arith, below_more}
 use Rattle.gs_simplex.specs.Numbers.{at, cell, IsDivided}
 use Rattle.gs_simplex.proofs.Places.{divided_same, row_stays, rows_left}
@@ -22,11 +23,8 @@ loop-i-preserved c =
       narrow = c.divide_at.ensures.narrow;
     }
 
-pub divide_at-requires-clause-narrow : goal.divide_at-requires-clause-narrow
-divide_at-requires-clause-narrow c = grind arith
-
-pub divide_at-requires-clause-inside : goal.divide_at-requires-clause-inside
-divide_at-requires-clause-inside c = grind arith
+pub divide_at-requires : goal.divide_at-requires
+divide_at-requires c = grind (arith, common_steps)
 
 pub loop-i-init : goal.loop-i-init
 loop-i-init c = grind arith

@@ -5,11 +5,5 @@ use Rattle.gs_simplex.proofs.start.give_slots.Goals as goal
 pub loop-j-preserved : goal.loop-j-preserved
 loop-j-preserved c = slots_more c.loop-j.invariant (subst (λ n. c.loop-j.j < n) (sym c.loop-j.auto.stands) c.loop-j-test.true)
 
-pub returns : goal.returns
-returns c = grind arith
-
-pub loop-j-init : goal.loop-j-init
-loop-j-init c = grind arith
-
 pub loop-j-preserved-then-is_own : goal.loop-j-preserved-then-is_own
 loop-j-preserved-then-is_own c = let own = c.is_own.ensures c.if-is_own.true in slots_own c.loop-j.invariant own.0 own.1

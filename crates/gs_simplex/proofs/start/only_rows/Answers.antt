@@ -23,14 +23,8 @@ loop-i-preserved c =
       only = subst O (sym same) only;
     }
 
-pub full_row-requires-clause-shaped : goal.full_row-requires-clause-shaped
-full_row-requires-clause-shaped c = c.requires.shaped
-
-pub loop-i-init : goal.loop-i-init
-loop-i-init c = grind (arith, common_steps)
-
-pub full_row-requires-clause-row : goal.full_row-requires-clause-row
-full_row-requires-clause-row c = grind arith
+pub full_row-requires : goal.full_row-requires
+full_row-requires c = grind (arith, common_steps)
 
 at_end : (a b : ℕ) → a ≤ b → b ≤ a → a ≡ b
 at_end a b h k = omega arith
@@ -44,6 +38,3 @@ pub note_row-requires : goal.note_row-requires
 note_row-requires c =
     ap (λ (x : List ℤ). length x) c.deref.ensures.value ∙ c.in_ok-full_row.ensures.long
     ∙ sym (ap (λ (x : List ℕ). length x) c.deref_mut.ensures.value ∙ c.loop-i.invariant.long)
-
-pub returns-clause-long : goal.returns-clause-long
-returns-clause-long c = grind arith

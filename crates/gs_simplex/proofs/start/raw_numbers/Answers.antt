@@ -53,6 +53,3 @@ set_places-requires-clause-stands c = grind arith
 
 pub full_row-requires-clause-shaped : goal.full_row-requires-clause-shaped
 full_row-requires-clause-shaped c = c.requires.shaped
-
-pub set_places-requires-clause-long : goal.set_places-requires-clause-long
-set_places-requires-clause-long c = grind arith

@@ -25,8 +25,5 @@ loop-j-preserved c =
           (c.requires.apart j jn (subst B c.loop-j.auto.part out))))
     ])
 
-pub returns : goal.returns
-returns c = grind arith
-
 pub loop-j-init : goal.loop-j-init
 loop-j-init c = grind arith

@@ -208,23 +208,8 @@ clear_column-wide-requires-clause-long c =
 pub clear_column-wide-requires-clause-narrow : goal.clear_column-wide-requires-clause-narrow
 clear_column-wide-requires-clause-narrow c = c.take_lead-count.ensures.narrow
 
-pub returns-clause-room : goal.returns-clause-room
-returns-clause-room c = grind (arith, common_steps)
-
-pub overflow_mul-start : goal.overflow_mul-start
-overflow_mul-start c = grind arith
-
-pub clear_column-wide-requires-clause-place : goal.clear_column-wide-requires-clause-place
-clear_column-wide-requires-clause-place c = grind arith
-
-pub take_lead-count-requires-clause-narrow : goal.take_lead-count-requires-clause-narrow
-take_lead-count-requires-clause-narrow c = grind arith
-
-pub take_lead-count-requires-clause-inside : goal.take_lead-count-requires-clause-inside
-take_lead-count-requires-clause-inside c = grind arith
+pub take_lead-count-requires : goal.take_lead-count-requires
+take_lead-count-requires c = grind (arith, common_steps)
 
 pub clear_column-wide-requires-clause-room : goal.clear_column-wide-requires-clause-room
 clear_column-wide-requires-clause-room c = grind arith
-
-pub clear_column-wide-requires-clause-spare : goal.clear_column-wide-requires-clause-spare
-clear_column-wide-requires-clause-spare c = grind arith

@@ -93,19 +93,15 @@ loop-i-preserved c =
       tops_left = tops_left_more c.loop-i.tops c.args.tops.now i c.in-Ok.top v.tops_left;
     }
 
-pub returns-clause-cleared : goal.returns-clause-cleared
-returns-clause-cleared c =
-    record {
-      others = λ i h ne. c.loop-i.invariant.done i (omega arith) ne;
-      kept = c.loop-i.invariant.kept;
-      narrow = c.loop-i.invariant.narrow;
-    }
-
-pub returns-clause-tops : goal.returns-clause-tops
-returns-clause-tops c = λ i h. c.loop-i.invariant.tops_done i (omega arith)
-
-pub overflow_mul-i : goal.overflow_mul-i
-overflow_mul-i c = grind (arith, common_steps)
+pub returns : goal.returns
+returns c = record {
+  cleared = record {
+    others = λ i h ne. c.loop-i.invariant.done i (omega arith) ne;
+    kept = c.loop-i.invariant.kept;
+    narrow = c.loop-i.invariant.narrow;
+  };
+  tops = λ i h. c.loop-i.invariant.tops_done i (omega arith);
+}
 
 pub reduce_at-requires-clause-inside : goal.reduce_at-requires-clause-inside
 reduce_at-requires-clause-inside c =
@@ -114,18 +110,3 @@ reduce_at-requires-clause-inside c =
 
 pub loop-i-init : goal.loop-i-init
 loop-i-init c = grind (arith, common_steps)
-
-pub reduce_at-requires-clause-narrow : goal.reduce_at-requires-clause-narrow
-reduce_at-requires-clause-narrow c = grind (arith, common_steps)
-
-pub bounds-tops-i-in-Ok : goal.bounds-tops-i-in-Ok
-bounds-tops-i-in-Ok c = grind (arith, common_steps)
-
-pub reduce_at-requires-clause-room : goal.reduce_at-requires-clause-room
-reduce_at-requires-clause-room c = grind arith
-
-pub bounds-tops-i-in-loop-i : goal.bounds-tops-i-in-loop-i
-bounds-tops-i-in-loop-i c = grind arith
-
-pub offset_bounds-tops-i-in-Ok : goal.offset_bounds-tops-i-in-Ok
-offset_bounds-tops-i-in-Ok c = omega arith

@@ -70,35 +70,24 @@ answer lead xs mid ys mixed start q c n (Ok most) e h long nx of u same =
     )
 answer lead xs mid ys mixed start q c n (Err by) e h long nx of u same = (at mid, of, u)
 
-pub returns-clause-others : goal.returns-clause-others
-returns-clause-others c =
-    let w = length c.args.lead.now.numbers.now in let s = c.args.start in let n = s + w - s in
-    others_put c.args.numbers.now c.reduce_row.new.row s w n refl c.requires.inside
-    (omega (arith, c.reduce_row.auto.row, c.free_slot.auto.row, part_long c.args.numbers.now s w n refl c.requires.inside))
-
-pub returns-clause-answer : goal.returns-clause-answer
-returns-clause-answer c =
-    let k = goal.at.returns-clause-answer c in
-    let w = length c.args.lead.now.numbers.now in let s = c.args.start in let n = s + w - s in
-    let long : length c.reduce_row.new.row ≡ n = omega (
-      arith,
-      c.reduce_row.auto.row,
-      c.free_slot.auto.row,
-      part_long c.args.numbers.now s w n refl
-          c.requires.inside,
-    ) in
-    answer c.args.lead.now.numbers.now c.args.numbers.now c.free_slot.new.row c.reduce_row.new.row c.reduce_row.new.mixed s c.args.q c.args.lead.now.column n
-    c.reduce_row.result refl c.requires.inside long c.requires.narrow (freed_here k.After-free_slot) c.reduce_row.ensures
-    (length_put c.args.numbers.now c.reduce_row.new.row s n long (omega (arith, c.requires.inside)))
+pub returns : goal.returns
+returns c = record {
+  others = let w = length c.args.lead.now.numbers.now in let s = c.args.start in let n = s + w - s in
+      others_put c.args.numbers.now c.reduce_row.new.row s w n refl c.requires.inside
+      (omega (arith, c.reduce_row.auto.row, c.free_slot.auto.row, part_long c.args.numbers.now s w n refl c.requires.inside));
+  answer = let k = goal.at.returns c in
+      let w = length c.args.lead.now.numbers.now in let s = c.args.start in let n = s + w - s in
+      let long : length c.reduce_row.new.row ≡ n = omega (
+        arith,
+        c.reduce_row.auto.row,
+        c.free_slot.auto.row,
+        part_long c.args.numbers.now s w n refl
+            c.requires.inside,
+      ) in
+      answer c.args.lead.now.numbers.now c.args.numbers.now c.free_slot.new.row c.reduce_row.new.row c.reduce_row.new.mixed s c.args.q c.args.lead.now.column n
+      c.reduce_row.result refl c.requires.inside long c.requires.narrow (freed_here k.After-free_slot) c.reduce_row.ensures
+      (length_put c.args.numbers.now c.reduce_row.new.row s n long (omega (arith, c.requires.inside)));
+}
 
 pub free_slot-requires-clause-narrow : goal.free_slot-requires-clause-narrow
 free_slot-requires-clause-narrow c = grind (arith, common_steps)
-
-pub reduce_row-requires-clause-room : goal.reduce_row-requires-clause-room
-reduce_row-requires-clause-room c = grind arith
-
-pub reduce_row-requires-clause-narrow : goal.reduce_row-requires-clause-narrow
-reduce_row-requires-clause-narrow c = grind arith
-
-pub reduce_row-requires-clause-long : goal.reduce_row-requires-clause-long
-reduce_row-requires-clause-long c = grind arith

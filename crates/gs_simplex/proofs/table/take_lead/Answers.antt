@@ -1,4 +1,4 @@
-use Rattle.std.proofs.{Common.{◌≡◌, inl, inr, ℕ, ◌+◌, ◌-◌, ◌<◌, ◌≤◌, ℤ, List, length, take, drop, refl, sym, subst, ◌∙◌, arith}, lemmas.Grind.{common_steps}}
+use Rattle.std.proofs.{Common.{◌≡◌, inl, inr, ⊎_elim, ℕ, ◌+◌, ◌-◌, ◌<◌, ◌≤◌, ℤ, List, length, take, drop, refl, sym, subst, ◌∙◌, arith}, lemmas.Grind.{common_steps}}
 use Rattle.gs_simplex.specs.{Numbers.{at, AreNarrowNumbers, IsLeadOf}, Columns.{IsOwnFreed, IsRowLed}}
 use Rattle.gs_simplex.proofs.Places.{at_part, part_long, others_put, narrow_put, length_put}
 use Rattle.gs_simplex.proofs.table.take_lead.Goals as goal
@@ -25,57 +25,38 @@ taken xs ys row lead start q w n e h long qw yl same narrow rl of u =
     let L : List ℤ → Type 0 = λ x. IsRowLed (λ j. at xs (start + j)) (at x) q (w - 1) w in
     subst V (sym long) (subst L (sym same) (record { row = (at ys, freed, led); narrow = λ k l. narrow k (omega arith) }))
 
-pub returns-clause-taken : goal.returns-clause-taken
-returns-clause-taken c =
-    let w = length c.args.lead.now in let s = c.args.start in
-    let rl : length c.take_row.new.row ≡ w = omega (
-      arith,
-      c.take_row.auto.row,
-      c.free_own.auto.row,
-      part_long c.args.numbers.now s w (s + w - s) refl
-          c.requires.inside,
-    ) in
-    taken c.args.numbers.now c.free_own.new.row c.take_row.new.row c.take_row.new.lead s c.args.q w (s + w - s) refl c.requires.inside c.take_row.auto.lead
-    c.requires.place (omega (arith, c.free_own.auto.row, part_long c.args.numbers.now s w (s + w - s) refl c.requires.inside)) c.take_row.ensures.same
-    c.take_row.ensures.narrow rl c.free_own.ensures.freed c.take_row.ensures.taken
+pub take_row-requires : goal.take_row-requires
+take_row-requires c = grind (arith, common_steps)
 
-pub returns-clause-others : goal.returns-clause-others
-returns-clause-others c = λ k h.
-    let w = length c.args.lead.now in let s = c.args.start in let n = s + w - s in
-    let long : length c.take_row.new.row ≡ n = omega (
-      arith,
-      c.take_row.auto.row,
-      c.free_own.auto.row,
-      part_long c.args.numbers.now s w n refl
-          c.requires.inside,
-    ) in
-    others_put c.args.numbers.now c.take_row.new.row s w n refl c.requires.inside long k
-    (elim h [ inl l ↦ inl l | inr l ↦ inr (omega (arith, c.take_row.auto.lead)) ])
-
-pub take_row-requires-clause-narrow : goal.take_row-requires-clause-narrow
-take_row-requires-clause-narrow c = grind (arith, common_steps)
-
-pub returns-clause-same : goal.returns-clause-same
-returns-clause-same c = grind (arith, common_steps)
-
-pub returns-clause-narrow : goal.returns-clause-narrow
-returns-clause-narrow c = λ k h.
-    let w = length c.args.lead.now in let s = c.args.start in let n = s + w - s in let xs = c.args.numbers.now in let ys = c.take_row.new.row in
-    let long : length ys ≡ n = omega (arith, c.take_row.auto.row, c.free_own.auto.row, part_long xs s w n refl c.requires.inside) in
-    let inside : s + n ≤ length xs = omega (arith, c.requires.inside) in
-    narrow_put xs ys s n long inside c.requires.narrow c.take_row.ensures.narrow k (omega (arith, h, length_put xs ys s n long inside))
-
-pub free_own-requires-clause-narrow : goal.free_own-requires-clause-narrow
-free_own-requires-clause-narrow c = grind (arith, common_steps)
-
-pub take_row-requires-clause-room : goal.take_row-requires-clause-room
-take_row-requires-clause-room c = grind arith
-
-pub take_row-requires-clause-long : goal.take_row-requires-clause-long
-take_row-requires-clause-long c = grind arith
-
-pub returns-clause-support : goal.returns-clause-support
-returns-clause-support c = grind arith
-
-pub take_row-requires-clause-inside : goal.take_row-requires-clause-inside
-take_row-requires-clause-inside c = grind arith
+pub returns : goal.returns
+returns c = record {
+  same = grind (arith, common_steps);
+  taken = let w = length c.args.lead.now in let s = c.args.start in
+      let rl : length c.take_row.new.row ≡ w = omega (
+        arith,
+        c.take_row.auto.row,
+        c.free_own.auto.row,
+        part_long c.args.numbers.now s w (s + w - s) refl
+            c.requires.inside,
+      ) in
+      taken c.args.numbers.now c.free_own.new.row c.take_row.new.row c.take_row.new.lead s c.args.q w (s + w - s) refl c.requires.inside c.take_row.auto.lead
+      c.requires.place (omega (arith, c.free_own.auto.row, part_long c.args.numbers.now s w (s + w - s) refl c.requires.inside)) c.take_row.ensures.same
+      c.take_row.ensures.narrow rl c.free_own.ensures.freed c.take_row.ensures.taken;
+  support = grind arith;
+  others = λ k h.
+      let w = length c.args.lead.now in let s = c.args.start in let n = s + w - s in
+      let long : length c.take_row.new.row ≡ n = omega (
+        arith,
+        c.take_row.auto.row,
+        c.free_own.auto.row,
+        part_long c.args.numbers.now s w n refl
+            c.requires.inside,
+      ) in
+      others_put c.args.numbers.now c.take_row.new.row s w n refl c.requires.inside long k
+      (⊎_elim (λ l. inl l) (λ l. inr (omega (arith, c.take_row.auto.lead))) h);
+  narrow = λ k h.
+      let w = length c.args.lead.now in let s = c.args.start in let n = s + w - s in let xs = c.args.numbers.now in let ys = c.take_row.new.row in
+      let long : length ys ≡ n = omega (arith, c.take_row.auto.row, c.free_own.auto.row, part_long xs s w n refl c.requires.inside) in
+      let inside : s + n ≤ length xs = omega (arith, c.requires.inside) in
+      narrow_put xs ys s n long inside c.requires.narrow c.take_row.ensures.narrow k (omega (arith, h, length_put xs ys s n long inside));
+}

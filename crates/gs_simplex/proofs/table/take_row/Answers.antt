@@ -19,17 +19,8 @@ returns-clause-support c =
     support_divided c.fill-count.new.filled c.fill-count.result (length c.args.row.now) mid (at c.divide_row.new.row)
     (subst P c.turn_row.auto.row c.fill-count.ensures) (divided (goal.at.returns-clause-support c).After-divide_row)
 
-pub copy_from_slice-requires : goal.copy_from_slice-requires
-copy_from_slice-requires c = grind arith
-
-pub fill-count-requires-clause-narrow : goal.fill-count-requires-clause-narrow
-fill-count-requires-clause-narrow c = grind arith
-
 pub divide_row-requires-clause-narrow : goal.divide_row-requires-clause-narrow
 divide_row-requires-clause-narrow c = grind arith
 
 pub returns-clause-narrow : goal.returns-clause-narrow
 returns-clause-narrow c = grind arith
-
-pub returns-clause-same : goal.returns-clause-same
-returns-clause-same c = grind arith

@@ -20,21 +20,12 @@ pub listed_columns-requires-clause-pairs : goal.listed_columns-requires-clause-p
 listed_columns-requires-clause-pairs c =
     let p = c.args.p.now in let o = c.args.opening.now in
     subst (λ (x : Listing). IsPairList p x) (sym (c.deref.ensures.value ∙ c.in_ok-basis.ensures.items))
-    (replayed_none p o c.requires.opens c.requires.path).pairs
-
-pub listed_columns-requires-in-loop-place-clause-pairs : goal.listed_columns-requires-in-loop-place-clause-pairs
-listed_columns-requires-in-loop-place-clause-pairs c =
-    let p = c.args.p.now in let l = c.loop-place.basis.items in let new = c.replace.new.basis in
-    let back = take_at new (drop (length new) l) c.loop-place.basis.len (omega (arith, c.replace.auto.basis, c.deref_mut.ensures.len)) in
-    subst (λ (x : Listing). IsPairList p x) (sym (c.deref-in-loop-place.ensures.value ∙ back))
-    (next p c.args.opening.now l c.deref_mut.result.now new c.loop-place.place c.args.turns.now c.requires.opens c.requires.turns
-    c.loop-place.invariant.replayed
-    c.deref_mut.ensures.value c.loop-place-test.true c.replace.ensures).pairs
+    (replayed_none p o c.requires.opened.opens c.requires.path).pairs
 
 pub loop-place-init : goal.loop-place-init
 loop-place-init c =
     let p = c.args.p.now in let o = c.args.opening.now in let v = c.in_ok-listed_columns.field-0 in
-    let start = replayed_none p o c.requires.opens c.requires.path in
+    let start = replayed_none p o c.requires.opened.opens c.requires.path in
     let same : c.in_ok-basis.basis.items ≡ o = c.in_ok-basis.ensures.items in
     let b : IsBasis o v.items = subst (λ (x : Listing). IsBasis x v.items) (c.deref.ensures.value ∙ same) c.in_ok-listed_columns.ensures in
     record {
@@ -49,7 +40,7 @@ loop-place-preserved c =
     let p = c.args.p.now in let o = c.args.opening.now in let k = c.loop-place.place in let v = c.loop-place.invariant in
     let l = c.loop-place.basis.items in let new = c.replace.new.basis in let columns = c.in_ok-listed_columns-2.field-0 in
     let back = take_at new (drop (length new) l) c.loop-place.basis.len (omega (arith, c.replace.auto.basis, c.deref_mut.ensures.len)) in
-    let more = next p o l c.deref_mut.result.now new k c.args.turns.now c.requires.opens c.requires.turns v.replayed c.deref_mut.ensures.value
+    let more = next p o l c.deref_mut.result.now new k c.args.turns.now c.requires.opened.opens c.requires.turns v.replayed c.deref_mut.ensures.value
     c.loop-place-test.true c.replace.ensures in
     let b : IsBasis new columns.items =
     subst (λ (x : Listing). IsBasis x columns.items) (c.deref-in-loop-place.ensures.value ∙ back) c.in_ok-listed_columns-2.ensures in
@@ -73,14 +64,14 @@ replace-requires c = grind arith
 pub bounds-turns-place : goal.bounds-turns-place
 bounds-turns-place c = grind arith
 
-pub offset_bounds-turns-place : goal.offset_bounds-turns-place
-offset_bounds-turns-place c = grind arith
-
-pub listed_columns-requires-in-loop-place-clause-small_rows : goal.listed_columns-requires-in-loop-place-clause-small_rows
-listed_columns-requires-in-loop-place-clause-small_rows c = c.requires.small_rows
-
-pub listed_columns-requires-in-loop-place-clause-small_cols : goal.listed_columns-requires-in-loop-place-clause-small_cols
-listed_columns-requires-in-loop-place-clause-small_cols c = c.requires.small_cols
-
-pub listed_columns-requires-clause-small_rows : goal.listed_columns-requires-clause-small_rows
-listed_columns-requires-clause-small_rows c = grind arith
+pub listed_columns-requires-in-loop-place : goal.listed_columns-requires-in-loop-place
+listed_columns-requires-in-loop-place c = record {
+  small_rows = c.requires.opened.small_rows;
+  small_cols = c.requires.opened.small_cols;
+  pairs = let p = c.args.p.now in let l = c.loop-place.basis.items in let new = c.replace.new.basis in
+      let back = take_at new (drop (length new) l) c.loop-place.basis.len (omega (arith, c.replace.auto.basis, c.deref_mut.ensures.len)) in
+      subst (λ (x : Listing). IsPairList p x) (sym (c.deref-in-loop-place.ensures.value ∙ back))
+      (next p c.args.opening.now l c.deref_mut.result.now new c.loop-place.place c.args.turns.now c.requires.opened.opens c.requires.turns
+      c.loop-place.invariant.replayed
+      c.deref_mut.ensures.value c.loop-place-test.true c.replace.ensures).pairs;
+}

@@ -19,6 +19,3 @@ loop-j-preserved c =
 pub returns : goal.returns
 returns c = basis_whole c.args.p.now c.args.basis.now c.loop-j.j c.loop-j.columns.items c.requires.pairs
     (omega (arith, c.requires.index.long, c.loop-j-test.false)) c.loop-j.invariant
-
-pub loop-j-init : goal.loop-j-init
-loop-j-init c = grind arith

@@ -18,11 +18,8 @@ loop-made-preserved c =
           (turns_more p o xs turn v.turns (subst (λ k. IsTurnAt p o (length o + k) turn) (sym v.long) w.pivot));
     }
 
-pub returns-in-None : goal.returns-in-None
-returns-in-None c = grind arith
-
 pub loop-made-init : goal.loop-made-init
 loop-made-init c = grind arith
 
-pub step-requires-clause-shaped : goal.step-requires-clause-shaped
-step-requires-clause-shaped c = c.requires.ready.shaped
+pub step-requires-clause-task : goal.step-requires-clause-task
+step-requires-clause-task c = c.requires.ready.task

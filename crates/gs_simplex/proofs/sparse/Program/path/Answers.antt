@@ -34,11 +34,8 @@ returns c =
     let l = c.follow_noting.new.basis in
     let at = c.in_ok-basis.field-0 in let end = c.in_ok-follow_noting.ensures.0 in
     shown_of p o c.args.limit n (record { start = c.aim_value-start.result; turns = turns; aim = c.aim_value-aim.result }) o l (grid_of p at.table)
-    (grid_of p c.follow_noting.new.table) c.in_ok-basis.ensures.small c.requires.opens c.in_ok-basis.ensures.state.so_far c.aim_value-start.ensures
+    (grid_of p c.follow_noting.new.table) c.in_ok-basis.ensures.small c.requires.opened.opens c.in_ok-basis.ensures.state.so_far c.aim_value-start.ensures
     end.state.so_far end.state.table end.within end.none c.aim_value-aim.ensures refl c.in_ok-follow_noting.ensures.1
 
-pub follow_noting-requires-clause-ready : goal.follow_noting-requires-clause-ready
-follow_noting-requires-clause-ready c = grind arith
-
-pub aim_value-aim-requires-clause-table : goal.aim_value-aim-requires-clause-table
-aim_value-aim-requires-clause-table c = grind arith
+pub begin-requires : goal.begin-requires
+begin-requires c = c.requires.opened

@@ -54,14 +54,8 @@ best-requires-clause-pairs c =
     subst (λ (x : Listing). IsPairList c.args.self.now x) (sym (taken b.len l (drop (length l) b.items) (c.follow.auto.basis ∙ c.deref_mut.ensures.len)))
     c.in_ok-pivots.ensures.state.pairs
 
-pub follow-requires : goal.follow-requires
-follow-requires c = grind arith
-
-pub begin-requires-clause-shaped : goal.begin-requires-clause-shaped
-begin-requires-clause-shaped c = grind arith
+pub begin-requires : goal.begin-requires
+begin-requires c = c.requires.opened
 
 pub best-requires-clause-small_rows : goal.best-requires-clause-small_rows
 best-requires-clause-small_rows c = grind arith
-
-pub best-requires-clause-table : goal.best-requires-clause-table
-best-requires-clause-table c = grind arith

@@ -15,5 +15,8 @@ pub returns : goal.returns
 returns c =
     let p = c.args.self.now in let o = c.args.opening.now in let f = c.in_ok-start.field-0 in
     let bases = subst (λ (x : List Turn). AreBases p o (length x + 1) c.in_ok-bases.bases.items) c.deref.ensures.value c.in_ok-bases.ensures in
-    with_bases p o c.args.limit (record { start = f.start; turns = f.turns; bases = c.in_ok-bases.bases; aim = f.aim }) c.requires.opens
+    with_bases p o c.args.limit (record { start = f.start; turns = f.turns; bases = c.in_ok-bases.bases; aim = f.aim }) c.requires.opened.opens
     c.in_ok-start.ensures bases
+
+pub bases_of-requires-clause-opened : goal.bases_of-requires-clause-opened
+bases_of-requires-clause-opened c = c.requires.opened

@@ -3,6 +3,3 @@ use Rattle.gs_simplex.proofs.sparse.Row.of.Goals as goal
 
 pub loop-number-preserved : goal.loop-number-preserved
 loop-number-preserved c = grind (arith, common_steps)
-
-pub returns : goal.returns
-returns c = grind (arith, common_steps)

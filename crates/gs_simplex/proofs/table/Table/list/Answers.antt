@@ -1,7 +1,7 @@
 use Rattle.std.proofs.Common.{◌≡◌, ◌≢◌, ℕ, ◌+◌, ◌<◌, List, ◌++◌, length, take, drop, slice_index, vec_len, ℤ, pos, sym, ap, subst, ◌∙◌, arith}
 use Rattle.std.proofs.lemmas.List.{take_at, get_or_default, length-take-le}
 use Rattle.std.specs.Vec.{with_items}
-use Rattle.gs_simplex.specs.{Numbers.{cell, AreTops}, Columns.{IsPivotDone, IsPivotWide}, Table.{IsWideAfter}}
+use Rattle.gs_simplex.specs.{Numbers.{cell, AreTops}, Columns.{IsPivotDone, IsPivotWide}, Table.{IsWideAfter}, declared.table.Table.{Table}}
 use Rattle.gs_simplex.specs.Columns.{place_in, in_columns, AreStands, AreStandsAfter, AreLivePlaces, IsLive, IsTimes, IsFirstWideOf, HasWideColumn}
 use Rattle.gs_simplex.proofs.Relisting.{place_inside, nonzero_at, stands_next, live_next, laid_next, table_next, has_wide, wide_next}
 use Rattle.gs_simplex.proofs.table.Table.list.Goals.{After-make_own, After-place_of-q, After-deref, After-live_places-found, After-clear, After-deref_mut-4}
@@ -34,15 +34,6 @@ same_stands : (c : After-deref) → c.deref.result.now ≡ c.make_own.new.stands
 same_stands c =
     let g = (goal.at.After-deref c).After-make_own in let s = c.make_own.new.stands in let v = c.args.self.now.stands in
     c.deref.ensures.value ∙ take_at s (drop (length s) v.items) v.len (stands_len g)
-
-pub live_places-found-requires-clause-stands : goal.live_places-found-requires-clause-stands
-live_places-found-requires-clause-stands c =
-    let g = goal.at.live_places-found-requires-clause-stands c in let p = c.args.p.now in let s = c.make_own.new.stands in
-    let W : ℕ → Type 0 = λ w. AreStands p.rows w (length c.deref.result.now) (slice_index c.deref.result.now) in
-    let S : List ℕ → Type 0 = λ x. AreStands p.rows (vec_len c.args.self.now.room.lead) (length x) (slice_index x) in
-    let N : ℕ → Type 0 = λ n. AreStands p.rows (vec_len c.args.self.now.room.lead) n (slice_index s) in
-    subst W (sym c.len-2.ensures) (subst S (sym (same_stands g.After-deref)) (subst N (sym (stands_long g.After-make_own))
-    (stands_next c.requires.laid c.args.r c.args.c c.requires.row c.requires.column c.requires.nonzero s (moves g.After-make_own))))
 
 -- the places that have columns
 live_here : (c : After-live_places-found) → AreLivePlaces c.args.p.now.rows (vec_len c.args.self.now.room.lead) (c.args.p.now.cols + 2)
@@ -189,31 +180,29 @@ tops_here c h =
     (take c.args.self.now.numbers.len (c.clear.new.numbers ++ drop (length c.clear.new.numbers) c.args.self.now.numbers.items)) x in
     subst T (sym (after_here c).tops) (subst N (sym (after_here c).numbers) (subst C e.1 h))
 
-pub returns-in-None-clause-laid : goal.returns-in-None-clause-laid
-returns-in-None-clause-laid c =
-    let g = goal.at.returns-in-None-clause-laid c in let a = g.After-clear in let t = c.args.self.now in
-    laid_next c.requires.laid c.args.r c.args.c c.requires.row c.requires.column c.requires.nonzero c.make_own.new.stands (moves g.After-make_own)
-    (record {
+-- the table after the pivot
+abbrev next_table : After-clear → Table
+next_table c =
+    let t = c.args.self.now in
+    record {
       numbers = with_items t.numbers c.clear.new.numbers;
       stands = with_items t.stands c.make_own.new.stands;
       tops = with_items t.tops c.clear.new.tops;
       room = c.clear.new.room;
       live = with_items t.live c.live_places-found.new.live;
-    }) (after_here a).stands c.in-None.ensures.room (numbers_long a (after_here a).numbers) (live_long a) (tops_long a) (done_here a c.in-None.ensures.pivoted)
-    (tops_here a c.in-None.ensures.tops) (stands_long g.After-make_own)
+    }
 
-pub returns-in-None-clause-listed : goal.returns-in-None-clause-listed
-returns-in-None-clause-listed c =
-    let g = goal.at.returns-in-None-clause-listed c in let a = g.After-clear in let t = c.args.self.now in
-    table_next c.requires.laid c.args.r c.args.c c.requires.row c.requires.column c.requires.nonzero c.make_own.new.stands (moves g.After-make_own)
-    (record {
-      numbers = with_items t.numbers c.clear.new.numbers;
-      stands = with_items t.stands c.make_own.new.stands;
-      tops = with_items t.tops c.clear.new.tops;
-      room = c.clear.new.room;
-      live = with_items t.live c.live_places-found.new.live;
-    }) (after_here a).stands c.in-None.ensures.room (numbers_long a (after_here a).numbers) (live_long a) (tops_long a) (done_here a c.in-None.ensures.pivoted)
-    (tops_here a c.in-None.ensures.tops) c.requires.table
+pub returns-in-None : goal.returns-in-None
+returns-in-None c = record {
+  laid = let g = goal.at.returns-in-None c in let a = g.After-clear in
+      laid_next c.requires.laid c.args.r c.args.c c.requires.row c.requires.column c.requires.nonzero c.make_own.new.stands (moves g.After-make_own)
+      (next_table a) (after_here a).stands c.in-None.ensures.room (numbers_long a (after_here a).numbers) (live_long a) (tops_long a) (done_here a c.in-None.ensures.pivoted)
+      (tops_here a c.in-None.ensures.tops) (stands_long g.After-make_own);
+  listed = let g = goal.at.returns-in-None c in let a = g.After-clear in
+      table_next c.requires.laid c.args.r c.args.c c.requires.row c.requires.column c.requires.nonzero c.make_own.new.stands (moves g.After-make_own)
+      (next_table a) (after_here a).stands c.in-None.ensures.room (numbers_long a (after_here a).numbers) (live_long a) (tops_long a) (done_here a c.in-None.ensures.pivoted)
+      (tops_here a c.in-None.ensures.tops) c.requires.table;
+}
 
 before_spare : (stand rows width long : ℕ) → stand + 1 < rows + width → long ≡ width → stand < rows + long
 before_spare stand rows width long h e = omega arith
@@ -240,9 +229,6 @@ clear-requires-clause-place c =
     let g = goal.at.clear-requires-clause-place c in
     omega (arith, place_is g.After-place_of-q, place_inside c.requires.laid c.args.r c.args.c c.requires.row c.requires.column c.requires.nonzero)
 
-pub clear-requires-clause-narrow : goal.clear-requires-clause-narrow
-clear-requires-clause-narrow c = grind arith
-
 pub clear-requires-clause-long : goal.clear-requires-clause-long
 clear-requires-clause-long c = grind arith
 
@@ -264,32 +250,26 @@ make_own-requires-clause-differ c =
     subst P (sym c.deref_mut.ensures.value)
     (λ j h jn hn e. u.stands.differ j h (omega (arith, jn, u.stands_long)) (omega (arith, hn, u.stands_long)) e)
 
-pub live_places-found-requires-clause-room : goal.live_places-found-requires-clause-room
-live_places-found-requires-clause-room c =
-    let g = goal.at.live_places-found-requires-clause-room c in
-    let long : length c.deref.result.now ≡ c.args.p.now.cols + 2 = ap (λ (x : List ℕ). length x) (same_stands g.After-deref) ∙ stands_long g.After-make_own in
-    let room = ap (λ (x : List ℕ). length x) c.deref_mut-2.ensures.value in omega (arith, long, room, c.requires.laid.live_long)
-
 pub slice_bounds-live-end : goal.slice_bounds-live-end
 slice_bounds-live-end c =
     let g = goal.at.slice_bounds-live-end c in
     sym (length-take-le c.live_places-found.result c.deref-2.result.now
     (omega (arith, c.deref-2.ensures.len, live_len g.After-live_places-found, c.live_places-found.ensures.few)))
 
-pub clear-requires-clause-small : goal.clear-requires-clause-small
-clear-requires-clause-small c = grind arith
-
-pub first_wide-requires-clause-some : goal.first_wide-requires-clause-some
-first_wide-requires-clause-some c = grind arith
-
-pub first_wide-requires-clause-small : goal.first_wide-requires-clause-small
-first_wide-requires-clause-small c = grind arith
-
 pub clear-requires-clause-room : goal.clear-requires-clause-room
 clear-requires-clause-room c = grind arith
 
-pub live_places-found-requires-clause-small : goal.live_places-found-requires-clause-small
-live_places-found-requires-clause-small c = grind arith
-
-pub live_places-found-requires-clause-some : goal.live_places-found-requires-clause-some
-live_places-found-requires-clause-some c = grind arith
+pub live_places-found-requires : goal.live_places-found-requires
+live_places-found-requires c = record {
+  room = let g = goal.at.live_places-found-requires c in
+      let long : length c.deref.result.now ≡ c.args.p.now.cols + 2 = ap (λ (x : List ℕ). length x) (same_stands g.After-deref) ∙ stands_long g.After-make_own in
+      let room = ap (λ (x : List ℕ). length x) c.deref_mut-2.ensures.value in omega (arith, long, room, c.requires.laid.live_long);
+  some = grind arith;
+  small = grind arith;
+  stands = let g = goal.at.live_places-found-requires c in let p = c.args.p.now in let s = c.make_own.new.stands in
+      let W : ℕ → Type 0 = λ w. AreStands p.rows w (length c.deref.result.now) (slice_index c.deref.result.now) in
+      let S : List ℕ → Type 0 = λ x. AreStands p.rows (vec_len c.args.self.now.room.lead) (length x) (slice_index x) in
+      let N : ℕ → Type 0 = λ n. AreStands p.rows (vec_len c.args.self.now.room.lead) n (slice_index s) in
+      subst W (sym c.len-2.ensures) (subst S (sym (same_stands g.After-deref)) (subst N (sym (stands_long g.After-make_own))
+      (stands_next c.requires.laid c.args.r c.args.c c.requires.row c.requires.column c.requires.nonzero s (moves g.After-make_own))));
+}

@@ -72,20 +72,6 @@ returns c =
     (subst O (sym c.deref_mut-2.ensures.value) (subst S (same_stands g.After-deref-3) c.in_ok-numbers.ensures))
     c.divide_rows.auto.numbers c.divide_rows.ensures.divided c.divide_rows.ensures.last c.divide_rows.ensures.narrow
 
-pub raw_numbers-requires-clause-apart : goal.raw_numbers-requires-clause-apart
-raw_numbers-requires-clause-apart c =
-    let p = c.args.p.now in let g = goal.at.raw_numbers-requires-clause-apart c in let w = c.give_slots-width.result in
-    let s = c.give_slots-width.new.stands in
-    let S : List ℕ → Type 0 = λ x. (i j : ℕ) → i ≤ p.rows → j < p.cols + 2 → place_in p.rows (w + 1) (slice_index x j) i ≡ w + 1 → raw p i j ≡ pos 0 in
-    subst S (sym (same_stands g.After-deref-3)) (zero_apart p c.deref-2.result.now (slice_index c.in_ok-stands.stands.items) (slice_index s) w
-    c.requires.small_rows c.in_ok-stands.ensures.only (slots_here g.After-give_slots-width))
-
-pub raw_numbers-requires-clause-stands : goal.raw_numbers-requires-clause-stands
-raw_numbers-requires-clause-stands c =
-    let p = c.args.p.now in let g = goal.at.raw_numbers-requires-clause-stands c in
-    let S : List ℕ → Type 0 = λ x. AreStands p.rows (c.give_slots-width.result + 1) (p.cols + 2) (slice_index x) in
-    subst S (sym (same_stands g.After-deref-3)) (stands_here g.After-give_slots-width)
-
 pub divide_rows-requires-clause-narrow : goal.divide_rows-requires-clause-narrow
 divide_rows-requires-clause-narrow c =
     let N : List ℤ → Type 0 = λ x. AreNarrowNumbers x in subst N (sym c.deref_mut-2.ensures.value) c.in_ok-numbers.ensures.narrow
@@ -94,21 +80,25 @@ pub divide_rows-requires-clause-small : goal.divide_rows-requires-clause-small
 divide_rows-requires-clause-small c =
     let g = goal.at.divide_rows-requires-clause-small c in omega (arith, (slots_here g.After-give_slots-width).few, c.requires.small_cols)
 
-pub raw_numbers-requires-clause-long : goal.raw_numbers-requires-clause-long
-raw_numbers-requires-clause-long c =
-    let g = goal.at.raw_numbers-requires-clause-long c in
-    ap (λ (x : List ℕ). length x) (same_stands g.After-deref-3) ∙ slots_long g.After-give_slots-width
-
-pub raw_numbers-requires-clause-shaped : goal.raw_numbers-requires-clause-shaped
-raw_numbers-requires-clause-shaped c = c.requires.shaped
-
 pub overflow_add-rows : goal.overflow_add-rows
 overflow_add-rows c = record { fits = omega (arith, c.requires.small_rows) }
 
-pub raw_numbers-requires-clause-small : goal.raw_numbers-requires-clause-small
-raw_numbers-requires-clause-small c =
-    let p = c.args.p.now in let g = goal.at.raw_numbers-requires-clause-small c in
-    raw_small p.rows p.cols c.give_slots-width.result (slots_here g.After-give_slots-width).few c.requires.small
+pub raw_numbers-requires : goal.raw_numbers-requires
+raw_numbers-requires c = record {
+  shaped = c.requires.shaped;
+  small = let p = c.args.p.now in let g = goal.at.raw_numbers-requires c in
+      raw_small p.rows p.cols c.give_slots-width.result (slots_here g.After-give_slots-width).few c.requires.small;
+  long = let g = goal.at.raw_numbers-requires c in
+      ap (λ (x : List ℕ). length x) (same_stands g.After-deref-3) ∙ slots_long g.After-give_slots-width;
+  stands = let p = c.args.p.now in let g = goal.at.raw_numbers-requires c in
+      let S : List ℕ → Type 0 = λ x. AreStands p.rows (c.give_slots-width.result + 1) (p.cols + 2) (slice_index x) in
+      subst S (sym (same_stands g.After-deref-3)) (stands_here g.After-give_slots-width);
+  apart = let p = c.args.p.now in let g = goal.at.raw_numbers-requires c in let w = c.give_slots-width.result in
+      let s = c.give_slots-width.new.stands in
+      let S : List ℕ → Type 0 = λ x. (i j : ℕ) → i ≤ p.rows → j < p.cols + 2 → place_in p.rows (w + 1) (slice_index x j) i ≡ w + 1 → raw p i j ≡ pos 0 in
+      subst S (sym (same_stands g.After-deref-3)) (zero_apart p c.deref-2.result.now (slice_index c.in_ok-stands.stands.items) (slice_index s) w
+      c.requires.small_rows c.in_ok-stands.ensures.only (slots_here g.After-give_slots-width));
+}
 
 pub divide_rows-requires-clause-long : goal.divide_rows-requires-clause-long
 divide_rows-requires-clause-long c = sym (ap (λ (x : List ℤ). length x) c.deref_mut-2.ensures.value ∙ c.in_ok-numbers.ensures.long)
@@ -119,24 +109,14 @@ divide_rows-requires-clause-room c = c.deref_mut-3.ensures.len ∙ c.in_ok-vec-3
 pub only_rows-requires-clause-shaped : goal.only_rows-requires-clause-shaped
 only_rows-requires-clause-shaped c = c.requires.shaped
 
-pub overflow_add-p : goal.overflow_add-p
-overflow_add-p c = grind (arith, common_steps)
-
-pub divide_rows-requires-clause-some : goal.divide_rows-requires-clause-some
-divide_rows-requires-clause-some c = grind arith
-
-pub overflow_add-width : goal.overflow_add-width
-overflow_add-width c = grind arith
-
-pub give_slots-width-requires-clause-long : goal.give_slots-width-requires-clause-long
-give_slots-width-requires-clause-long c = ap (λ (x : List ℕ). length x) c.deref-2.ensures.value ∙ c.in_ok-own_columns.ensures
-
 stands_fit : (m n k s : ℕ) → k ≡ n + 2 → m + 1 ≤ s → s ≤ 1048576 → n < 2 ^ 31 → m + k < 2 ^ 32
 stands_fit m n k s e h small l = omega (arith, e, h, small, l)
 
-pub give_slots-width-requires-clause-small : goal.give_slots-width-requires-clause-small
-give_slots-width-requires-clause-small c =
-    let p = c.args.p.now in
-    stands_fit p.rows p.cols (length c.deref_mut.result.now) ((p.rows + 1) * (p.cols + 1))
-    (ap (λ (x : List ℕ). length x) c.deref_mut.ensures.value ∙ c.in_ok-stands.ensures.long)
-    (le-mul_of_pos_right (p.rows + 1) (one_more p.cols)) c.requires.small c.requires.small_cols
+pub give_slots-width-requires : goal.give_slots-width-requires
+give_slots-width-requires c = record {
+  long = ap (λ (x : List ℕ). length x) c.deref-2.ensures.value ∙ c.in_ok-own_columns.ensures;
+  small = let p = c.args.p.now in
+      stands_fit p.rows p.cols (length c.deref_mut.result.now) ((p.rows + 1) * (p.cols + 1))
+      (ap (λ (x : List ℕ). length x) c.deref_mut.ensures.value ∙ c.in_ok-stands.ensures.long)
+      (le-mul_of_pos_right (p.rows + 1) (one_more p.cols)) c.requires.small c.requires.small_cols;
+}
