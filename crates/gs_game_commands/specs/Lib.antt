@@ -7,3 +7,4 @@ pub mod Playing
 pub mod Solving
 pub mod Paths
 pub mod Asked
+pub mod Asks

@@ -15,6 +15,5 @@ mod solving;
 mod telling;
 mod writing;
 
-pub use commands::{check_answer, path_answer, play_answer, solve_answer};
+pub use commands::game_answer;
 pub use laws::{pivot_limit_is_told, printed_are_raw, printed_are_strategies};
-pub use shrinking::shrink_answer;

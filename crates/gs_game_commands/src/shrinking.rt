@@ -21,7 +21,7 @@ fn shrunk(alloc: Global, game: &ValidGame, summary: bool) -> Result<Vec<u8>, All
 }
 
 /// Returns the answer of `shrink` to the bytes of a game file: the text or the summary of its signal classes, or the refusal.
-pub fn shrink_answer(alloc: Global, bytes: &[u8], summary: bool) -> Result<Vec<u8>, Stop>
+pub(crate) fn shrink_answer(alloc: Global, bytes: &[u8], summary: bool) -> Result<Vec<u8>, Stop>
     ensures { Answers (Shrinks summary bytes.now) result }
 {
     let game = stated_game(alloc, bytes)?;

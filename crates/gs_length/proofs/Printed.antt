@@ -7,7 +7,7 @@ use Rattle.gs_run.proofs.Concluded.{told_in_two}
 use Rattle.gs_run.specs.{Endings.{EndsWell}, Meanings.{IsStrategyFile, Means, OfGameFile}, Running.{most_bytes}, declared.status.Status.{Status}}
 use Rattle.gs_run.specs.declared.status.Status.TheVariants as status
 use Rattle.gs_strategy.specs.{Confirmed.{IsConfirmed}, Laws.{IsStrategy}, Texts.{strategy_text}, Values.{Strategy}}
-use Rattle.gs_words.specs.{Tasks.{Evaluate, Upgrade}, declared.request.Grouping.{Grouping}}
+use Rattle.gs_words.specs.{Tasks.{of_strategy, Evaluate, Upgrade}, declared.request.Grouping.{Grouping}}
 
 -- the text is that of a confirmed strategy, in version 2
 record IsConfirmedText (text : List ℕ) : Type 0 where
@@ -22,7 +22,7 @@ file_text grouping says bytes text h =
     let f = h.said in
     record { strategy = f.strategy; is = f.is; confirmed = f.confirmed; text_is = f.text_is }
 
-upgraded_text : (bytes text : List ℕ) → Means Upgrade bytes text → IsConfirmedText text
+upgraded_text : (bytes text : List ℕ) → Means (of_strategy Upgrade) bytes text → IsConfirmedText text
 upgraded_text bytes text h =
     record { strategy = h.strategy; is = told_in_two h.version h.strategy h.is; confirmed = h.said.0; text_is = h.said.1 }
 
@@ -47,9 +47,9 @@ well_at_last s (inr e) no_memory = absurd (no_memory e)
 
 evaluates_well : (text : List ℕ) → IsConfirmedText text → EvaluatesWell text
 evaluates_well text c = record {
-  run = λ r does asked there nothing. (does.ends Evaluate text asked (there, fits text c) nothing Two c.strategy c.is c.text_is).1 c.confirmed;
+  run = λ r does asked there nothing. (does.ends (of_strategy Evaluate) text asked (there, fits text c) nothing Two c.strategy c.is c.text_is).1 c.confirmed;
   in_memory = λ words s printed told does asked.
-      let ends = does.ends Evaluate asked (fits text c) in
+      let ends = does.ends (of_strategy Evaluate) asked (fits text c) in
       well_at_last s ((ends.0 Two c.strategy c.is c.text_is).1 c.confirmed) ends.1;
 }
 

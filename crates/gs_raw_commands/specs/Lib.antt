@@ -1,3 +1,4 @@
 pub mod Judging
 pub mod Commands
 pub mod RawGames
+pub mod Asks

@@ -7,5 +7,5 @@ mod hands;
 mod judging;
 mod laws;
 
-pub use commands::{duel_answer, judge_answer};
+pub use commands::raw_answer;
 pub use laws::{hands_weigh_some, raw_games_are_within, raw_sequences_are_few};

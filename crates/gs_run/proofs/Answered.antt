@@ -8,7 +8,7 @@ use Rattle.gs_io.specs.{Causes.{Rose}, Moves.{WritesAll}, declared.WriteStop.{Wr
 use Rattle.gs_io.specs.declared.WriteStop.TheVariants as write
 use Rattle.gs_reply.specs.Refusals.{Refusal, Bad_game, Unlike_pair, Overflows, Many_pivots, Too_large, Bad_strategy, Wrong_number, Bad_query, Other_game}
 use Rattle.gs_reply.specs.{Refusals.{Bad_certificate, line_of}, Replies.{Reply, Prints, Refuses}}
-use Rattle.gs_words.specs.{Requests.{request_of}, Tasks.{Task, Shrink, Check, Make, Evaluate, Query, Upgrade, Certify, Verify, Solve, Play, Path, Judge, Duel}}
+use Rattle.gs_words.specs.{Requests.{request_of}, Tasks.{Task, make}}
 use Rattle.gs_run.specs.{Asking.{Asks, reads}, Deciding.{Holds}, Endings.{EndsSo}, Statuses.{status_of}}
 use Rattle.gs_run.specs.Running.{Unread, Writes, long_line, memory_line, most_bytes, sinks, usage_line}
 use Rattle.gs_run.specs.Running.{Asked, Ends, Inputs, IsAnswered, IsRefused, NothingFailed, Quiet, ReadsInput, ReadsWhole, RunsTo, TellsLine, TookInput}
@@ -42,19 +42,8 @@ read_is_held old new bytes found e whole = sym (all_there new.left bytes found
 
 -- a task that reads nothing says the same of any bytes
 of_no_bytes : (task : Task) (old new : Ends) (bytes : List ℕ) (reply : Reply) → reads task ≡ false → IsAnswered task old new reply → Asks task bytes reply
-of_no_bytes (Make kind ranks suits cap summary) old new bytes reply r a = a.says
-of_no_bytes (Shrink summary) old new bytes reply r a = absurd (true≢false r)
-of_no_bytes (Check grouping summary) old new bytes reply r a = absurd (true≢false r)
-of_no_bytes Certify old new bytes reply r a = absurd (true≢false r)
-of_no_bytes Verify old new bytes reply r a = absurd (true≢false r)
-of_no_bytes (Solve grouping) old new bytes reply r a = absurd (true≢false r)
-of_no_bytes (Play grouping turns) old new bytes reply r a = absurd (true≢false r)
-of_no_bytes (Path grouping) old new bytes reply r a = absurd (true≢false r)
-of_no_bytes Judge old new bytes reply r a = absurd (true≢false r)
-of_no_bytes Duel old new bytes reply r a = absurd (true≢false r)
-of_no_bytes Evaluate old new bytes reply r a = absurd (true≢false r)
-of_no_bytes (Query player line signal) old new bytes reply r a = absurd (true≢false r)
-of_no_bytes Upgrade old new bytes reply r a = absurd (true≢false r)
+of_no_bytes (make m) old new bytes reply r a = a.says
+of_no_bytes task old new bytes reply r a = absurd (true≢false r)
 
 -- what is answered is said of the bytes that the source holds
 pub said : (task : Task) (old new : Ends) (bytes : List ℕ) (reply : Reply) → Holds (reads task) old bytes → IsAnswered task old new reply

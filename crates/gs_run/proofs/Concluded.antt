@@ -14,13 +14,19 @@ use Rattle.gs_game_commands.specs.Solving.{Solves}
 use Rattle.gs_json.proofs.Feeds.{line_parted}
 use Rattle.gs_json.specs.FirstLine.{first_line}
 use Rattle.gs_run.proofs.Confirming.{no_trouble}
-use Rattle.gs_words.specs.{Made.{made_game}, declared.kind.Kind.{Kind}, declared.request.Grouping.{Grouping}}
-use Rattle.gs_words.specs.Tasks.{Task, Shrink, Check, Make, Evaluate, Query, Upgrade, Judge, Duel, Certify, Verify, Solve, Play, Path}
+use Rattle.gs_words.specs.declared.request.Grouping.{Grouping}
+use Rattle.gs_words.specs.Tasks.{StrategyTask, Task, make, of_game, of_raw, of_strategy, Certify, Evaluate, Query, Upgrade, Verify}
+use Rattle.gs_words.specs.{declared.request.Make.{Make}, declared.request.OfGame.{OfGame}, declared.request.OfRaw.{OfRaw}}
+use Rattle.gs_words.specs.declared.request.OfGame.TheVariants as game
+use Rattle.gs_words.specs.declared.request.OfRaw.TheVariants as raw
+use Rattle.gs_game_commands.specs.Asks.{GameAsks}
+use Rattle.gs_raw_commands.specs.Asks.{RawAsks}
+use Rattle.gs_strategy_commands.specs.Asks.{StrategyAsks}
 use Rattle.gs_reply.specs.{Refusals.{Refusal, Unlike_pair}, Replies.{OfFile, OfRead, OfReading, Reply, Prints, Refuses}}
 use Rattle.gs_reply.specs.{declared.refusals.Which.{Which}, declared.refusals.Which.TheVariants.{Only, First, Second}}
 use Rattle.gs_strategy.proofs.{Only.{only}, Shape.{has_line}}
 use Rattle.gs_strategy.specs.{Checks.{ReadResult}, Confirmed.{IsConfirmed}, Laws.{IsStrategy}, Texts.{strategy_data, strategy_text}, Values.{Strategy}}
-use Rattle.gs_run.specs.{Asking.{Asks}, Endings.{Concludes, EndsChecked, EndsSo, EndsWell, OverCertificate}, Meanings.{Means}, Statuses.{status_of}}
+use Rattle.gs_run.specs.{Asking.{Asks}, Endings.{Concludes, EndsChecked, EndsMade, EndsSo, EndsWell, OverCertificate}, Making.{Makes, made_file}, Meanings.{Means}, Statuses.{status_of}}
 use Rattle.gs_run.specs.declared.status.Status.{Status}
 
 -- what is said otherwise ends otherwise
@@ -37,9 +43,9 @@ never_refused says s none (inr (inr h)) = absurd (none h.0 h.1)
 -- ---- game files
 
 -- what is said of a game file is said of its game
-of_game : (says : FileGame → Reply → Type 0) (bytes : List ℕ) (s : Status) → EndsSo (OfReading says (read_at bytes)) s → (g : FileGame) → FileStates bytes g
+of_game_file : (says : FileGame → Reply → Type 0) (bytes : List ℕ) (s : Status) → EndsSo (OfReading says (read_at bytes)) s → (g : FileGame) → FileStates bytes g
     → EndsSo (says g) s
-of_game says bytes s h g states =
+of_game_file says bytes s h g states =
     said_as (OfReading says (read_at bytes)) (says g) s (λ reply. subst (λ x. OfReading says x reply) (states_is bytes g states)) h
 
 shrunk : (summary : Bool) (g : FileGame) (s : Status) → EndsSo (ShrinksGame summary g) s → EndsWell s
@@ -63,9 +69,9 @@ of_text : (which : Which) (says : Strategy → Reply → Type 0) (version : Vers
     → OfFile which says (strategy_text version t) reply → says t reply
 of_text which says version t reply is o = subst (λ (x : ReadResult). OfRead which says x reply) (only version t o.read is o.reads) o.said
 
-of_strategy : (says : Strategy → Reply → Type 0) (bytes : List ℕ) (s : Status) → EndsSo (OfFile Only says bytes) s → (version : Version) (t : Strategy)
+of_strategy_file : (says : Strategy → Reply → Type 0) (bytes : List ℕ) (s : Status) → EndsSo (OfFile Only says bytes) s → (version : Version) (t : Strategy)
     → IsStrategy version t → bytes ≡ strategy_text version t → EndsSo (says t) s
-of_strategy says bytes s h version t is e =
+of_strategy_file says bytes s h version t is e =
     said_as (OfFile Only says bytes) (says t) s
     (λ reply o. of_text Only says version t reply is (subst (λ (b : List ℕ). OfFile Only says b reply) e o)) h
 
@@ -139,7 +145,7 @@ differs : (why : Refusal) (text : List ℕ) → Refuses why ≡ Prints text → 
 differs why text e = cc
 
 -- `verify` refuses nothing that `certify` prints
-certified_verified : (bytes lines : List ℕ) (why : Refusal) → Means Certify bytes lines → Verifies lines (Refuses why) → ⊥
+certified_verified : (bytes lines : List ℕ) (why : Refusal) → Means (of_strategy Certify) bytes lines → Verifies lines (Refuses why) → ⊥
 certified_verified bytes lines why h v =
     let p = lines_verified h.strategy lines (Refuses why) (told_in_two h.version h.strategy h.is) h.said.0 h.said.1 v in
     differs why p.0 p.1
@@ -153,26 +159,35 @@ verify_ends bytes s h = record {
 
 -- ---- the table
 
-made_well : (kind : Kind) (ranks suits cap : ℕ) (bytes : List ℕ) (s : Status) → EndsSo (Asks (Make kind ranks suits cap false) bytes) s → EndsWell s
-made_well kind ranks suits cap bytes s (inl h) = inl h.0
-made_well kind ranks suits cap bytes s (inr (inl e)) = inr e
-made_well kind ranks suits cap bytes s (inr (inr h)) = let bad = h.1 in cc
+made_ends : (m : Make) (summary : Bool) (s : Status) → EndsSo (Makes m summary) s → EndsMade m summary s
+made_ends m false s (inl h) = inl h.0
+made_ends m false s (inr (inl e)) = inr e
+made_ends m false s (inr (inr h)) = let bad = h.1 in cc
+made_ends m true s h = λ g states. shrunk true g s (of_game_file (ShrinksGame true) (made_file m) s h g states)
+
+game_ends : (t : OfGame) (bytes : List ℕ) (s : Status) → EndsSo (GameAsks t bytes) s → Concludes (of_game t) bytes s
+game_ends (game.Shrink summary) bytes s h = λ g states. shrunk summary g s (of_game_file (ShrinksGame summary) bytes s h g states)
+game_ends (game.Check grouping summary) bytes s h = λ g states.
+    checked grouping summary g s (of_game_file (ChecksGame grouping summary) bytes s h g states)
+game_ends (game.Solve grouping) bytes s h = of_game_file (OfGrouping grouping Solves) bytes s h
+game_ends (game.Play grouping turns) bytes s h = of_game_file (OfGrouping grouping (Plays turns)) bytes s h
+game_ends (game.Path grouping) bytes s h = of_game_file (OfGrouping grouping ShowsPath) bytes s h
+
+strategy_ends : (t : StrategyTask) (bytes : List ℕ) (s : Status) → EndsSo (StrategyAsks t bytes) s → Concludes (of_strategy t) bytes s
+strategy_ends Evaluate bytes s h = λ version t is e. (let ends = of_strategy_file (OfConfirmed SaysNumbers) bytes s h version t is e in
+    (ends, λ c. confirmed_well version t s is c ends))
+strategy_ends (Query player line signal) bytes s h = of_strategy_file (OfConfirmed (SaysQueried player line signal)) bytes s h
+strategy_ends Upgrade bytes s h = of_strategy_file (OfConfirmed SaysUpgraded) bytes s h
+strategy_ends Certify bytes s h = of_strategy_file (OfConfirmed SaysCertified) bytes s h
+strategy_ends Verify bytes s h = verify_ends bytes s h
+
+raw_ends : (t : OfRaw) (bytes : List ℕ) (s : Status) → EndsSo (RawAsks t bytes) s → Concludes (of_raw t) bytes s
+raw_ends raw.Judge bytes s h = of_strategy_file SaysJudged bytes s h
+raw_ends raw.Duel bytes s h = λ v w one two is it e.
+    said_as (Duels bytes) (SaysDuel one two) s (λ reply d. of_texts v w one two reply is it (subst (λ (b : List ℕ). Duels b reply) e d)) h
 
 pub concludes : (task : Task) (bytes : List ℕ) (s : Status) → EndsSo (Asks task bytes) s → Concludes task bytes s
-concludes (Shrink summary) bytes s h = λ g states. shrunk summary g s (of_game (ShrinksGame summary) bytes s h g states)
-concludes (Check grouping summary) bytes s h = λ g states. checked grouping summary g s (of_game (ChecksGame grouping summary) bytes s h g states)
-concludes (Solve grouping) bytes s h = of_game (OfGrouping grouping Solves) bytes s h
-concludes (Play grouping turns) bytes s h = of_game (OfGrouping grouping (Plays turns)) bytes s h
-concludes (Path grouping) bytes s h = of_game (OfGrouping grouping ShowsPath) bytes s h
-concludes Evaluate bytes s h = λ version t is e. (let ends = of_strategy (OfConfirmed SaysNumbers) bytes s h version t is e in
-    (ends, λ c. confirmed_well version t s is c ends))
-concludes (Query player line signal) bytes s h = of_strategy (OfConfirmed (SaysQueried player line signal)) bytes s h
-concludes Upgrade bytes s h = of_strategy (OfConfirmed SaysUpgraded) bytes s h
-concludes Judge bytes s h = of_strategy SaysJudged bytes s h
-concludes Certify bytes s h = of_strategy (OfConfirmed SaysCertified) bytes s h
-concludes Duel bytes s h = λ v w one two is it e.
-    said_as (Duels bytes) (SaysDuel one two) s (λ reply d. of_texts v w one two reply is it (subst (λ (b : List ℕ). Duels b reply) e d)) h
-concludes Verify bytes s h = verify_ends bytes s h
-concludes (Make kind ranks suits cap false) bytes s h = made_well kind ranks suits cap bytes s h
-concludes (Make kind ranks suits cap true) bytes s h = λ g states.
-    shrunk true g s (of_game (ShrinksGame true) (made_game kind ranks suits cap) s h g states)
+concludes (of_game t) bytes s h = game_ends t bytes s h
+concludes (of_strategy t) bytes s h = strategy_ends t bytes s h
+concludes (of_raw t) bytes s h = raw_ends t bytes s h
+concludes (make m) bytes s h = made_ends m m.summary s h

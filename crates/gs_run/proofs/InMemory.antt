@@ -4,7 +4,7 @@ use Rattle.gs_reply.specs.Refusals.{Refusal, Bad_game, Unlike_pair, Overflows, M
 use Rattle.gs_reply.specs.{Refusals.{Bad_certificate, line_of}, Replies.{Reply, Prints, Refuses}}
 use Rattle.std.specs.{List.{All}, Str.{IsUtf8}}
 use Rattle.gs_words.proofs.Asked.{read_is_asked}
-use Rattle.gs_words.specs.{Requests.{request_of}, Tasks.{Task, Solve}}
+use Rattle.gs_words.specs.{Requests.{request_of}, Tasks.{Task, of_game}, declared.request.OfGame.TheVariants.{Solve}}
 use Rattle.gs_run.proofs.{Answering.{answers_one}, Answered.{one_task}, Concluded.{concludes}, Meant.{means_of, solution_of}, Theorem.{asked_for}}
 use Rattle.gs_run.specs.{Asking.{Asks, reads}, InMemory.{DoesInMemory, FitsLimit, GivesReply, GivesOutcome}, Running.{long_line, most_bytes, usage_line}}
 use Rattle.gs_run.specs.{Statuses.{status_of}, declared.status.Status.{Status}}
@@ -48,7 +48,7 @@ usage words input none = record {
   outcome = inl (none, refl, refl, refl);
   no_request = λ e. (refl, refl, refl);
   prints = λ task a e. absurd (asks_none words task (asked_for words task a) none);
-  path = λ grouping a e. absurd (asks_none words (Solve grouping) (asked_for words (Solve grouping) a) none);
+  path = λ grouping a e. absurd (asks_none words (of_game (Solve grouping)) (asked_for words (of_game (Solve grouping)) a) none);
   quiet = λ e. refl;
   ends = λ task a fits. absurd (asks_none words task (asked_for words task a) none);
   too_long = λ task asked r long. absurd (asks_none words task asked none);
@@ -83,7 +83,7 @@ printed words input task text texts is few says = record {
   no_request = λ none. absurd (asks_none words task is none);
   prints = λ other a e. (means_of other input text (says_of words task other input (Prints text) is (asked_for words other a) says), refl);
   path = λ grouping a e.
-      solution_of grouping input text (says_of words task (Solve grouping) input (Prints text) is (asked_for words (Solve grouping) a) says);
+      solution_of grouping input text (says_of words task (of_game (Solve grouping)) input (Prints text) is (asked_for words (of_game (Solve grouping)) a) says);
   quiet = λ apart. absurd (apart refl);
   ends = λ other a fits. (
     concludes other input status.Ok (inl (refl, (text, says_of words task other input (Prints text) is (asked_for words other a) says))),

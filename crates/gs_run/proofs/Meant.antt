@@ -14,8 +14,14 @@ use Rattle.gs_json.specs.FirstLine.{first_line}
 use Rattle.gs_raw_commands.proofs.RawGames.{hands_weigh}
 use Rattle.gs_game_commands.proofs.Printed.{printed_raw, printed_strategy}
 use Rattle.gs_strategy.proofs.Strategies.{reads_strategy, strategies_raw}
-use Rattle.gs_words.specs.{Made.{made_game}, declared.kind.Kind.{Kind}, declared.request.Grouping.{Grouping}}
-use Rattle.gs_words.specs.Tasks.{Task, Shrink, Check, Make, Evaluate, Query, Upgrade, Judge, Duel, Certify, Verify, Solve, Play, Path}
+use Rattle.gs_words.specs.declared.request.Grouping.{Grouping}
+use Rattle.gs_words.specs.Tasks.{StrategyTask, Task, make, of_game, of_raw, of_strategy, Certify, Evaluate, Query, Upgrade, Verify}
+use Rattle.gs_words.specs.{declared.request.Make.{Make}, declared.request.OfGame.{OfGame}, declared.request.OfRaw.{OfRaw}}
+use Rattle.gs_words.specs.declared.request.OfGame.TheVariants as game
+use Rattle.gs_words.specs.declared.request.OfRaw.TheVariants as raw
+use Rattle.gs_game_commands.specs.Asks.{GameAsks}
+use Rattle.gs_raw_commands.specs.Asks.{RawAsks}
+use Rattle.gs_strategy_commands.specs.Asks.{StrategyAsks}
 use Rattle.gs_model.specs.{Classes.{ClassLists}, Plans.{lift}, Play.{IsFictitiousPlay}, Verdict.{IsVerdict}}
 use Rattle.gs_reply.specs.{Refusals.{Refusal, Bad_strategy}, Replies.{OfFile, OfRead, OfReading, Reply, Prints, Refuses}}
 use Rattle.gs_reply.specs.declared.refusals.Which.TheVariants.{Only, First, Second}
@@ -23,7 +29,7 @@ use Rattle.gs_reply.specs.VerdictText.{verdict_text}
 use Rattle.gs_seq.specs.{Slots.{plan_of}, declared.plan.Plan.{Plan}}
 use Rattle.gs_strategy.specs.{Checks.{ReadResult, Reads}, Confirmed.{IsConfirmed, over, raw_plan}, Laws.{IsStrategy}, Texts.{strategy_text}}
 use Rattle.gs_strategy.specs.{Values.{FractionParts, Numbers, Strategy, Weights, file_frame}, Views.{weights_of}}
-use Rattle.gs_run.specs.{Asking.{Asks}, Making.{Makes}, Meanings.{OfTwoFiles, OverLossless, ShowsSolution}}
+use Rattle.gs_run.specs.{Asking.{Asks}, Making.{Makes, made_file}, Meanings.{IsMade, OfTwoFiles, OverLossless, ShowsSolution}}
 use Rattle.gs_run.specs.Meanings.{AreOnRawCards, IsDuelled, IsJudgedText, IsPlayedOut, IsStrategyFile, Means, OfCertifiedFile, OfGameFile, OfStrategyFile}
 
 -- ---- texts
@@ -42,10 +48,10 @@ of_reading : (says : FileGame → Reply → Type 0) (read : Result FileGame Faul
 of_reading says (Ok g) text h = (g, refl, h)
 of_reading says (Err why) text h = cc
 
-of_game : (says : FileGame → Reply → Type 0) (tells : FileGame → List ℕ → Type 0) (bytes text : List ℕ)
+of_game_file : (says : FileGame → Reply → Type 0) (tells : FileGame → List ℕ → Type 0) (bytes text : List ℕ)
     → ((g : FileGame) → read_at bytes ≡ Ok g → says g (Prints text) → tells g text) → OfReading says (read_at bytes) (Prints text)
     → OfGameFile tells bytes text
-of_game says tells bytes text told h =
+of_game_file says tells bytes text told h =
     let r = of_reading says (read_at bytes) text h in
     record { game = r.0; states = states_ok bytes r.0 r.1; said = told r.0 r.1 r.2 }
 
@@ -107,8 +113,8 @@ played turns grouping bytes g text e h =
 
 -- ---- strategy files
 
-of_strategy : (tells : Strategy → List ℕ → Type 0) (bytes text : List ℕ) (s : Strategy) → Reads bytes (Ok s) → tells s text → OfStrategyFile tells bytes text
-of_strategy tells bytes text s h told =
+of_strategy_file : (tells : Strategy → List ℕ → Type 0) (bytes text : List ℕ) (s : Strategy) → Reads bytes (Ok s) → tells s text → OfStrategyFile tells bytes text
+of_strategy_file tells bytes text s h told =
     let r = reads_strategy bytes s h in
     record { version = r.0; strategy = s; is = r.1; written = r.2; raw = strategies_raw r.0 r.0 s s r.1 r.1 refl; said = told }
 
@@ -118,7 +124,7 @@ Confirmed tells s text = IsConfirmed s × tells s text
 of_confirmed : (says : Strategy → Reply → Type 0) (tells : Strategy → List ℕ → Type 0) (bytes text : List ℕ) (read : ReadResult)
     → ((s : Strategy) → says s (Prints text) → tells s text) → Reads bytes read → OfRead Only (OfConfirmed says) read (Prints text)
     → OfStrategyFile (Confirmed tells) bytes text
-of_confirmed says tells bytes text (Ok s) told reads (inl h) = of_strategy (Confirmed tells) bytes text s reads (h.0, told s h.1)
+of_confirmed says tells bytes text (Ok s) told reads (inl h) = of_strategy_file (Confirmed tells) bytes text s reads (h.0, told s h.1)
 of_confirmed says tells bytes text (Ok s) told reads (inr h) = absurd (printed text _ h.2)
 of_confirmed says tells bytes text (Err why) told reads h = absurd (printed text (Bad_strategy Only why) h)
 
@@ -160,7 +166,7 @@ judged s text h =
     (r.0, r.1, sym (text_is text (verdict_text r.0) r.2))
 
 of_judged : (bytes text : List ℕ) (read : ReadResult) → Reads bytes read → OfRead Only SaysJudged read (Prints text) → OfStrategyFile IsJudgedText bytes text
-of_judged bytes text (Ok s) reads h = of_strategy IsJudgedText bytes text s reads (judged s text h)
+of_judged bytes text (Ok s) reads h = of_strategy_file IsJudgedText bytes text s reads (judged s text h)
 of_judged bytes text (Err why) reads h = absurd (printed text (Bad_strategy Only why) h)
 
 -- ---- two files
@@ -233,31 +239,40 @@ verified bytes text (Err why) reads h = absurd (printed text (Bad_strategy Only 
 
 -- ---- the table
 
-made : (kind : Kind) (ranks suits cap : ℕ) (text : List ℕ) → Makes kind ranks suits cap false (Prints text) → text ≡ made_game kind ranks suits cap
-made kind ranks suits cap text h = cc
+made : (m : Make) (summary : Bool) (text : List ℕ) → Makes m summary (Prints text) → IsMade m summary text
+made m false text h = cc
+made m true text h = of_game_file (ShrinksGame true) (IsShrunk true) (made_file m) text (λ g e said. said) h
+
+game_means : (t : OfGame) (bytes text : List ℕ) → GameAsks t bytes (Prints text) → Means (of_game t) bytes text
+game_means (game.Shrink summary) bytes text h = of_game_file (ShrinksGame summary) (IsShrunk summary) bytes text (λ g e said. said) h
+game_means (game.Check grouping summary) bytes text h =
+    of_game_file (ChecksGame grouping summary) (IsChecked grouping summary) bytes text (λ g e said. said) h
+game_means (game.Solve grouping) bytes text h =
+    of_game_file (OfGrouping grouping Solves) (IsStrategyFile grouping NoGaps) bytes text (λ g. solved grouping bytes g text) h
+game_means (game.Play grouping turns) bytes text h =
+    of_game_file (OfGrouping grouping (Plays turns)) (IsStrategyFile grouping (IsPlayedOut turns)) bytes text (λ g. played turns grouping bytes g text) h
+game_means (game.Path grouping) bytes text h =
+    of_game_file (OfGrouping grouping ShowsPath) (OverLossless grouping IsPathShown) bytes text (λ g e said. of_grouping grouping ShowsPath g text said) h
+
+strategy_means : (t : StrategyTask) (bytes text : List ℕ) → StrategyAsks t bytes (Prints text) → Means (of_strategy t) bytes text
+strategy_means Evaluate bytes text h = confirmed SaysNumbers (λ s text. text ≡ verdict_text s.numbers) bytes text (λ s. number_lines s text) h
+strategy_means (Query player line signal) bytes text h =
+    confirmed (SaysQueried player line signal) (λ s text. IsQueried s player line signal text) bytes text (λ s. queried player line signal s text) h
+strategy_means Upgrade bytes text h = confirmed SaysUpgraded (λ s text. text ≡ strategy_text Two s) bytes text (λ s. upgraded s text) h
+strategy_means Certify bytes text h = confirmed SaysCertified IsCertified bytes text (λ s. certified s text) h
+strategy_means Verify bytes text h = verified bytes text h.read h.reads h.said
+
+raw_means : (t : OfRaw) (bytes text : List ℕ) → RawAsks t bytes (Prints text) → Means (of_raw t) bytes text
+raw_means raw.Judge bytes text h = of_judged bytes text h.read h.reads h.said
+raw_means raw.Duel bytes text h = first_file bytes text h.read h.reads h.said
 
 pub means_of : (task : Task) (bytes text : List ℕ) → Asks task bytes (Prints text) → Means task bytes text
-means_of (Shrink summary) bytes text h = of_game (ShrinksGame summary) (IsShrunk summary) bytes text (λ g e said. said) h
-means_of (Check grouping summary) bytes text h = of_game (ChecksGame grouping summary) (IsChecked grouping summary) bytes text (λ g e said. said) h
-means_of (Solve grouping) bytes text h =
-    of_game (OfGrouping grouping Solves) (IsStrategyFile grouping NoGaps) bytes text (λ g. solved grouping bytes g text) h
-means_of (Play grouping turns) bytes text h =
-    of_game (OfGrouping grouping (Plays turns)) (IsStrategyFile grouping (IsPlayedOut turns)) bytes text (λ g. played turns grouping bytes g text) h
-means_of (Path grouping) bytes text h =
-    of_game (OfGrouping grouping ShowsPath) (OverLossless grouping IsPathShown) bytes text (λ g e said. of_grouping grouping ShowsPath g text said) h
-means_of Evaluate bytes text h = confirmed SaysNumbers (λ s text. text ≡ verdict_text s.numbers) bytes text (λ s. number_lines s text) h
-means_of (Query player line signal) bytes text h =
-    confirmed (SaysQueried player line signal) (λ s text. IsQueried s player line signal text) bytes text (λ s. queried player line signal s text) h
-means_of Upgrade bytes text h = confirmed SaysUpgraded (λ s text. text ≡ strategy_text Two s) bytes text (λ s. upgraded s text) h
-means_of Certify bytes text h = confirmed SaysCertified IsCertified bytes text (λ s. certified s text) h
-means_of Judge bytes text h = of_judged bytes text h.read h.reads h.said
-means_of Duel bytes text h = first_file bytes text h.read h.reads h.said
-means_of Verify bytes text h = verified bytes text h.read h.reads h.said
-means_of (Make kind ranks suits cap false) bytes text h = made kind ranks suits cap text h
-means_of (Make kind ranks suits cap true) bytes text h =
-    of_game (ShrinksGame true) (IsShrunk true) (made_game kind ranks suits cap) text (λ g e said. said) h
+means_of (of_game t) bytes text h = game_means t bytes text h
+means_of (of_strategy t) bytes text h = strategy_means t bytes text h
+means_of (of_raw t) bytes text h = raw_means t bytes text h
+means_of (make m) bytes text h = made m m.summary text h
 
 -- and the plans of `solve` are read off its path
-pub solution_of : (grouping : Grouping) (bytes text : List ℕ) → Asks (Solve grouping) bytes (Prints text) → ShowsSolution grouping bytes text
+pub solution_of : (grouping : Grouping) (bytes text : List ℕ) → Asks (of_game (game.Solve grouping)) bytes (Prints text) → ShowsSolution grouping bytes text
 solution_of grouping bytes text h =
-    of_game (OfGrouping grouping Solves) (OverLossless grouping IsSolved) bytes text (λ g e said. of_grouping grouping Solves g text said) h
+    of_game_file (OfGrouping grouping Solves) (OverLossless grouping IsSolved) bytes text (λ g e said. of_grouping grouping Solves g text said) h

@@ -1,10 +1,10 @@
 -- What is said of a game file is one: its classes, their first unlike pair, and the answers of `shrink`, `check` and `make`.
 use Rattle.std.proofs.Common.{◌≡◌, ◌⊎◌, ℕ, ◌+◌, ◌-◌, ◌<◌, ◌≤◌, Bool, true, false, List, [], length, get_or, Result, Ok, Err, sym, ap, ◌∙◌, subst, inl, inr}
 use Rattle.std.proofs.{Common.{arith}, lemmas.Bool.{cases_lt}, lemmas.List.{ext_get_or}}
-use Rattle.gs_run.specs.Making.{Makes}
+use Rattle.gs_run.specs.Making.{Makes, made_file}
 use Rattle.gs_file.specs.{Faults.{Fault}, Reading.{FileGame, read_at, file_rules}}
 use Rattle.gs_game_commands.specs.{Checking.{Checks, ChecksGame, IsGrouping, SaysNotLossless}, Shrinking.{Shrinks, ShrinksGame, told}}
-use Rattle.gs_words.specs.{Made.{made_game}, declared.kind.Kind.{Kind}, declared.request.Grouping.{Grouping}}
+use Rattle.gs_words.specs.{declared.request.Grouping.{Grouping}, declared.request.Make.{Make}}
 use Rattle.gs_words.specs.declared.request.Grouping.TheVariants.{Isomorphism, Coarsest, Single}
 use Rattle.gs_model.proofs.{Numbered.{numbered_once}, Unlike.{coarsest_is_one}}
 use Rattle.gs_model.specs.{Classes.{ClassLists, class_of, first_member, list_of}, Frame.{Frame, frame_of}, Game.{Game, round_count}}
@@ -141,7 +141,6 @@ pub checks_one : (grouping : Grouping) (summary : Bool) (bytes : List ℕ) (one 
     → Checks grouping summary bytes two → one ≡ two
 checks_one grouping summary bytes one two h k = over_reading (ChecksGame grouping summary) (checked_one grouping summary) (read_at bytes) one two h k
 
-pub makes_one : (kind : Kind) (ranks suits cap : ℕ) (summary : Bool) (one two : Reply) → Makes kind ranks suits cap summary one
-    → Makes kind ranks suits cap summary two → one ≡ two
-makes_one kind ranks suits cap false one two h k = h ∙ sym k
-makes_one kind ranks suits cap true one two h k = shrinks_one true (made_game kind ranks suits cap) one two h k
+pub makes_one : (m : Make) (summary : Bool) (one two : Reply) → Makes m summary one → Makes m summary two → one ≡ two
+makes_one m false one two h k = h ∙ sym k
+makes_one m true one two h k = shrinks_one true (made_file m) one two h k

@@ -3,7 +3,7 @@ use Rattle.std.proofs.Common.{◌≡◌, ◌≢◌, ℕ, List, Some, refl, subst
 use Rattle.gs_reply.specs.Replies.{Prints}
 use Rattle.std.specs.{List.{All}, Str.{IsUtf8}}
 use Rattle.gs_words.proofs.{Asked.{read_is_asked}, Plain.{asked_is_read}}
-use Rattle.gs_words.specs.{Plain.{AskFor}, Requests.{request_of}, Tasks.{Task, Solve}}
+use Rattle.gs_words.specs.{Plain.{AskFor}, Requests.{request_of}, Tasks.{Task, of_game}, declared.request.OfGame.TheVariants.{Solve}}
 use Rattle.gs_run.proofs.{Answered.{answer_of, replied}, Concluded.{concludes}, Decided.{decided}, Meant.{means_of, solution_of}}
 use Rattle.gs_run.specs.{Asking.{Asks, reads}, Meanings.{Means, ShowsSolution}, Running.{Ends, Quiet, RunsTo}, Theorem.{CutShort, Does, Printed, Run}}
 use Rattle.gs_run.specs.declared.status.Status.{Status}
@@ -61,7 +61,7 @@ does words old new s texts runs =
           let t = task_there words old new s runs a b in
           (t.0, read_is_asked words t.0 texts t.1);
       prints = λ task a e. printed r task (Means task) (means_of task) (asked_for words task a) (subst (RunsTo words old new) e runs);
-      path = λ grouping a e. printed r (Solve grouping) (ShowsSolution grouping) (solution_of grouping) (asked_for words (Solve grouping) a)
+      path = λ grouping a e. printed r (of_game (Solve grouping)) (ShowsSolution grouping) (solution_of grouping) (asked_for words (of_game (Solve grouping)) a)
           (subst (RunsTo words old new) e runs);
       cut = λ task a e. cut r task (Means task) (means_of task) (asked_for words task a) (subst (RunsTo words old new) e runs);
       quiet = quiet words old new s runs;

@@ -1,7 +1,7 @@
 -- What the program does with words and bytes in memory. This is what `Does` says of a run, without a source and sinks.
 use Rattle.std.specs.Prelude.{◌≡◌, ◌≢◌, ◌⊎◌, ℕ, ◌<◌, ◌≤◌, List, [], Bool, length, Some, None, true, false}
 use Rattle.gs_reply.specs.{Refusals.{line_of}, Replies.{Reply, Prints, Refuses}}
-use Rattle.gs_words.specs.{Plain.{AskFor}, Requests.{request_of}, Tasks.{Task, Solve}, declared.request.Grouping.{Grouping}}
+use Rattle.gs_words.specs.{Plain.{AskFor}, Requests.{request_of}, Tasks.{Task, of_game}, declared.request.Grouping.{Grouping}, declared.request.OfGame.TheVariants.{Solve}}
 use Rattle.gs_run.specs.{Asking.{Asks, reads}, Endings.{Concludes}, Meanings.{Means, ShowsSolution}, Running.{Asked, long_line, most_bytes, usage_line}}
 use Rattle.gs_run.specs.{Statuses.{status_of}, declared.status.Status.{Status}}
 use Rattle.gs_run.specs.declared.status.Status.TheVariants as status
@@ -41,7 +41,7 @@ pub record DoesInMemory (words : List (List ℕ)) (input : List ℕ) (s : Status
   -- at status 0 it prints what the command means, and tells nothing
   pub prints : (task : Task) → AskFor words task → s ≡ status.Ok → Means task input printed × (told ≡ [])
   -- and the plans that `solve` prints are read off its path
-  pub path : (grouping : Grouping) → AskFor words (Solve grouping) → s ≡ status.Ok → ShowsSolution grouping input printed
+  pub path : (grouping : Grouping) → AskFor words (of_game (Solve grouping)) → s ≡ status.Ok → ShowsSolution grouping input printed
   -- at every other status it prints nothing
   pub quiet : s ≢ status.Ok → printed ≡ []
   -- over valid input it ends as the table of endings says, and never out of memory

@@ -1,14 +1,16 @@
 -- What each command prints for the bytes that it reads, in terms of games and strategies. No order of checks is fixed here.
-use Rattle.std.specs.Prelude.{◌≡◌, ℕ, ◌<◌, ◌≤◌, ◌++◌, List, pos, false, true}
+use Rattle.std.specs.Prelude.{◌≡◌, ℕ, ◌<◌, ◌≤◌, ◌++◌, List, Bool, pos, false, true}
 use Rattle.gs_certificate.specs.{Texts.{certificate_text}, Views.{certificate_view}, declared.certificate.Certificate.{Certificate}}
 use Rattle.gs_strategy_commands.specs.{Certificates.{IsCertified}, Verifying.{IsVerified}, Queries.{IsQueried}}
 use Rattle.gs_raw_commands.specs.Judging.{AreHandValues, hands_text}
 use Rattle.gs_file.specs.{Reading.{FileGame, file_rules}, States.{FileStates}, declared.version.Version.{Version}, declared.version.Version.TheVariants.{Two}}
 use Rattle.gs_game_commands.specs.{Checking.{IsChecked, IsGrouping}, Shrinking.{IsShrunk}, Paths.{IsPathShown}, Solving.{IsSolved}}
 use Rattle.gs_strategy.specs.{RawPlans.{AreRawPlans}, Confirmed.{IsConfirmed, over, raw_plan}, Values.{AreFractions}, Laws.{IsStrategy}, Texts.{strategy_text}}
-use Rattle.gs_words.specs.Made.{made_game}
-use Rattle.gs_words.specs.Tasks.{Task, Shrink, Check, Make, Evaluate, Query, Upgrade, Judge, Duel, Certify, Verify, Solve, Play, Path}
-use Rattle.gs_words.specs.declared.request.Grouping.{Grouping}
+use Rattle.gs_run.specs.Making.{made_file}
+use Rattle.gs_words.specs.Tasks.{Task, make, of_game, of_raw, of_strategy, Certify, Evaluate, Query, Upgrade, Verify}
+use Rattle.gs_words.specs.{declared.request.Grouping.{Grouping}, declared.request.Make.{Make}}
+use Rattle.gs_words.specs.declared.request.OfGame.TheVariants as game
+use Rattle.gs_words.specs.declared.request.OfRaw.TheVariants as raw
 use Rattle.gs_model.specs.{Classes.{ClassLists}, Frame.{signal_count}, Lossless.{IsLossless}, Payoff.{hand_weight}, Play.{IsFictitiousPlay}}
 use Rattle.gs_model.specs.Verdict.{IsVerdict}
 use Rattle.gs_raw.specs.Cells.{raw_cell_count}
@@ -107,22 +109,27 @@ pub record OfCertifiedFile (bytes text : List ℕ) : Type 0 where
 
 -- ---- the table
 
+-- what `make` prints: the file of the made game, or the summary of its signal classes
+abbrev pub IsMade : Make → Bool → List ℕ → Type 0
+IsMade m false text = text ≡ made_file m
+IsMade m true text = OfGameFile (IsShrunk true) (made_file m) text
+
 -- what each command prints for the bytes that it reads; `make` reads none
 abbrev pub Means : Task → List ℕ → List ℕ → Type 0
-Means (Shrink summary) = OfGameFile (IsShrunk summary)
-Means (Check grouping summary) = OfGameFile (IsChecked grouping summary)
-Means (Solve grouping) = OfGameFile (IsStrategyFile grouping (λ s. (s.numbers.gap1 ≡ (pos 0, pos 1)) × (s.numbers.gap2 ≡ (pos 0, pos 1))))
-Means (Play grouping turns) = OfGameFile (IsStrategyFile grouping (IsPlayedOut turns))
-Means (Path grouping) = OfGameFile (OverLossless grouping IsPathShown)
-Means Evaluate = OfStrategyFile (λ s text. IsConfirmed s × (text ≡ verdict_text s.numbers))
-Means (Query player line signal) = OfStrategyFile (λ s text. IsConfirmed s × IsQueried s player line signal text)
-Means Upgrade = OfStrategyFile (λ s text. IsConfirmed s × (text ≡ strategy_text Two s))
-Means Judge = OfStrategyFile IsJudgedText
-Means Duel = OfTwoFiles IsDuelled
-Means Certify = OfStrategyFile (λ s text. IsConfirmed s × IsCertified s text)
-Means Verify = OfCertifiedFile
-Means (Make kind ranks suits cap false) = λ bytes text. text ≡ made_game kind ranks suits cap
-Means (Make kind ranks suits cap true) = λ bytes text. OfGameFile (IsShrunk true) (made_game kind ranks suits cap) text
+Means (of_game (game.Shrink summary)) = OfGameFile (IsShrunk summary)
+Means (of_game (game.Check grouping summary)) = OfGameFile (IsChecked grouping summary)
+Means (of_game (game.Solve grouping)) =
+    OfGameFile (IsStrategyFile grouping (λ s. (s.numbers.gap1 ≡ (pos 0, pos 1)) × (s.numbers.gap2 ≡ (pos 0, pos 1))))
+Means (of_game (game.Play grouping turns)) = OfGameFile (IsStrategyFile grouping (IsPlayedOut turns))
+Means (of_game (game.Path grouping)) = OfGameFile (OverLossless grouping IsPathShown)
+Means (of_strategy Evaluate) = OfStrategyFile (λ s text. IsConfirmed s × (text ≡ verdict_text s.numbers))
+Means (of_strategy (Query player line signal)) = OfStrategyFile (λ s text. IsConfirmed s × IsQueried s player line signal text)
+Means (of_strategy Upgrade) = OfStrategyFile (λ s text. IsConfirmed s × (text ≡ strategy_text Two s))
+Means (of_strategy Certify) = OfStrategyFile (λ s text. IsConfirmed s × IsCertified s text)
+Means (of_strategy Verify) = OfCertifiedFile
+Means (of_raw raw.Judge) = OfStrategyFile IsJudgedText
+Means (of_raw raw.Duel) = OfTwoFiles IsDuelled
+Means (make m) = λ bytes. IsMade m m.summary
 
 -- the plans that `solve` prints are read off the end of the path of the game's linear program
 abbrev pub ShowsSolution : Grouping → List ℕ → List ℕ → Type 0

@@ -1,6 +1,6 @@
 -- What a run of the program does, over any source and any two sinks.
 use Rattle.std.specs.{Prelude.{◌≡◌, ◌≢◌, ℕ, ◌<◌, List, Bool, length, take, true}, Io.KnownBytes.{Appends}}
-use Rattle.gs_words.specs.{Plain.{AskFor}, Tasks.{Task, Solve}, declared.request.Grouping.{Grouping}}
+use Rattle.gs_words.specs.{Plain.{AskFor}, Tasks.{Task, of_game}, declared.request.Grouping.{Grouping}, declared.request.OfGame.TheVariants.{Solve}}
 use Rattle.gs_run.specs.{Asking.{reads}, Deciding.{Holds, IsDecided}, Endings.{Concludes}, Meanings.{Means, ShowsSolution}}
 use Rattle.gs_run.specs.{Running.{Ends, Inputs, NothingFailed, Quiet, Silent}, declared.status.Status.{Status}}
 use Rattle.gs_run.specs.declared.status.Status.TheVariants as status
@@ -41,7 +41,7 @@ pub record Does (r : Run) : Type 0 where
   -- at status 0 the run printed what the command means
   pub prints : (task : Task) → AskFor r.words task → r.status ≡ status.Ok → Printed (reads task) (Means task) r
   -- and the plans that `solve` prints are read off its path
-  pub path : (grouping : Grouping) → AskFor r.words (Solve grouping) → r.status ≡ status.Ok → Printed true (ShowsSolution grouping) r
+  pub path : (grouping : Grouping) → AskFor r.words (of_game (Solve grouping)) → r.status ≡ status.Ok → Printed true (ShowsSolution grouping) r
   -- if a write to stdout failed, a proper prefix of what the command means went out
   pub cut : (task : Task) → AskFor r.words task → r.status ≡ status.WriteFault → CutShort (reads task) (Means task) r
   -- at every other status nothing went out

@@ -3,15 +3,13 @@
 ghost use Rattle.std.specs.Prelude.{◌≡◌};
 ghost use Rattle.gs_run.specs.{Asking.{Asks, reads}, Making.{Makes}};
 ghost use Rattle.gs_reply.specs.Replies.{Answers};
-ghost use Rattle.gs_words.specs.Tasks.{IsInRange, Make, task_of};
+ghost use Rattle.gs_words.specs.Tasks.{IsInRange, make, task_of};
 
-use gs_game_commands::{check_answer, path_answer, play_answer, shrink_answer, solve_answer};
-use gs_raw_commands::{duel_answer, judge_answer};
+use gs_game_commands::game_answer;
+use gs_raw_commands::raw_answer;
 use gs_reply::Stop;
-use gs_strategy_commands::{
-    certify_answer, evaluate_answer, query_answer, upgrade_answer, verify_answer,
-};
-use gs_words::{Kind, Request, made_game};
+use gs_strategy_commands::strategy_answer;
+use gs_words::{Make, OfGame, Request, made_game};
 use std::alloc::Global;
 use std::convert::AsSlice;
 
@@ -20,26 +18,19 @@ pub(crate) fn reads_input(request: Request) -> bool
     ensures { result ≡ reads (task_of request.entry) }
 {
     match request {
-        Request::Make { .. } => false,
+        Request::Make(_) => false,
         _ => true,
     }
 }
 
 // Returns a made game's file, or the summary of its signal classes.
-fn made(
-    alloc: Global,
-    kind: Kind,
-    ranks: u8,
-    suits: u8,
-    cap: u8,
-    summary: bool,
-) -> Result<Vec<u8>, Stop>
-    requires { IsInRange (Make kind ranks suits cap summary) }
-    ensures { Answers (Makes kind ranks suits cap summary) result }
+fn made(alloc: Global, asked: Make) -> Result<Vec<u8>, Stop>
+    requires { IsInRange (make asked) }
+    ensures { Answers (Makes asked asked.summary) result }
 {
-    let file = made_game(alloc, kind, ranks, suits, cap)?;
-    if summary {
-        shrink_answer(alloc, file.as_bytes(), true)
+    let file = made_game(alloc, asked.kind, asked.ranks, asked.suits, asked.cap)?;
+    if asked.summary {
+        game_answer(alloc, OfGame::Shrink { summary: true }, file.as_bytes())
     } else {
         Ok(file.into_bytes())
     }
@@ -56,33 +47,9 @@ pub(crate) fn answer<B: AsSlice<u8> + Drop>(
     ensures { Answers (Asks (task_of request.entry) (B.items bytes)) result }
 {
     match request {
-        Request::Shrink { summary } => shrink_answer(alloc, bytes.as_slice(), summary),
-        Request::Check { grouping, summary } => check_answer(
-            alloc,
-            bytes.as_slice(),
-            grouping,
-            summary,
-        ),
-        Request::Solve { grouping } => solve_answer(alloc, bytes.as_slice(), grouping),
-        Request::Play { grouping, turns } => play_answer(alloc, bytes.as_slice(), grouping, turns),
-        Request::Path { grouping } => path_answer(alloc, bytes.as_slice(), grouping),
-        Request::Make {
-            kind,
-            ranks,
-            suits,
-            cap,
-            summary,
-        } => made(alloc, kind, ranks, suits, cap, summary),
-        Request::Evaluate => evaluate_answer(alloc, bytes),
-        Request::Query {
-            player,
-            line,
-            signal,
-        } => query_answer(alloc, player, line, signal, bytes),
-        Request::Upgrade => upgrade_answer(alloc, bytes),
-        Request::Certify => certify_answer(alloc, bytes),
-        Request::Verify => verify_answer(alloc, bytes.as_slice()),
-        Request::Judge => judge_answer(alloc, bytes),
-        Request::Duel => duel_answer(alloc, bytes),
+        Request::OfGame(asked) => game_answer(alloc, asked, bytes.as_slice()),
+        Request::OfStrategy(asked) => strategy_answer(alloc, asked, bytes),
+        Request::OfRaw(asked) => raw_answer(alloc, asked, bytes),
+        Request::Make(asked) => made(alloc, asked),
     }
 }

@@ -5,3 +5,4 @@ pub mod Held
 pub mod Certificates
 pub mod Verifying
 pub mod Wanted
+pub mod Asks

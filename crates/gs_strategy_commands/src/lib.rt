@@ -14,5 +14,5 @@ mod verifying;
 mod wanted;
 
 pub use checks::confirmed_form;
-pub use commands::{certify_answer, evaluate_answer, query_answer, upgrade_answer, verify_answer};
+pub use commands::strategy_answer;
 pub use laws::printed_lines_are_verified;

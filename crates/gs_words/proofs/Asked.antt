@@ -8,7 +8,7 @@ use Rattle.clap.specs.Faults.{bundle_fault, long_fault, settle_fault, stray_faul
 use Rattle.clap.proofs.OnLiterals.{clap_on_literals}
 use Rattle.gs_words.specs.{Commands.{command_of, command_word, commands, options_of}, Plain.{AskFor, given_for}, Program.{program}}
 use Rattle.gs_words.specs.{Requests.{request_of, is_taken, task_for, task_in}, Tasks.{Task}, declared.names.CommandName.{CommandName}}
-use Rattle.gs_words.specs.declared.names.CommandName.TheVariants.{Shrink, Check, Solve, Play, Evaluate, Query, Make, Upgrade, Judge, Duel, Certify, Verify, Path}
+use Rattle.gs_words.specs.declared.names.CommandName.TheVariants.{Shrink}
 use Rattle.gs_words.proofs.{AnyOrder.{all_rows, taken_in_any_order}, Every.{first_none, no_bundle, no_index, no_long_help, no_short, no_stray, not_none, rules_for, then_none, unknown}}
 use Rattle.gs_words.proofs.{Heard.{AreTexts, IsLevel, heard}, Levels.{is_command, rows, shape_of, taken_by}, Lexed.{Lexed, ends, long, joins, short, word, first_char, lexed}}
 use Rattle.gs_words.proofs.{Obeyed.{all_given}, Options.{plain_is}, Plain.{entered_for, same_task}}
@@ -27,18 +27,7 @@ level_by c rules once = record {
 is_level : (c : CommandName) → IsLevel (shape_of c) (options_of c)
 unfolding clap_on_literals
 is_level Shrink = level_by Shrink refl refl
-is_level Check = level_by Check refl refl
-is_level Solve = level_by Solve refl refl
-is_level Play = level_by Play refl refl
-is_level Evaluate = level_by Evaluate refl refl
-is_level Query = level_by Query refl refl
-is_level Make = level_by Make refl refl
-is_level Upgrade = level_by Upgrade refl refl
-is_level Judge = level_by Judge refl refl
-is_level Duel = level_by Duel refl refl
-is_level Certify = level_by Certify refl refl
-is_level Verify = level_by Verify refl refl
-is_level Path = level_by Path refl refl
+is_level c = level_by c refl refl
 
 -- ---- the words behind a command
 

@@ -11,7 +11,7 @@ use Rattle.clap.specs.declared.builder.ArgAction.TheVariants.{Set, SetTrue}
 use Rattle.clap.proofs.{FaultLemmas.{past, stopped_fault}, OnLiterals.{clap_on_literals}}
 use Rattle.gs_words.specs.{Commands.{command_of, command_word, options_of}, Program.{program}, Requests.{request_of, task_in}, Plain.{joined_word, long_word}}
 use Rattle.gs_words.specs.{declared.names.CommandName.{CommandName}, declared.names.CommandName.TheVariants.{Path}}
-use Rattle.gs_words.specs.declared.names.CommandName.TheVariants.{Shrink, Check, Solve, Play, Evaluate, Query, Make, Upgrade, Judge, Duel, Certify, Verify}
+use Rattle.gs_words.specs.declared.names.CommandName.TheVariants.{Shrink, Check, Solve, Play, Query, Make}
 use Rattle.gs_words.proofs.{AnyOrder.{has_good_default}, Every.{first_none}, Obeyed.{AreKnown}, Options.{IsFlag, IsNamed, IsValued}}
 
 -- words after a command's name are kept for it
@@ -173,16 +173,11 @@ is_command Shrink = command refl refl refl (flag refl refl refl, tt)
 is_command Check = command refl refl refl (valued refl (λ v. refl) (λ v. refl) (λ v. refl), (flag refl refl refl, tt))
 is_command Solve = command refl refl refl (valued refl (λ v. refl) (λ v. refl) (λ v. refl), tt)
 is_command Play = command refl refl refl (valued refl (λ v. refl) (λ v. refl) (λ v. refl), (valued refl (λ v. refl) (λ v. refl) (λ v. refl), tt))
-is_command Evaluate = command refl refl refl tt
 is_command Query = command refl refl refl (valued refl (λ v. refl) (λ v. refl) (λ v. refl), (valued refl (λ v. refl) (λ v. refl) (λ v. refl), (valued refl (λ v. refl) (λ v. refl) (λ v. refl), tt)))
 is_command Make = command refl refl refl
     (valued refl (λ v. refl) (λ v. refl) (λ v. refl), (valued refl (λ v. refl) (λ v. refl) (λ v. refl), (valued refl (λ v. refl) (λ v. refl) (λ v. refl), (valued refl (λ v. refl) (λ v. refl) (λ v. refl), (flag refl refl refl, tt)))))
-is_command Upgrade = command refl refl refl tt
-is_command Judge = command refl refl refl tt
-is_command Duel = command refl refl refl tt
-is_command Certify = command refl refl refl tt
-is_command Verify = command refl refl refl tt
 is_command Path = command refl refl refl (valued refl (λ v. refl) (λ v. refl) (λ v. refl), tt)
+is_command c = command refl refl refl tt
 
 pub asked : (words : List Text) (name : Text) (found : List Row) → fault_of program words ≡ [] → subcommand_of program words ≡ Some (name, found)
     → request_of words ≡ task_in (name, found)

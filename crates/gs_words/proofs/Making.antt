@@ -3,7 +3,7 @@ use Rattle.std.proofs.Common.{◌≡◌, ℕ, Bool, Option, Some, None, refl, sy
 use Rattle.std.specs.Prelude.{option_and_then}
 use Rattle.clap.specs.Words.{Text, first_of, found_of, rows_of}
 use Rattle.clap.specs.declared.parser.matches.ArgMatches.{ArgMatches}
-use Rattle.gs_words.specs.{Requests.{is_set, make_of, query_with}, Tasks.{Make, Query}, Values.{kind_of, number_in}, declared.kind.Kind.{Kind}}
+use Rattle.gs_words.specs.{Requests.{is_set, make_of, query_with}, Tasks.{make, of_strategy, Query}, Values.{kind_of, number_in}, declared.kind.Kind.{Kind}}
 
 -- the text that is given for an option
 abbrev pub told : ArgMatches → Text → Option Text
@@ -22,7 +22,7 @@ module _ {word : Text} {kind : Kind} {kinds : Option Text} (given : Some word �
       no_cap e = rw (sym given, sym named, sym rank_is, sym suit_is, sym e) refl
 
       pub makes : {cap : ℕ} {summary : Bool} → Some cap ≡ option_and_then (number_in 0 8) caps → summary ≡ is_set sum
-          → Some (Make kind rank suit cap summary) ≡ make_of kinds ranks suits caps sum
+          → Some (make (record { kind = kind; ranks = rank; suits = suit; cap = cap; summary = summary })) ≡ make_of kinds ranks suits caps sum
       makes e told = rw (sym given, sym named, sym rank_is, sym suit_is, sym e, told) refl
 
 module _ {player : ℕ} (players lines signals : Option Text) (player_is : Some player ≡ option_and_then (number_in 1 2) players) where
@@ -33,5 +33,5 @@ module _ {player : ℕ} (players lines signals : Option Text) (player_is : Some 
     pub no_signal : None ≡ signals → None ≡ query_with (option_and_then (number_in 1 2) players) lines signals
     no_signal e = rw (sym player_is, sym line_is, sym e) refl
 
-    pub queries : {signal : Text} → Some signal ≡ signals → Some (Query player line signal) ≡ query_with (option_and_then (number_in 1 2) players) lines signals
+    pub queries : {signal : Text} → Some signal ≡ signals → Some (of_strategy (Query player line signal)) ≡ query_with (option_and_then (number_in 1 2) players) lines signals
     queries e = rw (sym player_is, sym line_is, sym e) refl

@@ -6,7 +6,7 @@ use Rattle.clap.specs.{Words.{Row, Text, built, first_of}, Takes.{is_given}, Wal
 use Rattle.gs_words.specs.{Commands.{OptionOf, command_word, options_of}, Plain.{AskFor, Given, are_plain, end_words, given_for, name_of, option_words, stand_once}}
 use Rattle.gs_words.specs.{Program.{program}, Requests.{grouping_in, is_set, make_with, play_with, query_with, request_of, task_for, task_in}, Tasks.{Task}}
 use Rattle.gs_words.specs.{Values.{kind_of, number_in}, declared.names.CommandName.{CommandName}}
-use Rattle.gs_words.specs.declared.names.CommandName.TheVariants.{Shrink, Check, Solve, Play, Evaluate, Query, Make, Upgrade, Judge, Duel, Certify, Verify}
+use Rattle.gs_words.specs.declared.names.CommandName.TheVariants.{Shrink, Check, Solve, Play, Query, Make}
 use Rattle.gs_words.specs.{declared.names.CommandName.TheVariants.{Path}, declared.request.Grouping.{Grouping}, declared.kind.Kind.{Kind}}
 use Rattle.gs_words.proofs.{AnyOrder.{AreGiven, all_rows, taken_in_any_order}, Rows.{is_there, same_flag, same_value}}
 use Rattle.gs_words.proofs.{Obeyed.{absent, all_given, are_given_as}, Levels.{asked, is_command, opens, rows, shape_of, taken}}
@@ -62,19 +62,10 @@ has_turns given h = (and_parts (given (codes "turns")) true h).0
 
 -- a level to which all is given that has to be wants no more
 checked : (c : CommandName) (found : List Row) → has_required (λ name. is_given name found) (options_of c) ≡ true → check_fault (shape_of c) found false ≡ []
-checked Shrink found h = refl
-checked Check found h = refl
-checked Solve found h = refl
 checked Play found h = rw (has_turns (λ name. is_given name found) h) refl
-checked Evaluate found h = refl
 checked Query found h = let all = has_query (λ name. is_given name found) h in rw (all.player, all.line, all.signal) refl
 checked Make found h = let all = has_all (λ name. is_given name found) h in rw (all.kind, all.ranks, all.suits, all.cap) refl
-checked Upgrade found h = refl
-checked Judge found h = refl
-checked Duel found h = refl
-checked Certify found h = refl
-checked Verify found h = refl
-checked Path found h = refl
+checked c found h = refl
 
 -- ---- what makes a task is given
 
@@ -137,16 +128,7 @@ complete Make gs task h =
     let s = there gs (codes "suits") (λ e. no_suits kind ranks cap u task (rw e at h)) in
     let c = there gs (codes "cap") (λ e. no_cap kind ranks suits u task (rw e at h)) in
     rw (k, r, s, c) refl
-complete Shrink gs task h = refl
-complete Check gs task h = refl
-complete Solve gs task h = refl
-complete Evaluate gs task h = refl
-complete Upgrade gs task h = refl
-complete Judge gs task h = refl
-complete Duel gs task h = refl
-complete Certify gs task h = refl
-complete Verify gs task h = refl
-complete Path gs task h = refl
+complete c gs task h = refl
 
 checks : (c : CommandName) (gs : List Given) (given : AreGiven (shape_of c).rules gs) (task : Task) → task_for c (given_for gs) ≡ Some task
     → check_fault (shape_of c) (all_rows (shape_of c).rules gs given) false ≡ []
@@ -202,18 +184,13 @@ same_task Check gs given = check_meant (all_rows (shape_of Check).rules gs given
 same_task Solve gs given = solve_meant (all_rows (shape_of Solve).rules gs given) gs (same_value (shape_of Solve).rules gs given (codes "classes") refl)
 same_task Play gs given = play_meant (all_rows (shape_of Play).rules gs given) gs (same_value (shape_of Play).rules gs given (codes "classes") refl)
     (same_value (shape_of Play).rules gs given (codes "turns") refl)
-same_task Evaluate gs given = refl
 same_task Query gs given = query_meant (all_rows (shape_of Query).rules gs given) gs (same_value (shape_of Query).rules gs given (codes "player") refl)
     (same_value (shape_of Query).rules gs given (codes "line") refl) (same_value (shape_of Query).rules gs given (codes "signal") refl)
 same_task Make gs given = make_meant (all_rows (shape_of Make).rules gs given) gs (same_value (shape_of Make).rules gs given (codes "kind") refl)
     (same_value (shape_of Make).rules gs given (codes "ranks") refl) (same_value (shape_of Make).rules gs given (codes "suits") refl)
     (same_value (shape_of Make).rules gs given (codes "cap") refl) (same_flag (shape_of Make).rules gs given (codes "summary") refl)
-same_task Upgrade gs given = refl
-same_task Judge gs given = refl
-same_task Duel gs given = refl
-same_task Certify gs given = refl
-same_task Verify gs given = refl
 same_task Path gs given = path_meant (all_rows (shape_of Path).rules gs given) gs (same_value (shape_of Path).rules gs given (codes "classes") refl)
+same_task c gs given = refl
 
 -- words that ask for a task are read as it
 pub plain_meant : (c : CommandName) (gs : List Given) (ended : Bool) (task : Task) → are_plain c gs ≡ true → task_for c (given_for gs) ≡ Some task

@@ -4,10 +4,12 @@ use Rattle.std.specs.Str.{bytes_eq}
 use Rattle.clap.specs.{Words.{Row, Text, fault_of, first_of, subcommand_of, subcommand_rows_of}, Walk.{is_empty}, declared.error.kind.ErrorKind.{ErrorKind}}
 use Rattle.clap.specs.{declared.error.kind.ErrorKind.TheVariants.{OutOfMemory}, declared.parser.matches.ArgMatches.{ArgMatches}}
 use Rattle.gs_words.specs.{declared.kind.Kind.{Kind}, Commands.{command_of}, Program.{program}}
-use Rattle.gs_words.specs.Tasks.{Task, task_of, Shrink, Check, Solve, Play, Evaluate, Query, Make, Upgrade, Judge, Duel, Certify, Verify, Path}
+use Rattle.gs_words.specs.Tasks.{Task, make, of_game, of_raw, of_strategy, task_of, Certify, Evaluate, Query, Upgrade, Verify}
 use Rattle.gs_words.specs.{Values.{grouping_of, kind_of, number_in}, declared.names.CommandName.{CommandName}, declared.request.Grouping.{Grouping}}
 use Rattle.gs_words.specs.{declared.request.Grouping.TheVariants.{Coarsest}, declared.request.Request.{Request}, declared.request.WordsStop.{WordsStop}}
 use Rattle.gs_words.specs.declared.names.CommandName.TheVariants as command
+use Rattle.gs_words.specs.declared.request.OfGame.TheVariants as game
+use Rattle.gs_words.specs.declared.request.OfRaw.TheVariants as raw
 use Rattle.gs_words.specs.declared.request.WordsStop.TheVariants as stop
 
 -- the flag is given
@@ -22,17 +24,18 @@ grouping_in (Some word) = grouping_of word
 
 -- `play` with a grouping and a number of turns, if both are there
 abbrev pub play_with : Option Grouping → Option ℕ → Option Task
-play_with (Some grouping) (Some turns) = Some (Play grouping turns)
+play_with (Some grouping) (Some turns) = Some (of_game (game.Play grouping turns))
 play_with _ _ = None
 
 -- `query` with a player, a line and a signal, if all are there
 abbrev pub query_with : Option ℕ → Option Text → Option Text → Option Task
-query_with (Some player) (Some line) (Some signal) = Some (Query player line signal)
+query_with (Some player) (Some line) (Some signal) = Some (of_strategy (Query player line signal))
 query_with _ _ _ = None
 
 -- `make` with a kind, ranks, suits and a cap, if all are there
 abbrev pub make_with : Option Kind → Option ℕ → Option ℕ → Option ℕ → Bool → Option Task
-make_with (Some kind) (Some ranks) (Some suits) (Some cap) summary = Some (Make kind ranks suits cap summary)
+make_with (Some kind) (Some ranks) (Some suits) (Some cap) summary =
+    Some (make (record { kind = kind; ranks = ranks; suits = suits; cap = cap; summary = summary }))
 make_with _ _ _ _ summary = None
 
 -- `make` from the texts of its options, each read by its rule
@@ -43,19 +46,19 @@ make_of kind ranks suits cap summary =
 
 -- what a command asks for, from what is given for each of its options
 abbrev pub task_for : CommandName → (Text → Option Text) → Option Task
-task_for command.Shrink given = Some (Shrink (is_set (given (codes "summary"))))
-task_for command.Check given = option_map (λ grouping. Check grouping (is_set (given (codes "summary")))) (grouping_in (given (codes "classes")))
-task_for command.Solve given = option_map (λ grouping. Solve grouping) (grouping_in (given (codes "classes")))
+task_for command.Shrink given = Some (of_game (game.Shrink (is_set (given (codes "summary")))))
+task_for command.Check given = option_map (λ grouping. of_game (game.Check grouping (is_set (given (codes "summary"))))) (grouping_in (given (codes "classes")))
+task_for command.Solve given = option_map (λ grouping. of_game (game.Solve grouping)) (grouping_in (given (codes "classes")))
 task_for command.Play given = play_with (grouping_in (given (codes "classes"))) (option_and_then (number_in 0 1000000) (given (codes "turns")))
-task_for command.Evaluate given = Some Evaluate
+task_for command.Path given = option_map (λ grouping. of_game (game.Path grouping)) (grouping_in (given (codes "classes")))
+task_for command.Evaluate given = Some (of_strategy Evaluate)
 task_for command.Query given = query_with (option_and_then (number_in 1 2) (given (codes "player"))) (given (codes "line")) (given (codes "signal"))
+task_for command.Upgrade given = Some (of_strategy Upgrade)
+task_for command.Certify given = Some (of_strategy Certify)
+task_for command.Verify given = Some (of_strategy Verify)
+task_for command.Judge given = Some (of_raw raw.Judge)
+task_for command.Duel given = Some (of_raw raw.Duel)
 task_for command.Make given = make_of (given (codes "kind")) (given (codes "ranks")) (given (codes "suits")) (given (codes "cap")) (given (codes "summary"))
-task_for command.Upgrade given = Some Upgrade
-task_for command.Judge given = Some Judge
-task_for command.Duel given = Some Duel
-task_for command.Certify given = Some Certify
-task_for command.Verify given = Some Verify
-task_for command.Path given = option_map (λ grouping. Path grouping) (grouping_in (given (codes "classes")))
 
 -- what a command that was entered with these options asks for
 abbrev pub task_in : Text × List Row → Option Task

@@ -15,4 +15,4 @@ pub use laws::plain_words_are_read;
 pub use made::made_game;
 pub use names::CommandName;
 pub use reading::read_words;
-pub use request::{Grouping, Request, WordsStop};
+pub use request::{Grouping, Make, OfGame, OfRaw, OfStrategy, Request, WordsStop};

@@ -8,7 +8,7 @@ ghost use Rattle.gs_words.specs.declared.names.CommandName.TheVariants as comman
 
 use crate::command::program;
 use crate::names::{CommandName, command_named};
-use crate::request::{Grouping, Request, WordsStop};
+use crate::request::{Grouping, Make, OfGame, OfRaw, OfStrategy, Request, WordsStop};
 use crate::values::{grouping, kind, number};
 use clap::ArgMatches;
 use clap::error::ErrorKind;
@@ -80,7 +80,7 @@ fn play_request<'a>(options: &ArgMatches<'a>) -> Option<Request<'a>>
 {
     let grouping = grouping_of(options)?;
     let turns = number_of(options, "turns", 0, 1_000_000)?;
-    Some(Request::Play { grouping, turns })
+    Some(Request::OfGame(OfGame::Play { grouping, turns }))
 }
 
 fn query_request<'a>(options: &ArgMatches<'a>) -> Option<Request<'a>>
@@ -91,11 +91,11 @@ fn query_request<'a>(options: &ArgMatches<'a>) -> Option<Request<'a>>
     let player = number_of(options, "player", 1, 2)? as u8;
     let line = value_of(options, "line")?;
     let signal = value_of(options, "signal")?;
-    Some(Request::Query {
+    Some(Request::OfStrategy(OfStrategy::Query {
         player,
         line,
         signal,
-    })
+    }))
 }
 
 fn make_request<'a>(options: &ArgMatches<'a>) -> Option<Request<'a>>
@@ -109,13 +109,13 @@ fn make_request<'a>(options: &ArgMatches<'a>) -> Option<Request<'a>>
     let suits = number_of(options, "suits", 1, 4)? as u8;
     let cap = number_of(options, "cap", 0, 8)? as u8;
     let summary = is_set(options, "summary");
-    Some(Request::Make {
+    Some(Request::Make(Make {
         kind,
         ranks,
         suits,
         cap,
         summary,
-    })
+    }))
 }
 
 // Returns the request of a command with options, if its values are valid.
@@ -124,28 +124,28 @@ fn request_for<'a>(name: CommandName, options: &ArgMatches<'a>) -> Option<Reques
     ensures within { IfSome result (λ r. IsInRange (task_of r)) }
 {
     match name {
-        CommandName::Shrink => Some(Request::Shrink {
+        CommandName::Shrink => Some(Request::OfGame(OfGame::Shrink {
             summary: is_set(options, "summary"),
-        }),
-        CommandName::Check => Some(Request::Check {
+        })),
+        CommandName::Check => Some(Request::OfGame(OfGame::Check {
             grouping: grouping_of(options)?,
             summary: is_set(options, "summary"),
-        }),
-        CommandName::Solve => Some(Request::Solve {
+        })),
+        CommandName::Solve => Some(Request::OfGame(OfGame::Solve {
             grouping: grouping_of(options)?,
-        }),
+        })),
         CommandName::Play => play_request(options),
-        CommandName::Evaluate => Some(Request::Evaluate),
-        CommandName::Query => query_request(options),
-        CommandName::Make => make_request(options),
-        CommandName::Upgrade => Some(Request::Upgrade),
-        CommandName::Judge => Some(Request::Judge),
-        CommandName::Duel => Some(Request::Duel),
-        CommandName::Certify => Some(Request::Certify),
-        CommandName::Verify => Some(Request::Verify),
-        CommandName::Path => Some(Request::Path {
+        CommandName::Path => Some(Request::OfGame(OfGame::Path {
             grouping: grouping_of(options)?,
-        }),
+        })),
+        CommandName::Evaluate => Some(Request::OfStrategy(OfStrategy::Evaluate)),
+        CommandName::Query => query_request(options),
+        CommandName::Upgrade => Some(Request::OfStrategy(OfStrategy::Upgrade)),
+        CommandName::Certify => Some(Request::OfStrategy(OfStrategy::Certify)),
+        CommandName::Verify => Some(Request::OfStrategy(OfStrategy::Verify)),
+        CommandName::Judge => Some(Request::OfRaw(OfRaw::Judge)),
+        CommandName::Duel => Some(Request::OfRaw(OfRaw::Duel)),
+        CommandName::Make => make_request(options),
     }
 }
 

@@ -13,28 +13,25 @@ pub enum Grouping {
     Single,
 }
 
-/// A request of the command line. The texts of a query are words of it.
+/// What is asked of a game file.
 #[derive(Clone, Copy)]
-pub enum Request<'w> {
-    /// The signal classes of a game, or only how many there are.
-    Shrink {
-        summary: bool,
-    },
+pub enum OfGame {
+    /// The signal classes, or only how many there are.
+    Shrink { summary: bool },
     /// The classes of this grouping, once they are found to be lossless, or only how many there are.
-    Check {
-        grouping: Grouping,
-        summary: bool,
-    },
+    Check { grouping: Grouping, summary: bool },
     /// A strategy over these classes with both gaps 0.
-    Solve {
-        grouping: Grouping,
-    },
+    Solve { grouping: Grouping },
     /// The strategy over these classes after `turns` turns of fictitious play, at most 1,000,000.
-    Play {
-        grouping: Grouping,
-        turns: u32,
-    },
-    /// The value and gaps of a strategy, once they are confirmed.
+    Play { grouping: Grouping, turns: u32 },
+    /// The pivots by which a strategy over these classes is found.
+    Path { grouping: Grouping },
+}
+
+/// What is asked of a strategy file over lossless classes. The texts of a query are words of the command line.
+#[derive(Clone, Copy)]
+pub enum OfStrategy<'w> {
+    /// The value and gaps, once they are confirmed.
     Evaluate,
     /// The mixture of a player, 1 or 2, at a line with a signal.
     Query {
@@ -42,29 +39,41 @@ pub enum Request<'w> {
         line: &'w str,
         signal: &'w str,
     },
-    /// The game file of a well-known game, or only how many signal classes that game has. The game
-    /// has 1 to 13 ranks, 1 to 4 suits and at most 8 bets and raises in a round.
-    Make {
-        kind: Kind,
-        ranks: u8,
-        suits: u8,
-        cap: u8,
-        summary: bool,
-    },
-    /// A strategy's text in the latest version.
+    /// The text in the latest version.
     Upgrade,
-    /// The value and gaps of a strategy over any classes.
+    /// A certificate of the bounds.
+    Certify,
+    /// The bounds that a certificate shows.
+    Verify,
+}
+
+/// What is asked of strategies over any classes, on raw cards.
+#[derive(Clone, Copy)]
+pub enum OfRaw {
+    /// The value and gaps of a strategy.
     Judge,
     /// The value and gaps of two strategies against each other.
     Duel,
-    /// A certificate of a strategy's bounds.
-    Certify,
-    /// The bounds that a certificate of a strategy shows.
-    Verify,
-    /// The pivots by which a strategy over these classes is found.
-    Path {
-        grouping: Grouping,
-    },
+}
+
+/// The game file of a well-known game, or only how many signal classes that game has. The game
+/// has 1 to 13 ranks, 1 to 4 suits and at most 8 bets and raises in a round.
+#[derive(Clone, Copy)]
+pub struct Make {
+    pub kind: Kind,
+    pub ranks: u8,
+    pub suits: u8,
+    pub cap: u8,
+    pub summary: bool,
+}
+
+/// A request of the command line, by the family of its command.
+#[derive(Clone, Copy)]
+pub enum Request<'w> {
+    OfGame(OfGame),
+    OfStrategy(OfStrategy<'w>),
+    OfRaw(OfRaw),
+    Make(Make),
 }
 
 /// The reason why words give no request.
