@@ -13,7 +13,7 @@ use Rattle.gs_model.proofs.{Basics.{flat_map-same}, Beside.{length-left_by}, Exc
 use Rattle.gs_model.proofs.{Facing.{leaves_are_deals, row-of}, Listed.{left_at}, SingleCards.{product-le_one}}
 use Rattle.gs_iso.proofs.{Exact.{child_eq, child_exact}, Numbered.{at_new}}
 use Rattle.gs_tree.specs.{Boards.{AreBoards}, Masks.{AreMasks}, Walk.{last_count, shows_same}}
-use Rattle.gs_tree.proofs.{Beside.{left_by_cards, times}, Same.{one_list, public_alike, public_self}}
+use Rattle.gs_tree.proofs.{Beside.{left_by_cards, times}, Same.{one_list, public_alike, public_self}, Weighed.{path_one}}
 
 -- lists with the same items
 same_items : (xs ys : List ℕ) → length xs ≡ length ys → ((k : ℕ) → get_or xs k 0 ≡ get_or ys k 0) → xs ≡ ys
@@ -22,15 +22,6 @@ same_items [] (y ∷ ys) l h = absurd (omega arith)
 same_items (x ∷ xs) [] l h = absurd (omega arith)
 same_items (x ∷ xs) (y ∷ ys) l h =
     ap (λ (z : ℕ). z ∷ xs) (h 0) ∙ ap (λ (zs : List ℕ). y ∷ zs) (same_items xs ys (omega (arith, l)) (λ k. h (suc k)))
-
-path_one : (left : List ℕ) (s : Signal) → Single left → path_weight left s ≤ 1
-path_one left [] h = omega arith
-path_one left (p ∷ s) h =
-    let l1 = left_after left p.own in
-    let l2 = left_after l1 p.public in
-    let h1 = single_after left p.own h in
-    product-le_one (edge left p) (path_weight l2 s) (product-le_one (ways left p.own) (ways l1 p.public) (ways_one left p.own h) (ways_one l1 p.public h1))
-    (path_one l2 s (single_after l1 p.public h1))
 
 -- a possible deal as player 1 sees it
 abbrev one_seen : List ℕ → ℕ → ℤ → ℕ → List (ℕ × ℤ × ℕ)

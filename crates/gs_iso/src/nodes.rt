@@ -1,5 +1,7 @@
 //! The parts of a node: its leaves or children, and the key that decides a signal's class.
 
+ghost use Rattle.std.specs.Prelude.{ℕ, ℤ};
+
 use std::marker::Model;
 
 /// A leaf under a last-round signal: the number of ways to take the opponent's groups, and the outcome for the signal's player.
@@ -10,8 +12,6 @@ pub(crate) struct Leaf {
 }
 
 impl Model for Leaf {
-    ghost use Rattle.std.specs.Prelude.{ℕ, ℤ};
-
     ghost Value = { ℕ × ℤ };
 
     ghost view = { λ l. (l.ways, l.outcome) };
@@ -27,8 +27,6 @@ pub(crate) struct Child {
 }
 
 impl Model for Child {
-    ghost use Rattle.std.specs.Prelude.{ℕ};
-
     ghost Value = { ℕ × ℕ };
 
     ghost view = { λ c. (c.edge, c.number) };
@@ -44,8 +42,6 @@ pub(crate) struct ClassKey {
 }
 
 impl Model for ClassKey {
-    ghost use Rattle.std.specs.Prelude.{ℕ};
-
     ghost Value = { ℕ × ℕ };
 
     ghost view = { λ k. (k.above, k.number) };

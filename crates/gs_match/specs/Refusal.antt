@@ -1,5 +1,5 @@
 -- Why there is no perfect matching.
-use Rattle.std.specs.Prelude.{◌≡◌, ◌≢◌, List, ℕ}
+use Rattle.std.specs.Prelude.{◌≡◌, ◌≢◌, IfErr, IfOk, List, Result, ℕ}
 use Rattle.gs_model.specs.Matching.{Edges, IsHall, IsPerfect}
 use Rattle.gs_match.specs.{declared.graph.NoMatch.{NoMatch}, declared.graph.NoMatch.TheVariants.{Sides, Hall, Memory}}
 
@@ -14,3 +14,10 @@ abbrev pub NoneExists : Edges → NoMatch → Type 0
 NoneExists g (Hall set) = (to : List ℕ) → IsPerfect g to → ⊥
 NoneExists g (Sides left right) = Unit {0}
 NoneExists g Memory = Unit {0}
+
+-- what `perfect` answers: a perfect matching of sides of one size, or why there is none
+pub record IsMatchAnswer (g : Edges) (r : Result (List ℕ) NoMatch) : Type 0 where
+  pub equal : IfOk r (λ _. g.left ≡ g.right)
+  pub matched : IfOk r (λ to. IsPerfect g to)
+  pub refused : IfErr r (IsRefusalOf g)
+  pub none : IfErr r (NoneExists g)

@@ -1,9 +1,8 @@
 //! Perfect matchings of bipartite graphs.
 
-ghost use Rattle.std.specs.Prelude.{◌≡◌, ◌<◌, ◌^◌, ℕ, Some, map, IfOk, IfErr, IsPermutation, length, get_or};
+ghost use Rattle.std.specs.Prelude.{◌≡◌, ◌<◌, ◌^◌, ℕ, Some, map, IfOk, IsPermutation, length, get_or};
 ghost use Rattle.std.specs.List.Sorted.{IsNonDecreasing};
-ghost use Rattle.gs_model.specs.Matching.{IsPerfect};
-ghost use Rattle.gs_match.specs.{Adjacency.{AreEdgesInRange}, Search.{holder, lefts}, Refusal.{IsRefusalOf, NoneExists}};
+ghost use Rattle.gs_match.specs.{Adjacency.{AreEdgesInRange}, Search.{holder, lefts}, Refusal.{IsMatchAnswer}};
 
 use crate::adjacency::adjacency;
 use crate::augment::augment;
@@ -44,10 +43,7 @@ fn visited(alloc: Global, visits: &[Visit]) -> Result<Vec<u32>, AllocError>
 /// Source: the augmenting paths of Kuhn (1955) and Hall (1935).
 pub fn perfect(alloc: Global, graph: &Graph) -> Result<Match, NoMatch>
     requires { AreEdgesInRange graph.now }
-    ensures equal { IfOk result (λ _. graph.now.left ≡ graph.now.right) }
-    ensures matched { IfOk result (λ to. IsPerfect graph.now to) }
-    ensures refused { IfErr result (IsRefusalOf graph.now) }
-    ensures none { IfErr result (NoneExists graph.now) }
+    ensures { IsMatchAnswer graph.now result }
 {
     if graph.left != graph.right {
         return Err(NoMatch::Sides {

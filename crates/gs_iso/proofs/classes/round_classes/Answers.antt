@@ -1,7 +1,6 @@
+use Rattle.std.proofs.Common.{arith}
+use Rattle.std.proofs.lemmas.Grind.{common_steps}
 use Rattle.gs_iso.proofs.classes.round_classes.Goals as goal
 
-pub returns-clause-classes : goal.returns-clause-classes
-returns-clause-classes c = c.classes_each.ensures.classes
-
-pub returns-clause-long : goal.returns-clause-long
-returns-clause-long c = c.classes_each.ensures.long
+pub returns : goal.returns
+returns c = grind (arith, common_steps)

@@ -61,20 +61,18 @@ loop-deal-preserved c =
       small = λ h. c.loop-deal.invariant.small (subst (All is_small) (sym first) (one_more deal rest c.mark_of.ensures.small h));
     }
 
-pub returns-clause-small : goal.returns-clause-small
-returns-clause-small c =
-    let g = rules_of c.args.signals.now in
-    let s = signal_at g (round_count g) c.args.signal in
-    let P : ℕ × ℤ → Type 0 = λ l. unsigned_abs l.1 < 256 in
-    subst (All P) (sym (leaves_are_deals g c.args.signal c.requires).2)
-    (All-map P (leaf_of (path_weight g.copies s)) (filter (λ (d : Deal). d.one == c.args.signal) (deals g))
-    (c.loop-deal.invariant.small (subst (All is_small) (sym c.in-None.ensures.steps.0) none_is_small)))
-
-pub returns-clause-marks : goal.returns-clause-marks
-returns-clause-marks c =
-    let mark : Deal → ℕ = λ d. leaf_mark (leaf_of c.path_weight-path.result d) in
-    let marks : List ℕ = c.loop-deal.marks.items in
-    sym (append-nil marks) ∙ ap (λ (ds : List Deal). marks ++ map mark ds) (sym c.in-None.ensures.steps.0) ∙ c.loop-deal.invariant.done
+pub returns : goal.returns
+returns c = record {
+  marks = let mark : Deal → ℕ = λ d. leaf_mark (leaf_of c.path_weight-path.result d) in
+      let marks : List ℕ = c.loop-deal.marks.items in
+      sym (append-nil marks) ∙ ap (λ (ds : List Deal). marks ++ map mark ds) (sym c.in-None.ensures.steps.0) ∙ c.loop-deal.invariant.done;
+  small = let g = rules_of c.args.signals.now in
+      let s = signal_at g (round_count g) c.args.signal in
+      let P : ℕ × ℤ → Type 0 = λ l. unsigned_abs l.1 < 256 in
+      subst (All P) (sym (leaves_are_deals g c.args.signal c.requires).2)
+      (All-map P (leaf_of (path_weight g.copies s)) (filter (λ (d : Deal). d.one == c.args.signal) (deals g))
+      (c.loop-deal.invariant.small (subst (All is_small) (sym c.in-None.ensures.steps.0) none_is_small)));
+}
 
 pub returns-in_err-push : goal.returns-in_err-push
 returns-in_err-push c = let failed = c.from_residual.ensures.0 in record {

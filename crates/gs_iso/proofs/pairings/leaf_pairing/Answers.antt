@@ -5,23 +5,21 @@ use Rattle.gs_iso.specs.Pairings.{IsPaired, IsPairingAnswer}
 use Rattle.gs_iso.proofs.{Paired.{leaf_answer, leaves_few}, Exact.{leaf_eq}}
 use Rattle.gs_iso.proofs.pairings.leaf_pairing.Goals as goal
 
-pub match_equals-requires-clause-few_ones : goal.match_equals-requires-clause-few_ones
-match_equals-requires-clause-few_ones c =
-    omega (
-      arith,
-      ap length (c.deref.ensures.value ∙ c.in_ok-ones.ensures),
-      leaves_few (rules_of c.args.signals.now) c.args.a c.args.signals.now.game.now.limits
-          c.requires.a_in,
-    )
-
-pub match_equals-requires-clause-few_twos : goal.match_equals-requires-clause-few_twos
-match_equals-requires-clause-few_twos c =
-    omega (
-      arith,
-      ap length (c.deref-2.ensures.value ∙ c.in_ok-twos.ensures),
-      leaves_few
-          (rules_of c.args.signals.now) c.args.b c.args.signals.now.game.now.limits c.requires.b_in,
-    )
+pub match_equals-requires : goal.match_equals-requires
+match_equals-requires c = record {
+  few_ones = omega (
+    arith,
+    ap length (c.deref.ensures.value ∙ c.in_ok-ones.ensures),
+    leaves_few (rules_of c.args.signals.now) c.args.a c.args.signals.now.game.now.limits
+        c.requires.a_in,
+  );
+  few_twos = omega (
+    arith,
+    ap length (c.deref-2.ensures.value ∙ c.in_ok-twos.ensures),
+    leaves_few
+        (rules_of c.args.signals.now) c.args.b c.args.signals.now.game.now.limits c.requires.b_in,
+  );
+}
 
 pub returns : goal.returns
 returns c =

@@ -17,18 +17,6 @@ first_row g vs last e h k l =
     (subst (λ n. IsNumbering g (round_count g - n) (get_or (rows (last ∷ [])) n [])) (sym none)
     (subst (λ r. IsNumbering g r last.items) whole h))
 
-pub child_numbers-requires-clause-numbers : goal.child_numbers-requires-clause-numbers
-child_numbers-requires-clause-numbers c =
-    let g = rules_of c.args.signals.now in
-    let all = c.loop-done.numbers.items in
-    let i = c.from.result - 1 in
-    let lt : i < length all = omega (arith, c.from.ensures, c.loop-done.invariant.long, c.loop-done.auto.done) in
-    let read : c.deref.result.now ≡ get_or (rows all) i [] = c.deref.ensures.value ∙ row_read all i c.index-below.result.now lt c.index-below.ensures in
-    let e : round_count g - i ≡ c.rounds-rounds.result - c.loop-done.done + 1 =
-    omega (arith, c.rounds-rounds.ensures.value, c.from.ensures, c.loop-done-test.true, c.loop-done.auto.done) in
-    subst (IsNumbering g (c.rounds-rounds.result - c.loop-done.done + 1)) (sym read)
-    (subst (λ r. IsNumbering g r (get_or (rows all) i [])) e (c.loop-done.invariant.each i lt))
-
 pub loop-done-preserved : goal.loop-done-preserved
 loop-done-preserved c =
     let g = rules_of c.args.signals.now in
@@ -66,8 +54,17 @@ loop-done-init c =
       each = first_row (rules_of c.args.signals.now) c.in_ok-numbers.numbers.items c.in_ok-last.last made c.in_ok-last.ensures;
     }
 
-pub child_numbers-requires-clause-before_last : goal.child_numbers-requires-clause-before_last
-child_numbers-requires-clause-before_last c = omega (arith, c.loop-done-test.true, c.loop-done.auto.done, c.rounds-rounds.ensures.value)
-
-pub child_numbers-requires-clause-some : goal.child_numbers-requires-clause-some
-child_numbers-requires-clause-some c = omega (arith, c.loop-done-test.true)
+pub child_numbers-requires : goal.child_numbers-requires
+child_numbers-requires c = record {
+  some = omega (arith, c.loop-done-test.true);
+  before_last = omega (arith, c.loop-done-test.true, c.loop-done.auto.done, c.rounds-rounds.ensures.value);
+  numbers = let g = rules_of c.args.signals.now in
+      let all = c.loop-done.numbers.items in
+      let i = c.from.result - 1 in
+      let lt : i < length all = omega (arith, c.from.ensures, c.loop-done.invariant.long, c.loop-done.auto.done) in
+      let read : c.deref.result.now ≡ get_or (rows all) i [] = c.deref.ensures.value ∙ row_read all i c.index-below.result.now lt c.index-below.ensures in
+      let e : round_count g - i ≡ c.rounds-rounds.result - c.loop-done.done + 1 =
+      omega (arith, c.rounds-rounds.ensures.value, c.from.ensures, c.loop-done-test.true, c.loop-done.auto.done) in
+      subst (IsNumbering g (c.rounds-rounds.result - c.loop-done.done + 1)) (sym read)
+      (subst (λ r. IsNumbering g r (get_or (rows all) i [])) e (c.loop-done.invariant.each i lt));
+}

@@ -19,15 +19,13 @@ of_filter-requires-clause-classes c =
 pub class_lists-requires : goal.class_lists-requires
 class_lists-requires c = grind arith
 
-pub returns-clause-classes : goal.returns-clause-classes
-returns-clause-classes c =
-    let g = rules_of c.args.signals.now in
-    IfOk-weaker c.of_filter.result (λ (v : Filter). v.lists ≡ rows c.in_ok-lists.lists.items) (λ (v : Filter). IsSignalClasses g v.lists)
-    (λ v e. subst (IsSignalClasses g) (sym e) c.in_ok-lists.ensures) c.of_filter.ensures.lists
-
-pub returns-clause-parents : goal.returns-clause-parents
-returns-clause-parents c =
-    subst (λ (ps : List (List ℕ)). IfOk c.of_filter.result (λ (v : Filter). v.parents ≡ ps)) c.parents.ensures c.of_filter.ensures.parents
+pub returns : goal.returns
+returns c = record {
+  classes = let g = rules_of c.args.signals.now in
+      IfOk-weaker c.of_filter.result (λ (v : Filter). v.lists ≡ rows c.in_ok-lists.lists.items) (λ (v : Filter). IsSignalClasses g v.lists)
+      (λ v e. subst (IsSignalClasses g) (sym e) c.in_ok-lists.ensures) c.of_filter.ensures.lists;
+  parents = subst (λ (ps : List (List ℕ)). IfOk c.of_filter.result (λ (v : Filter). v.parents ≡ ps)) c.parents.ensures c.of_filter.ensures.parents;
+}
 
 pub returns-in_err-numbers : goal.returns-in_err-numbers
 returns-in_err-numbers c = let failed = c.from_residual.ensures.0 in record {

@@ -1,10 +1,10 @@
 use Rattle.std.proofs.Common.{◌≡◌, ◌+◌, ◌++◌, ◌<◌, ◌≤◌, ℕ, List, drop, length, get_or, arith, ap, replicate, subst, sym, take, ◌∙◌, Some, None, Option, Vec, Global, IsPermutation}
-use Rattle.std.proofs.{Common.{MatchOption, Result, Ok, Err, rules, ⊎_elim}, lemmas.Bool.{cases_lt}, lemmas.Result.{IfOk-from_err}}
+use Rattle.std.proofs.{Common.{MatchOption, Result, Ok, Err, rules, ⊎_elim}, lemmas.Bool.{cases_lt}}
 use Rattle.std.proofs.lemmas.List.{get_or-replicate, get_or_past, length-map, length-replicate, take_at}
-use Rattle.std.specs.Result.{IfErr, IsErrAnd}
+use Rattle.std.specs.Result.{IsErrAnd}
 use Rattle.gs_model.specs.{Matching.{Edges, IsHall}, Rows.{rows}}
 use Rattle.gs_model.proofs.Graph.{hall_excludes}
-use Rattle.gs_match.specs.{Adjacency.{AreNeighboursBelow}, Refusal.{IsRefusalOf, NoneExists}, declared.graph.NoMatch.{NoMatch}}
+use Rattle.gs_match.specs.{Adjacency.{AreNeighboursBelow}, Refusal.{IsMatchAnswer, IsRefusalOf, NoneExists}, declared.graph.NoMatch.{NoMatch}}
 use Rattle.gs_match.specs.declared.graph.NoMatch.TheVariants.{Memory}
 use Rattle.gs_match.specs.{declared.search.Visit.{Visit}, Search.{IsMatching, HasClosed, holder, lefts}}
 use Rattle.gs_match.proofs.{SearchLaws.{held_not_last}, HallLaws.{hall_from}, PerfectLaws.{matching_none, perfect_from}}
@@ -18,13 +18,9 @@ none_held n b = ⊎_elim
     (cases_lt b n)
 
 -- out of memory says nothing of the graph
-memory_refuses : {T : Type 0} (g : Edges) (r : Result T NoMatch) → IsErrAnd r (λ e. e ≡ Memory) → IfErr r (IsRefusalOf g)
-memory_refuses g (Ok x) is = tt
-memory_refuses g (Err e) is = subst (IsRefusalOf g) (sym is) tt
-
-memory_ends : {T : Type 0} (g : Edges) (r : Result T NoMatch) → IsErrAnd r (λ e. e ≡ Memory) → IfErr r (NoneExists g)
-memory_ends g (Ok x) is = tt
-memory_ends g (Err e) is = subst (NoneExists g) (sym is) tt
+out_of_memory : (g : Edges) (r : Result (List ℕ) NoMatch) → IsErrAnd r (λ e. e ≡ Memory) → IsMatchAnswer g r
+out_of_memory g (Ok x) is = absurd is
+out_of_memory g (Err e) is = record { equal = tt; matched = tt; refused = subst (IsRefusalOf g) (sym is) tt; none = subst (NoneExists g) (sym is) tt }
 
 module _ (c : goal.After-drop-adjacent-in-Some) where
   stuck : (c.args.graph.now.left ≡ c.args.graph.now.right) × IsHall c.args.graph.now c.in_ok-visited.field-0.items
@@ -45,11 +41,13 @@ module _ (c : goal.After-drop-adjacent-in-Some) where
             (omega arith) c.loop-root.invariant.matching found same c.in_ok-visited.ensures.sorted,
       )
 
-pub returns-in-Some-clause-refused : goal.returns-in-Some-clause-refused
-returns-in-Some-clause-refused c = stuck c
-
-pub returns-in-Some-clause-none : goal.returns-in-Some-clause-none
-returns-in-Some-clause-none c = λ to p. hall_excludes c.args.graph.now c.in_ok-visited.field-0.items to (stuck c).1 p
+pub returns-in-Some : goal.returns-in-Some
+returns-in-Some c = record {
+  equal = tt;
+  matched = tt;
+  refused = stuck c;
+  none = λ to p. hall_excludes c.args.graph.now c.in_ok-visited.field-0.items to (stuck c).1 p;
+}
 
 pub by_left-requires-clause-within : goal.by_left-requires-clause-within
 by_left-requires-clause-within c =
@@ -66,20 +64,26 @@ by_left-requires-clause-once c =
     subst (λ (hs : List (Option ℕ)). (b c' a : ℕ) → holder hs b ≡ Some a → holder hs c' ≡ Some a → b ≡ c') (sym c.deref-2.ensures.value)
     (λ b d a h k. m.once b d a (held_not_last c.loop-root.holders.items b a h) (held_not_last c.loop-root.holders.items d a k) h k)
 
-pub returns-clause-matched : goal.returns-clause-matched
-returns-clause-matched c =
+pub returns : goal.returns
+returns c =
     let left_is : c.graph.inside.left ≡ c.args.graph.now.left = ap (λ (g : Edges). g.left) c.graph.view_is in
     let right_is : c.graph.inside.right ≡ c.args.graph.now.right = ap (λ (g : Edges). g.right) c.graph.view_is in
     let done : c.loop-root.root ≡ c.args.graph.now.left = omega (arith, c.loop-root-test.false, c.loop-root.auto.root-end, left_is) in
     let m = subst (λ (k : ℕ). IsMatching (rows c.in_ok-adjacent.adjacent.items) c.loop-root.holders.items k) done c.loop-root.invariant.matching in
-    perfect_from c.args.graph.now (rows c.in_ok-adjacent.adjacent.items) c.loop-root.holders.items c.in_ok-by_left.field-0.items c.in_ok-adjacent.ensures
-    c.loop-root.invariant.wide (sym left_is ∙ c.if-graph.false ∙ right_is) m
-    (c.in_ok-by_left.ensures.long ∙ ap length c.deref-2.ensures.value)
-    (subst (λ (hs : List (Option ℕ)). (b a : ℕ) → holder hs b ≡ Some a → get_or c.in_ok-by_left.field-0.items a 0 ≡ b) c.deref-2.ensures.value
-    c.in_ok-by_left.ensures.each)
+    record {
+      equal = sym left_is ∙ c.if-graph.false ∙ right_is;
+      matched =
+          perfect_from c.args.graph.now (rows c.in_ok-adjacent.adjacent.items) c.loop-root.holders.items c.in_ok-by_left.field-0.items c.in_ok-adjacent.ensures
+          c.loop-root.invariant.wide (sym left_is ∙ c.if-graph.false ∙ right_is) m
+          (c.in_ok-by_left.ensures.long ∙ ap length c.deref-2.ensures.value)
+          (subst (λ (hs : List (Option ℕ)). (b a : ℕ) → holder hs b ≡ Some a → get_or c.in_ok-by_left.field-0.items a 0 ≡ b) c.deref-2.ensures.value
+          c.in_ok-by_left.ensures.each);
+      refused = tt;
+      none = tt;
+    }
 
-pub returns-then-graph-clause-refused : goal.returns-then-graph-clause-refused
-returns-then-graph-clause-refused c = search rules
+pub returns-then-graph : goal.returns-then-graph
+returns-then-graph c = record { equal = tt; matched = tt; refused = search rules; none = tt }
 
 pub augment-requires-clause-root : goal.augment-requires-clause-root
 augment-requires-clause-root c =
@@ -127,71 +131,20 @@ augment-requires-clause-rows c =
     subst (λ (vs : List (Vec ℕ Global)). AreNeighboursBelow (rows vs) (length c.deref_mut.result.now)) (sym c.deref.ensures.value)
     (subst (λ (n : ℕ). AreNeighboursBelow (rows c.in_ok-adjacent.adjacent.items) n) (sym wide) c.in_ok-adjacent.ensures.in_range)
 
-pub returns-clause-equal : goal.returns-clause-equal
-returns-clause-equal c =
-    sym (ap (λ (g : Edges). g.left) c.graph.view_is) ∙ c.if-graph.false ∙ ap (λ (g : Edges). g.right) c.graph.view_is
-
 pub by_left-requires-clause-short : goal.by_left-requires-clause-short
 by_left-requires-clause-short c = grind arith
 
-pub returns-in-Some-clause-equal : goal.returns-in-Some-clause-equal
-returns-in-Some-clause-equal c = tt
-
-pub returns-in-Some-clause-matched : goal.returns-in-Some-clause-matched
-returns-in-Some-clause-matched c = tt
-
-pub returns-clause-refused : goal.returns-clause-refused
-returns-clause-refused c = tt
-
-pub returns-clause-none : goal.returns-clause-none
-returns-clause-none c = tt
-
 pub returns-in_err-visited : goal.returns-in_err-visited
-returns-in_err-visited c =
-    let failed = c.from_residual-in_err-visited.ensures in
-    record {
-      equal = IfOk-from_err _ _ failed.0;
-      matched = IfOk-from_err _ _ failed.0;
-      refused = memory_refuses c.args.graph.now _ failed.1;
-      none = memory_ends c.args.graph.now _ failed.1;
-    }
+returns-in_err-visited c = out_of_memory c.args.graph.now _ c.from_residual-in_err-visited.ensures.1
 
 pub returns-in_err-visits : goal.returns-in_err-visits
-returns-in_err-visits c =
-    let failed = c.from_residual-in_err-visits.ensures in
-    record {
-      equal = IfOk-from_err _ _ failed.0;
-      matched = IfOk-from_err _ _ failed.0;
-      refused = memory_refuses c.args.graph.now _ failed.1;
-      none = memory_ends c.args.graph.now _ failed.1;
-    }
+returns-in_err-visits c = out_of_memory c.args.graph.now _ c.from_residual-in_err-visits.ensures.1
 
 pub returns-in_err-adjacent : goal.returns-in_err-adjacent
-returns-in_err-adjacent c =
-    let failed = c.from_residual.ensures in
-    record {
-      equal = IfOk-from_err _ _ failed.0;
-      matched = IfOk-from_err _ _ failed.0;
-      refused = memory_refuses c.args.graph.now _ failed.1;
-      none = memory_ends c.args.graph.now _ failed.1;
-    }
+returns-in_err-adjacent c = out_of_memory c.args.graph.now _ c.from_residual.ensures.1
 
 pub returns-in_err-holders : goal.returns-in_err-holders
-returns-in_err-holders c =
-    let failed = c.from_residual-in_err-holders.ensures in
-    record {
-      equal = IfOk-from_err _ _ failed.0;
-      matched = IfOk-from_err _ _ failed.0;
-      refused = memory_refuses c.args.graph.now _ failed.1;
-      none = memory_ends c.args.graph.now _ failed.1;
-    }
+returns-in_err-holders c = out_of_memory c.args.graph.now _ c.from_residual-in_err-holders.ensures.1
 
 pub returns-in_err-by_left : goal.returns-in_err-by_left
-returns-in_err-by_left c =
-    let failed = c.from_residual-in_err-by_left.ensures in
-    record {
-      equal = IfOk-from_err _ _ failed.0;
-      matched = IfOk-from_err _ _ failed.0;
-      refused = memory_refuses c.args.graph.now _ failed.1;
-      none = memory_ends c.args.graph.now _ failed.1;
-    }
+returns-in_err-by_left c = out_of_memory c.args.graph.now _ c.from_residual-in_err-by_left.ensures.1

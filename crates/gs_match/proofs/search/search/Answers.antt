@@ -51,6 +51,12 @@ returns c =
 pub returns-in-Some : goal.returns-in-Some
 returns-in-Some c = grind arith
 
+pub visit_row-requires-clause-rows : goal.visit_row-requires-clause-rows
+visit_row-requires-clause-rows c = grind arith
+
+pub visit_row-requires-clause-left : goal.visit_row-requires-clause-left
+visit_row-requires-clause-left c = grind arith
+
 pub visit_row-requires-clause-matching : goal.visit_row-requires-clause-matching
 visit_row-requires-clause-matching c = grind arith
 
@@ -62,12 +68,6 @@ loop-place-smaller c = grind (arith, common_steps)
 
 pub loop-place-init : goal.loop-place-init
 loop-place-init c = grind (arith, common_steps)
-
-pub visit_row-requires-clause-rows : goal.visit_row-requires-clause-rows
-visit_row-requires-clause-rows c = grind arith
-
-pub visit_row-requires-clause-left : goal.visit_row-requires-clause-left
-visit_row-requires-clause-left c = grind arith
 
 pub overflow_add-place : goal.overflow_add-place
 overflow_add-place c = omega (arith, c.loop-place-test.true, c.len.type_inv)
