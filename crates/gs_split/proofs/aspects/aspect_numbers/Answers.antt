@@ -46,24 +46,18 @@ returns-then-are_all c =
     (subst (λ k. v.items ≡ replicate k 0) len (h (λ y k. search rules))) c.requires.some c.requires.top c.in_ok-firsts.ensures)
     c.vec.ensures.items_if_clones_equal
 
-pub numbers_by_class-requires-clause-firsts : goal.numbers_by_class-requires-clause-firsts
-numbers_by_class-requires-clause-firsts c =
-    let f = frame_of (rules_of c.args.grouped.now.signals.now) in
-    subst (λ (l : List ℕ). (aspect : Aspect) → HasAspect f aspect c.args.round → AreAspectFirsts f c.args.grouped.now.classes.now.lists aspect c.args.round l)
-    (sym c.deref-3.ensures.value) c.in_ok-firsts.ensures
-
-pub numbers_by_class-requires-clause-settled : goal.numbers_by_class-requires-clause-settled
-numbers_by_class-requires-clause-settled c =
-    let lists = c.args.grouped.now.classes.now.lists in
-    subst (AreSettled lists c.args.round c.deref-3.result.now) (sym c.deref-4.ensures.value)
-    (subst (λ (l : List ℕ). AreSettled lists c.args.round l c.in_ok-settled.settled.items) (c.deref.ensures.value ∙ sym c.deref-3.ensures.value)
-    c.in_ok-settled.ensures)
-
-pub numbers_by_class-requires-clause-some : goal.numbers_by_class-requires-clause-some
-numbers_by_class-requires-clause-some c = c.requires.some
-
-pub numbers_by_class-requires-clause-top : goal.numbers_by_class-requires-clause-top
-numbers_by_class-requires-clause-top c = c.requires.top
+pub numbers_by_class-requires : goal.numbers_by_class-requires
+numbers_by_class-requires c = record {
+  some = c.requires.some;
+  top = c.requires.top;
+  firsts = let f = frame_of (rules_of c.args.grouped.now.signals.now) in
+      subst (λ (l : List ℕ). (aspect : Aspect) → HasAspect f aspect c.args.round → AreAspectFirsts f c.args.grouped.now.classes.now.lists aspect c.args.round l)
+      (sym c.deref-3.ensures.value) c.in_ok-firsts.ensures;
+  settled = let lists = c.args.grouped.now.classes.now.lists in
+      subst (AreSettled lists c.args.round c.deref-3.result.now) (sym c.deref-4.ensures.value)
+      (subst (λ (l : List ℕ). AreSettled lists c.args.round l c.in_ok-settled.settled.items) (c.deref.ensures.value ∙ sym c.deref-3.ensures.value)
+      c.in_ok-settled.ensures);
+}
 
 pub settled_classes-requires-clause-top : goal.settled_classes-requires-clause-top
 settled_classes-requires-clause-top c = top (goal.at.settled_classes-requires-clause-top c).Start

@@ -120,12 +120,6 @@ returns c =
       same = done_all f lists c.in_ok-at.at.aspect c.args.round c.loop-before.before (length numbers) numbers i.done refl within;
     }))
 
-pub number_members-requires-clause-firsts : goal.number_members-requires-clause-firsts
-number_members-requires-clause-firsts c =
-    let at = c.in_ok-at.ensures in
-    as_asked (λ s k a m. AreAspectFirsts (frame_of (rules_of s)) k.lists a m c.args.firsts.now) (sym at.signals) (sym at.classes) (refl, sym at.aspect.1)
-    (stands (goal.at.number_members-requires-clause-firsts c).In_ok-at)
-
 pub next_members-requires-clause-top : goal.next_members-requires-clause-top
 next_members-requires-clause-top c = grind arith
 
@@ -143,19 +137,17 @@ loop-before-init c =
           (λ s l. (class_at c.args.grouped.now.classes.now c.args.round c.requires.some (top start) s l).0);
     }
 
-pub number_members-requires-clause-class : goal.number_members-requires-clause-class
-number_members-requires-clause-class c =
-    let at = c.in_ok-at.ensures in
-    as_asked (λ s t a m. IsClass t.lists m (c.loop-before.before + 1)) {a = c.in_ok-at.at.aspect} (sym at.signals) (sym at.classes) (refl, sym at.aspect.1)
-    (next_class c.args.grouped.now.classes.now.lists c.args.round c.loop-before.before (length c.args.settled.now) c.loop-before-test.true
-    c.requires.settled.long)
-
-pub number_members-requires-clause-nexts : goal.number_members-requires-clause-nexts
-number_members-requires-clause-nexts c =
-    let at = c.in_ok-at.ensures in
-    as_asked (λ s t a m. AreNextMembers t.lists m c.deref.result.now) {a = c.in_ok-at.at.aspect} (sym at.signals) (sym at.classes) (refl, sym at.aspect.1)
-    (subst (AreNextMembers c.args.grouped.now.classes.now.lists c.args.round) (sym c.deref.ensures.value) c.in_ok-nexts.ensures)
-
-pub number_members-requires-clause-numbers : goal.number_members-requires-clause-numbers
-number_members-requires-clause-numbers c =
-    ap (λ (l : List ℕ). length l) c.deref_mut.ensures.value ∙ c.loop-before.invariant.long ∙ ap (λ (l : List ℕ). length l) (sym c.deref.ensures.value)
+pub number_members-requires : goal.number_members-requires
+number_members-requires c = record {
+  firsts = let at = c.in_ok-at.ensures in
+      as_asked (λ s k a m. AreAspectFirsts (frame_of (rules_of s)) k.lists a m c.args.firsts.now) (sym at.signals) (sym at.classes) (refl, sym at.aspect.1)
+      (stands (goal.at.number_members-requires c).In_ok-at);
+  nexts = let at = c.in_ok-at.ensures in
+      as_asked (λ s t a m. AreNextMembers t.lists m c.deref.result.now) {a = c.in_ok-at.at.aspect} (sym at.signals) (sym at.classes) (refl, sym at.aspect.1)
+      (subst (AreNextMembers c.args.grouped.now.classes.now.lists c.args.round) (sym c.deref.ensures.value) c.in_ok-nexts.ensures);
+  class = let at = c.in_ok-at.ensures in
+      as_asked (λ s t a m. IsClass t.lists m (c.loop-before.before + 1)) {a = c.in_ok-at.at.aspect} (sym at.signals) (sym at.classes) (refl, sym at.aspect.1)
+      (next_class c.args.grouped.now.classes.now.lists c.args.round c.loop-before.before (length c.args.settled.now) c.loop-before-test.true
+      c.requires.settled.long);
+  numbers = ap (λ (l : List ℕ). length l) c.deref_mut.ensures.value ∙ c.loop-before.invariant.long ∙ ap (λ (l : List ℕ). length l) (sym c.deref.ensures.value);
+}

@@ -74,13 +74,6 @@ loop-next-preserved c =
           subst (λ ks. more ks c.if-first-signal.number) (sym (ap (λ x. x.keys) w.seen-is)) (subst (more keys) (sym w.number-is) made)
     ]
 
-pub returns-clause-members : goal.returns-clause-members
-returns-clause-members c =
-    let at = c.args.at.now in
-    let h = c.loop-next.invariant in
-    numbered_all (frame_of (rules_of at.signals.now)) at.classes.now.lists at.aspect at.round c.args.class c.loop-next.seen.keys c.loop-next.numbers
-    c.loop-next.next h.numbered (omega (arith, h.long, c.requires.numbers, c.loop-next-test.false))
-
 pub loop-next-smaller : goal.loop-next-smaller
 loop-next-smaller c = grind arith
 
@@ -94,14 +87,18 @@ fits c =
 pub overflow_add-number : goal.overflow_add-number
 overflow_add-number c = omega (arith, fits c)
 
-pub returns-clause-others : goal.returns-clause-others
-returns-clause-others c = grind arith
-
 pub bounds-firsts-signal : goal.bounds-firsts-signal
 bounds-firsts-signal c = grind arith
 
-pub returns-clause-long : goal.returns-clause-long
-returns-clause-long c = c.loop-next.invariant.long
+pub returns : goal.returns
+returns c = record {
+  long = c.loop-next.invariant.long;
+  others = grind arith;
+  members = let at = c.args.at.now in
+      let h = c.loop-next.invariant in
+      numbered_all (frame_of (rules_of at.signals.now)) at.classes.now.lists at.aspect at.round c.args.class c.loop-next.seen.keys c.loop-next.numbers
+      c.loop-next.next h.numbered (omega (arith, h.long, c.requires.numbers, c.loop-next-test.false));
+}
 
 pub first-next-requires-clause-top : goal.first-next-requires-clause-top
 first-next-requires-clause-top c =

@@ -16,17 +16,15 @@ of_filter-requires-clause-classes c =
     subst (λ (ps : List (List ℕ)). IsClasses ps new) (sym c.parents.ensures)
     (classes_of (frame_of (rules_of c.args.grouped.now.signals.now)) c.args.grouped.now.classes.now.lists (rows c.args.numbers.now) new c.in_ok-lists.ensures)
 
-pub returns-clause-parted : goal.returns-clause-parted
-returns-clause-parted c =
-    let f = frame_of (rules_of c.args.grouped.now.signals.now) in
-    let old = c.args.grouped.now.classes.now.lists in
-    let numbers = rows c.args.numbers.now in
-    let new = rows c.in_ok-lists.lists.items in
-    if_ok c.of_filter.result (λ (v : Filter). v.lists ≡ new) (λ (v : Filter). AreParted f old numbers v.lists)
-    (λ v e. subst (λ (lists : ClassLists). AreParted f old numbers lists) (sym e) c.in_ok-lists.ensures) c.of_filter.ensures.lists
-
-pub returns-clause-parents : goal.returns-clause-parents
-returns-clause-parents c =
-    let ps = (frame_of (rules_of c.args.grouped.now.signals.now)).parents in
-    if_ok c.of_filter.result (λ (v : Filter). v.parents ≡ rows c.parents.result.now) (λ (v : Filter). v.parents ≡ ps) (λ v e. e ∙ c.parents.ensures)
-    c.of_filter.ensures.parents
+pub returns : goal.returns
+returns c = record {
+  parents = let ps = (frame_of (rules_of c.args.grouped.now.signals.now)).parents in
+      if_ok c.of_filter.result (λ (v : Filter). v.parents ≡ rows c.parents.result.now) (λ (v : Filter). v.parents ≡ ps) (λ v e. e ∙ c.parents.ensures)
+      c.of_filter.ensures.parents;
+  parted = let f = frame_of (rules_of c.args.grouped.now.signals.now) in
+      let old = c.args.grouped.now.classes.now.lists in
+      let numbers = rows c.args.numbers.now in
+      let new = rows c.in_ok-lists.lists.items in
+      if_ok c.of_filter.result (λ (v : Filter). v.lists ≡ new) (λ (v : Filter). AreParted f old numbers v.lists)
+      (λ v e. subst (λ (lists : ClassLists). AreParted f old numbers lists) (sym e) c.in_ok-lists.ensures) c.of_filter.ensures.lists;
+}

@@ -27,21 +27,6 @@ first_list-below-requires c =
     let i = c.loop-round.invariant in
     omega (arith, i.fair.rounds, i.within, length-rows c.loop-round.numbers.items, ap (λ (vs : List (Vec ℕ Global)). length vs) c.deref.ensures.value)
 
-pub fair_numbers-requires-clause-before_last : goal.fair_numbers-requires-clause-before_last
-fair_numbers-requires-clause-before_last c = omega (arith, c.loop-round-test.true, c.loop-round.invariant.within, c.loop-round.invariant.some)
-
-pub fair_numbers-requires-clause-fair : goal.fair_numbers-requires-clause-fair
-fair_numbers-requires-clause-fair c =
-    let f = frame_of (rules_of c.args.grouped.now.signals.now) in
-    let lists = c.args.grouped.now.classes.now.lists in
-    let i = c.loop-round.invariant in
-    let now = rows c.loop-round.numbers.items in
-    let at : c.first_list-below.result.now ≡ get_or now 0 [] = c.first_list-below.ensures
-    ∙ ap (λ (vs : List (Vec ℕ Global)). get_or (rows vs) 0 []) c.deref.ensures.value in
-    let e : c.loop-round.round + 0 ≡ c.loop-round.round - 1 + 1 = omega (arith, i.some) in
-    subst (λ (l : List ℕ). AreFair f lists (c.loop-round.round - 1 + 1) l) (sym at)
-    (subst (λ r. AreFair f lists r (get_or now 0 [])) e (i.fair.each 0 (omega (arith, i.fair.rounds, i.within))))
-
 pub loop-round-preserved : goal.loop-round-preserved
 loop-round-preserved c =
     let f = frame_of (rules_of c.args.grouped.now.signals.now) in
@@ -66,5 +51,17 @@ returns c =
     subst (λ r. AreFairFrom (frame_of (rules_of c.args.grouped.now.signals.now)) c.args.grouped.now.classes.now.lists r (rows c.loop-round.numbers.items)) first
     i.fair
 
-pub fair_numbers-requires-clause-some : goal.fair_numbers-requires-clause-some
-fair_numbers-requires-clause-some c = omega (arith, c.loop-round-test.true)
+pub fair_numbers-requires : goal.fair_numbers-requires
+fair_numbers-requires c = record {
+  some = omega (arith, c.loop-round-test.true);
+  before_last = omega (arith, c.loop-round-test.true, c.loop-round.invariant.within, c.loop-round.invariant.some);
+  fair = let f = frame_of (rules_of c.args.grouped.now.signals.now) in
+      let lists = c.args.grouped.now.classes.now.lists in
+      let i = c.loop-round.invariant in
+      let now = rows c.loop-round.numbers.items in
+      let at : c.first_list-below.result.now ≡ get_or now 0 [] = c.first_list-below.ensures
+      ∙ ap (λ (vs : List (Vec ℕ Global)). get_or (rows vs) 0 []) c.deref.ensures.value in
+      let e : c.loop-round.round + 0 ≡ c.loop-round.round - 1 + 1 = omega (arith, i.some) in
+      subst (λ (l : List ℕ). AreFair f lists (c.loop-round.round - 1 + 1) l) (sym at)
+      (subst (λ r. AreFair f lists r (get_or now 0 [])) e (i.fair.each 0 (omega (arith, i.fair.rounds, i.within))));
+}

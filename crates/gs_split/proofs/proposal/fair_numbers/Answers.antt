@@ -29,27 +29,22 @@ count c =
     let g = rules_of c.args.grouped.now.signals.now in
     c.count.ensures.value ∙ sym (signal_count_is g c.args.round c.requires.some (omega (arith, c.requires.before_last, last_round_of g)))
 
-pub child_numbers-requires-clause-classes : goal.child_numbers-requires-clause-classes
-child_numbers-requires-clause-classes c =
-    let g = rules_of c.args.grouped.now.signals.now in
-    ap (λ (l : List ℕ). length l) (next (goal.at.child_numbers-requires-clause-classes c).After-deref)
-    ∙ list_long g c.args.grouped.now.classes.now c.args.grouped.now.parents (c.args.round + 1) (omega arith)
-    (omega (arith, c.requires.before_last, last_round_of g)) ∙ many (goal.at.child_numbers-requires-clause-classes c).After-parents_in-parents
-
-pub child_numbers-requires-clause-numbers : goal.child_numbers-requires-clause-numbers
-child_numbers-requires-clause-numbers c =
-    let g = rules_of c.args.grouped.now.signals.now in
-    c.requires.fair.long ∙ signal_count_is g (c.args.round + 1) (omega arith) (omega (arith, c.requires.before_last, last_round_of g))
-    ∙ many (goal.at.child_numbers-requires-clause-numbers c).After-parents_in-parents
-
-pub child_numbers-requires-clause-in_range : goal.child_numbers-requires-clause-in_range
-child_numbers-requires-clause-in_range c =
-    let f = frame_of (rules_of c.args.grouped.now.signals.now) in
-    let down : c.args.round ≡ c.args.round + 1 - 1 = omega arith in
-    subst (λ (ps : List ℕ). All (λ p. p < c.count.result) ps) (sym c.parents_in-parents.ensures)
-    (parents_under c.args.grouped.now.signals.now (c.args.round + 1) c.count.result (omega arith)
-    (omega (arith, c.requires.before_last, last_round_of (rules_of c.args.grouped.now.signals.now))) (λ one. absurd (omega (arith, one, c.requires.some)))
-    (λ _. count (goal.at.child_numbers-requires-clause-in_range c).After-count ∙ ap (signal_count f) down))
+pub child_numbers-requires : goal.child_numbers-requires
+child_numbers-requires c = record {
+  classes = let g = rules_of c.args.grouped.now.signals.now in
+      ap (λ (l : List ℕ). length l) (next (goal.at.child_numbers-requires c).After-deref)
+      ∙ list_long g c.args.grouped.now.classes.now c.args.grouped.now.parents (c.args.round + 1) (omega arith)
+      (omega (arith, c.requires.before_last, last_round_of g)) ∙ many (goal.at.child_numbers-requires c).After-parents_in-parents;
+  numbers = let g = rules_of c.args.grouped.now.signals.now in
+      c.requires.fair.long ∙ signal_count_is g (c.args.round + 1) (omega arith) (omega (arith, c.requires.before_last, last_round_of g))
+      ∙ many (goal.at.child_numbers-requires c).After-parents_in-parents;
+  in_range = let f = frame_of (rules_of c.args.grouped.now.signals.now) in
+      let down : c.args.round ≡ c.args.round + 1 - 1 = omega arith in
+      subst (λ (ps : List ℕ). All (λ p. p < c.count.result) ps) (sym c.parents_in-parents.ensures)
+      (parents_under c.args.grouped.now.signals.now (c.args.round + 1) c.count.result (omega arith)
+      (omega (arith, c.requires.before_last, last_round_of (rules_of c.args.grouped.now.signals.now))) (λ one. absurd (omega (arith, one, c.requires.some)))
+      (λ _. count (goal.at.child_numbers-requires c).After-count ∙ ap (signal_count f) down));
+}
 
 pub returns : goal.returns
 returns c =

@@ -23,11 +23,10 @@ parted-requires c =
     fair_have (frame_of (rules_of c.args.from.now.signals.now)) c.args.from.now.classes.now.lists (rows c.deref.result.now)
     (fair (goal.at.parted-requires c).After-deref)
 
-pub returns-clause-proposal : goal.returns-clause-proposal
-returns-clause-proposal c =
-    let g = rules_of c.args.from.now.signals.now in
-    parted_proposal (frame_of g) c.args.from.now.classes.now.lists (rows c.deref.result.now) (fair (goal.at.returns-clause-proposal c).After-deref)
-    (in_range g (playable c.args.from.now.signals.now)) c.in_ok-classes.classes.lists c.in_ok-classes.ensures.parted
-
-pub returns-clause-parents : goal.returns-clause-parents
-returns-clause-parents c = c.in_ok-classes.ensures.parents
+pub returns : goal.returns
+returns c = record {
+  parents = c.in_ok-classes.ensures.parents;
+  proposal = let g = rules_of c.args.from.now.signals.now in
+      parted_proposal (frame_of g) c.args.from.now.classes.now.lists (rows c.deref.result.now) (fair (goal.at.returns c).After-deref)
+      (in_range g (playable c.args.from.now.signals.now)) c.in_ok-classes.classes.lists c.in_ok-classes.ensures.parted;
+}

@@ -45,12 +45,11 @@ loop-at-preserved c =
           (c.in_ok-push.ensures.items ∙ ap (λ k. c.loop-at.classes.items ++ k ∷ []) w.class-is))
     ]
 
-pub returns-clause-long : goal.returns-clause-long
-returns-clause-long c =
-    omega (arith, c.loop-at.invariant.long, c.loop-at-test.false, c.loop-at.auto.at-end)
-
-pub returns-clause-classes : goal.returns-clause-classes
-returns-clause-classes c = c.loop-at.invariant.seen.grouped
+pub returns : goal.returns
+returns c = record {
+  long = omega (arith, c.loop-at.invariant.long, c.loop-at-test.false, c.loop-at.auto.at-end);
+  classes = c.loop-at.invariant.seen.grouped;
+}
 
 pub class_again-requires : goal.class_again-requires
 class_again-requires c =

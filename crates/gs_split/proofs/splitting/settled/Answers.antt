@@ -1,3 +1,4 @@
+use Rattle.std.proofs.lemmas.Grind.{common_steps}
 use Rattle.std.proofs.lemmas.Result.{IfOk-from_err}
 use Rattle.std.proofs.Common.{◌-◌, ◌<◌, ◌^◌, ◌∙◌, ℕ, Bool, List, arith, refl, rules, subst, sym}
 use Rattle.gs_model.specs.{Classes.{IsClasses}, Frame.{frame_of}}
@@ -36,11 +37,6 @@ loop-total-init c =
       };
     }
 
-pub turn-requires-in-loop-total-clause-known : goal.turn-requires-in-loop-total-clause-known
-turn-requires-in-loop-total-clause-known c =
-    subst (λ (k : List Bool). AreKnown (frame_of (rules_of c.args.signals.now)) c.loop-total.classes.lists k) (sym c.deref-in-loop-total.ensures.value)
-    c.loop-total.invariant.known
-
 pub loop-total-preserved : goal.loop-total-preserved
 loop-total-preserved c =
     let g = rules_of c.args.signals.now in
@@ -55,36 +51,33 @@ loop-total-preserved c =
           c.class_total-total-in-loop-total.result c.in_ok-finer.ensures.turn c.class_total-total-in-loop-total.ensures.value;
     }
 
-pub returns-clause-coarsest : goal.returns-clause-coarsest
-returns-clause-coarsest c =
-    let g = rules_of c.args.signals.now in
-    let f = frame_of g in
-    let p = playable c.args.signals.now in
-    let now = c.loop-total.classes in
-    let k = over f now c.loop-total.invariant.parents c.class_total.ensures.classes in
-    ended f (in_range g p) c.args.from.now.lists now.lists c.loop-total.total k c.loop-total.invariant.underway (omega (arith, last_round_of g, p.some))
-    (omega (arith, c.loop-total-test.false, c.class_total.ensures.value))
-
 pub loop-total-smaller : goal.loop-total-smaller
 loop-total-smaller c =
     let n = c.class_total-total-in-loop-total in
     less c.loop-total.total n.result
     (subst (λ k. c.loop-total.total < k) (c.class_total.ensures.value ∙ sym n.ensures.value) c.loop-total-test.true) n.ensures.few
 
-pub known_rounds-requires-clause-before : goal.known_rounds-requires-clause-before
-known_rounds-requires-clause-before c = c.loop-total.invariant.parents
+pub known_rounds-requires : goal.known_rounds-requires
+known_rounds-requires c = grind (arith, common_steps)
 
-pub known_rounds-requires-clause-parents : goal.known_rounds-requires-clause-parents
-known_rounds-requires-clause-parents c = c.in_ok-finer.ensures.parents
+pub turn-requires-in-loop-total : goal.turn-requires-in-loop-total
+turn-requires-in-loop-total c = record {
+  parents = c.loop-total.invariant.parents;
+  known = subst (λ (k : List Bool). AreKnown (frame_of (rules_of c.args.signals.now)) c.loop-total.classes.lists k) (sym c.deref-in-loop-total.ensures.value)
+      c.loop-total.invariant.known;
+}
 
-pub known_rounds-requires-clause-turned : goal.known_rounds-requires-clause-turned
-known_rounds-requires-clause-turned c = c.in_ok-finer.ensures.turn
-
-pub turn-requires-in-loop-total-clause-parents : goal.turn-requires-in-loop-total-clause-parents
-turn-requires-in-loop-total-clause-parents c = c.loop-total.invariant.parents
-
-pub returns-clause-parents : goal.returns-clause-parents
-returns-clause-parents c = c.loop-total.invariant.parents
+pub returns : goal.returns
+returns c = record {
+  coarsest = let g = rules_of c.args.signals.now in
+      let f = frame_of g in
+      let p = playable c.args.signals.now in
+      let now = c.loop-total.classes in
+      let k = over f now c.loop-total.invariant.parents c.class_total.ensures.classes in
+      ended f (in_range g p) c.args.from.now.lists now.lists c.loop-total.total k c.loop-total.invariant.underway (omega (arith, last_round_of g, p.some))
+      (omega (arith, c.loop-total-test.false, c.class_total.ensures.value));
+  parents = c.loop-total.invariant.parents;
+}
 
 pub same-finer : goal.same-finer
 same-finer c = refl
