@@ -1,5 +1,5 @@
 -- What a task says is printed is what its command means.
-use Rattle.std.proofs.Common.{◌≡◌, inl, inr, ℕ, ◌++◌, [], ◌∷◌, ◌==◌, List, true, false, Result, Ok, Err, pos, refl, sym, ap, ◌∙◌, subst}
+use Rattle.std.proofs.Common.{◌≡◌, inl, inr, ℕ, ◌++◌, [], ◌∷◌, ◌==◌, Bool, List, true, false, Result, Ok, Err, pos, refl, sym, ap, ◌∙◌, subst}
 use Rattle.std.proofs.lemmas.Bool.{cases_Bool}
 use Rattle.gs_certificate.specs.{Texts.{certificate_text}, Views.{certificate_view}}
 use Rattle.gs_strategy_commands.specs.{Certificates.{IsCertified, SaysCertified}, Verifying.{SaysVerified}}
