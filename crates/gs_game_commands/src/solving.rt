@@ -1,9 +1,9 @@
 //! The command `solve`.
 
-ghost use Rattle.gs_reply.specs.Replies.{Answers, Tells};
+ghost use Rattle.gs_reply.specs.Replies.{Answers, StopsFor, Tells};
 ghost use Rattle.gs_seq.specs.{Abstracts.{abstract_frame, lists_of}, Stops.{IsSmall}};
 ghost use Rattle.gs_game_commands.specs.{Settling.{file_game_in}, Solving.{Solves}};
-ghost use Rattle.gs_solve.specs.Solutions.{IsSolveFault};
+ghost use Rattle.gs_solve.specs.Solutions.{IsSolveError, IsSolveFault};
 
 use crate::writing::text_of;
 use gs_reply::{Limit, Overflow, Refusal, Stop};
@@ -36,6 +36,17 @@ fn unsolved(form: &Abstract, fault: SolveFault) -> Refusal
     }
 }
 
+// Returns why a game is not solved: memory ran out, or its program has no solution here.
+fn stopped(form: &Abstract, error: SolveError) -> Stop
+    requires { IsSolveError (abstract_frame form.now) (lists_of form.now) error }
+    ensures { StopsFor (Solves (file_game_in form.now) (lists_of form.now)) result }
+{
+    match error {
+        SolveError::Memory => Stop::Memory,
+        SolveError::Fault(fault) => Stop::Refused(unsolved(form, fault)),
+    }
+}
+
 /// Returns the text of a strategy with both gaps 0, or the refusal.
 pub(crate) fn solved(alloc: Global, form: &Abstract) -> Result<Vec<u8>, Stop>
     requires { IsSmall (abstract_frame form.now) (lists_of form.now) }
@@ -43,7 +54,6 @@ pub(crate) fn solved(alloc: Global, form: &Abstract) -> Result<Vec<u8>, Stop>
 {
     match solve(alloc, form) {
         Ok((one, two)) => Ok(text_of(alloc, form, &one, &two)?),
-        Err(SolveError::Memory) => Err(Stop::Memory),
-        Err(SolveError::Fault(fault)) => Err(Stop::Refused(unsolved(form, fault))),
+        Err(error) => Err(stopped(form, error)),
     }
 }

@@ -15,6 +15,3 @@ text_of-requires-clause-one c = c.in-Ok.ensures.one
 
 pub text_of-requires-clause-two : goal.text_of-requires-clause-two
 text_of-requires-clause-two c = c.in-Ok.ensures.two
-
-pub unsolved-requires : goal.unsolved-requires
-unsolved-requires c = rw c.in-Err-Fault.field-0-is at c.in-Err-Fault.ensures
