@@ -1,4 +1,4 @@
-"""Draws games, strategy files, certificates and words, and breaks them: byte by byte, or field by field. `storm` uses it.
+"""Draws games, strategy files, certificates and words, and breaks them: byte by byte, or field by field. `storm` and `compare` use it.
 
 Everything is drawn by the `random.Random` that is handed in, so a seed gives the same inputs again.
 """
@@ -6,11 +6,13 @@ Everything is drawn by the `random.Random` that is handed in, so a seed gives th
 import json
 import re
 
+from gameshrink.game import CATEGORIES
+from gameshrink.texts import json_line
+
 COMMANDS = ("shrink", "check", "play", "solve", "path", "make", "evaluate", "query", "upgrade", "certify", "judge", "duel", "verify")
 GAME_COMMANDS = ("shrink", "check", "solve", "play", "path")
 FILE_COMMANDS = ("evaluate", "query", "upgrade", "judge", "certify")
 LETTERS = "abcdefghijklmnopqrstuvwxyz"
-CATEGORIES = {"high": 1, "pair": 2, "three": 6}
 
 # numbers at each limit, and one past it
 LIMITS = [0, 1, 2, 3, 4, 5, 8, 9, 10, 13, 14, 16, 17, 26, 27, 52, 53, 127, 128, 255, 256, 1000000, 1000001, 2048, 2049, 4095, 4096, 4097, 8192, 8193,
@@ -23,11 +25,6 @@ SHAPES = {
     "pair": [[(1, 0)], [(1, 1)], [(1, 0), (0, 1)], [(1, 0), (0, 1)], [(1, 0), (0, 2)], [(1, 0), (0, 0), (0, 1)], [(1, 0), (0, 1), (0, 1)]],
     "three": [[(1, 2)], [(1, 0), (0, 2)], [(1, 0), (0, 1), (0, 1)], [(1, 0), (0, 1), (0, 1)], [(2, 0), (0, 1)], [(2, 1)], [(1, 0), (1, 0), (0, 1)], [(1, 1), (1, 0)]],
 }
-
-
-def json_line(value):
-    """Returns the compact text of a value, keys in order, and a line feed, as strategy files and certificates have it."""
-    return (json.dumps(value, separators=(",", ":"), sort_keys=True) + "\n").encode()
 
 
 # ---- good games
@@ -295,7 +292,7 @@ def swapped_value(rng, data):
     else:
         other, at = rng.choice(spots)
         node[key] = rng.choice([None, True, 1.5, "", "0/1", "1/0", [], {}, rng.choice(LIMITS), -1, str(rng.choice(LIMITS)), json.loads(json.dumps(other[at]))])
-    return json_line(whole)
+    return json_line(whole).encode()
 
 
 def stated(rng, data):
@@ -539,7 +536,7 @@ def changed_file(rng, data):
         rng.choice(FIELDS)(rng, file)
         if not isinstance(file.get("game"), dict):
             break
-    return json_line(file)
+    return json_line(file).encode()
 
 
 # ---- strategies drawn over any classes
@@ -635,4 +632,4 @@ def changed_certificate(rng, lines):
             values[at:at + 1] = rng.choice([[], ["0", "0"]])
         else:
             file = changed_file(rng, file).rstrip(b"\n")
-    return file + b"\n" + json_line(certificate)
+    return file + b"\n" + json_line(certificate).encode()

@@ -1,8 +1,9 @@
-"""Runs the built program, measures the run and names what is wrong with its end; `ends` and `storm` use it.
+"""Runs the built program, measures the run and names what is wrong with its end; `ends`, `storm` and `compare` use it.
 
 A run costs about half a millisecond beside the program's own time: the three ends are files in memory, and `posix_spawn` starts the program.
 """
 
+import hashlib
 import os
 import re
 import signal
@@ -10,8 +11,7 @@ from importlib.machinery import SourceFileLoader
 from importlib.util import module_from_spec, spec_from_loader
 from typing import NamedTuple
 
-TOP = os.path.dirname(os.path.dirname(os.path.abspath(__file__)))
-PROGRAM = os.path.join(TOP, "crates", "shrink_cli", "out", "shrink_cli")
+from gameshrink.program import CHECKOUT
 
 # the statuses that a command may end with, beside 0, and 2 for its words
 KNOWN = {
@@ -53,6 +53,19 @@ class Ended(NamedTuple):
     err: bytes
     seconds: float
     memory: int
+
+
+def told_of(program):
+    """Returns what names a program in the documents: its checksum, and the version and commit if it is the shipped one (dist/record)."""
+    with open(program, "rb") as file:
+        checksum = hashlib.sha256(file.read()).hexdigest()
+    record = {}
+    path = CHECKOUT / "dist" / "record"
+    if path.exists():
+        record = dict(line.split(maxsplit=1) for line in path.read_text(encoding="utf-8").splitlines() if " " in line)
+    if record.get("program", "").split()[:1] != [checksum]:
+        return f"SHA-256 `{checksum[:16]}`"
+    return f"version {record['version']}, commit `{record['commit'][:8]}`, SHA-256 `{checksum[:16]}`"
 
 
 def module_at(path):
@@ -105,6 +118,11 @@ class Runner:
         pid = os.posix_spawn(self.program, [self.program, *words], environment or {}, file_actions=self.actions, setsigdef=[signal.SIGPIPE, signal.SIGXFSZ])
         status, used = self.wait(pid)
         return Ended(status, self.taken(1), self.taken(2), used.ru_utime + used.ru_stime, used.ru_maxrss)
+
+    def close(self):
+        """Closes the files that stand for the ends."""
+        for end in self.ends:
+            os.close(end)
 
     def wait(self, pid):
         """Returns the status and the use of a run. The time is counted in ticks, so that a pause of this process itself counts as one."""

@@ -1,4 +1,4 @@
-"""Looks whether what the program printed is true, by brute force over all deals of raw cards, with `tools/recheck.py`; `storm` uses it.
+"""Looks whether what the program printed is true, by brute force over all deals of raw cards, with recheck of the package; `storm` uses it.
 
 It shares no code with the program. Games of more than a set number of deals times ends, or of more than 5,000 ways to deal, are left out and counted.
 """
@@ -9,14 +9,13 @@ from collections import Counter
 from fractions import Fraction
 from math import comb
 
+from gameshrink.game import signal_text
+from gameshrink.texts import fraction_text
+
 NAMES = ("value", "gap1", "gap2")
 MOST_WAYS = 5000
 # the refusals of a certificate that speak of its numbers
 OF_NUMBERS = re.compile(rb"bad certificate: player [12] (low|bound found) ")
-
-
-def text_of(number):
-    return f"{number.numerator}/{number.denominator}"
 
 
 def ways(stored):
@@ -29,13 +28,9 @@ def ways(stored):
     return found
 
 
-def signal_text(game, signal):
-    """Returns a raw signal's text: a part for each round, own cards and then the board's."""
-    suits = len(game["suits"])
-
-    def cards(group):
-        return "".join(game["ranks"][it // suits] + game["suits"][it % suits] for it in group)
-    return "/".join(cards(own) + ("+" + cards(shown) if shown else "") for own, shown in signal)
+def cards_of(game):
+    """Returns the texts of a game's cards in their order."""
+    return [rank + suit for rank in game["ranks"] for suit in game["suits"]]
 
 
 def first_unlike(game, table, classes):
@@ -54,7 +49,7 @@ def first_unlike(game, table, classes):
         for signal in signals:
             member = first.setdefault(classes[at][table.number[at][signal]], signal)
             if met[signal] != met[member] or children[signal] != children[member]:
-                return f"round {at + 1} {signal_text(game, member)} {signal_text(game, signal)}"
+                return f"round {at + 1} {signal_text(cards_of(game), member)} {signal_text(cards_of(game), signal)}"
     return None
 
 
@@ -131,8 +126,8 @@ class Truth:
         if not self.count(name, file):
             return None
         for it, number in zip(NAMES, self.verdict(file)):
-            if file[it] != text_of(number):
-                return f"{it} {file[it]} is {text_of(number)} by brute force"
+            if file[it] != fraction_text(number):
+                return f"{it} {file[it]} is {fraction_text(number)} by brute force"
         unlike = self.unlike(file)
         return f"classes are unlike: {unlike}" if unlike else None
 
@@ -147,7 +142,7 @@ class Truth:
         files = [json.loads(it) for it in (data.split(b"\n")[:2] if name == "duel" else [data])]
         if not self.count(name, files[0]):
             return None
-        wanted = [f"{it} {text_of(number)}" for it, number in zip(NAMES, self.verdict(*files))]
+        wanted = [f"{it} {fraction_text(number)}" for it, number in zip(NAMES, self.verdict(*files))]
         if name == "duel":
             wanted += self.hands(*files)
         return None if out.decode().splitlines() == wanted else f"printed {out[:200]!r}, by brute force {wanted}"
@@ -162,7 +157,8 @@ class Truth:
             weights[hand] += weight
             worth[hand] += weight * sum(pair.paid(1, deal, it) * pair.weight_of(1, deal, it) * pair.weight_of(2, deal, it) for it in ends)
         totals = pair.total[1] * pair.total[2]
-        return [f"hand {signal_text(game, it)} {text_of(Fraction(worth[it], weights[it] * totals))}" for it in pair.table.signals[0]]
+        cards = cards_of(game)
+        return [f"hand {signal_text(cards, it)} {fraction_text(Fraction(worth[it], weights[it] * totals))}" for it in pair.table.signals[0]]
 
     def fault_of(self, strategy, certificate):
         """Returns the first fault of a certificate with as many numbers as it should have, or None."""
@@ -172,8 +168,8 @@ class Truth:
                 found = strategy.bound(player, stated["values"])
             except ValueError as fault:
                 return str(fault)
-            if text_of(found) != stated["bound"]:
-                return f"player {player} bound found {text_of(found)}"
+            if fraction_text(found) != stated["bound"]:
+                return f"player {player} bound found {fraction_text(found)}"
         return None
 
     def certified(self, name, data, tight):
@@ -197,7 +193,7 @@ class Truth:
         file, certificate = (json.loads(it) for it in data.split(b"\n")[:2])
         if wrong or not self.fits(file["game"]):
             return wrong
-        wanted = [f"value {text_of(self.verdict(file)[0])}"] + [f"player{it} at most {certificate[f'player{it}']['bound']}" for it in (1, 2)]
+        wanted = [f"value {fraction_text(self.verdict(file)[0])}"] + [f"player{it} at most {certificate[f'player{it}']['bound']}" for it in (1, 2)]
         return None if out.decode().splitlines() == wanted else f"printed {out[:200]!r}, by brute force {wanted}"
 
     def refused(self, status, data, err):
@@ -210,7 +206,7 @@ class Truth:
         if status == 8:
             found = f"unlike: {self.unlike(file)}"
         elif status == 13:
-            found = next((f"wrong numbers: {it} {file[it]} found {text_of(number)}" for it, number in zip(NAMES, self.verdict(file)) if file[it] != text_of(number)), None)
+            found = next((f"wrong numbers: {it} {file[it]} found {fraction_text(number)}" for it, number in zip(NAMES, self.verdict(file)) if file[it] != fraction_text(number)), None)
         else:
             found = f"bad certificate: {self.fault_of(self.strategy_of(file), json.loads(lines[1]))}"
         return None if told == found else f"told {told!r}, by brute force {found!r}"
