@@ -2,8 +2,9 @@
 
 from fractions import Fraction
 
-from atlas_games import LEDUC, PLAYED, RHODE, name_of
-from texts import decimal, outwards, span
+import abstraction_pages
+from atlas_games import PLAYED, name_of
+from gameshrink.texts import decimal, outwards, span
 
 NAMES = {"kuhn": "Kuhn", "leduc": "Leduc", "rhode": "Rhode Island"}
 
@@ -139,30 +140,35 @@ def ranks(rows):
         yield text % (len(mixed), len(whole)), "all but %s" % others if others else "Leduc's rows of three or more ranks"
 
 
-def isomorphism(rows, cache):
-    """Where the isomorphism classes cost nothing."""
-    found = {deck: cache.record("isomorphic_" + name_of(deck)) for deck in LEDUC + RHODE}
-    lost = {deck: [Fraction(record[key]) for key in ("gap1", "gap2")] for deck, record in found.items() if record and "gap1" in record}
-    alike = [deck for deck in lost if deck in rows and rows[deck].record["isomorphic"] == rows[deck].record["classes"]]
-    other = [deck for deck in lost if deck in rows and deck not in alike]
-    free = [deck for deck in other if sum(lost[deck]) < Fraction(1, 10**9)]
-    cost = [deck for deck in other if deck not in free]
-    if alike:
-        assert all(sum(lost[deck]) < Fraction(1, 10**9) for deck in alike), "lossless classes lose"
-        yield "Isomorphism costs nothing where its classes are lossless: both gaps on raw cards are below 10^-9 in all %d such games." % len(alike), grouped(alike)
-    if free:
-        yield "In %d games the classes are not lossless and the plans found over them still lose less than 10^-9." % len(free), grouped(free)
-    if cost:
-        both = {deck: sum(lost[deck]) for deck in cost}
-        least, most = min(cost, key=both.get), max(cost, key=both.get)
-        text = "In the other %d games the classes are not lossless, and both gaps on raw cards together are from %s to %s chips a deal, rounded outwards."
-        yield text % (len(cost), outwards(both[least], 4)[0], outwards(both[most], 4)[1]), "%s has the least, %s the most" % (named(least), named(most))
-        for suit in (2, 4):
-            line = sorted(deck for deck in cost if deck[0] == "leduc" and deck[2:] == (suit, 2))
-            if line:
-                first, last = line[0], line[-1]
-                text = "For Leduc of %d suits and cap 2 both gaps together are %s at %d ranks and %s at %d."
-                yield text % (suit, decimal(both[first], 4), first[1], decimal(both[last], 4), last[1]), "%s and %s" % (named(first), named(last))
+def is_lossy(row):
+    """Whether the isomorphism classes of a game are lossy."""
+    return row.record["isomorphic"] != row.record["classes"]
+
+
+def isomorphism(rows):
+    """What the isomorphism classes cost, by docs/abstraction, and what the equilibrium of docs/atlas/isomorphism.csv loses."""
+    costs, secured = abstraction_pages.costs(), abstraction_pages.example_losses()
+    alike = [deck for deck in rows if not is_lossy(rows[deck]) and deck in secured]
+    lossy = [deck for deck in rows if is_lossy(rows[deck])]
+    assert all(-sum(secured[deck].values()) < Fraction(1, 10**9) for deck in alike), "lossless classes lose"
+    yield "Isomorphism costs nothing where its classes are lossless: both gaps on raw cards are below 10^-9 in all %d such games." % len(alike), grouped(alike)
+    prices = {deck: [costs[deck].row.most("price", seat) for seat in "12"] for deck in lossy if deck in costs}
+    free = [deck for deck in prices if max(prices[deck]) < abstraction_pages.NOTHING]
+    cost = [deck for deck in prices if deck not in free]
+    yield "In the other %d games the classes are lossy. In %d of these they cost neither seat anything all the same." % (len(lossy), len(free)), "%s; [ABSTRACTION.md](ABSTRACTION.md) has plans with gaps of 0" % grouped(free)
+    least, most = min(cost, key=lambda deck: min(prices[deck])), max(cost, key=lambda deck: max(prices[deck]))
+    text = "In the other %d that are priced a seat pays from %s to %s chips a deal, rounded outwards."
+    yield text % (len(cost), outwards(min(prices[least]), 4)[0], outwards(max(prices[most]), 4)[1]), "%s has the least, %s the most" % (named(least), named(most))
+    times = {deck: sum(costs[deck].loses(seat) for seat in "12") / sum(prices[deck]) for deck in cost}
+    least, most = min(cost, key=times.get), max(cost, key=times.get)
+    text = "One equilibrium over these classes, taken as the solver found it, loses %s to %s times the price, both seats together."
+    yield text % (outwards(times[least], 1)[0], outwards(times[most], 1)[1]), "%s has the least, %s the most; others may lose more or less" % (named(least), named(most))
+    for suit in (2, 4):
+        line = sorted(deck for deck in cost if deck[0] == "leduc" and deck[2:] == (suit, 2))
+        if line:
+            shown = {deck: " and ".join(outwards(price, 4)[1] for price in prices[deck]) for deck in (line[0], line[-1])}
+            text = "For Leduc of %d suits and cap 2 the seats pay %s at %d ranks and %s at %d."
+            yield text % (suit, shown[line[0]], line[0][1], shown[line[-1]], line[-1][1]), "%s and %s" % (named(line[0]), named(line[-1]))
 
 
 def play(cache):
@@ -177,5 +183,5 @@ def play(cache):
 
 def claims(rows, cache):
     """Returns the lines of the section; `rows` are those of Leduc and Rhode Island."""
-    found = [*favoured(rows), *ranges(rows), *ranks(rows), *suits(rows), *caps(rows), *isomorphism(rows, cache), *play(cache)]
+    found = [*favoured(rows), *ranges(rows), *ranks(rows), *suits(rows), *caps(rows), *isomorphism(rows), *play(cache)]
     return ["- %s *(%s)*" % sentence for sentence in found]

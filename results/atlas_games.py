@@ -11,15 +11,13 @@ import math
 import os
 import resource
 import signal
-import subprocess
 import tempfile
 import time
 from fractions import Fraction
 
-import atlas_solvers
-import solvers
-from sequence_form import LARGEST_TOTAL, Game, SequenceForm, read_classes
-from program import Program
+from gameshrink import Game, Refused, Strategy, Verdict, solvers
+from gameshrink.layout import LARGEST_TOTAL, classes_in, read_summary
+from gameshrink.linear import SequenceForm
 
 RANKS, SUITS = range(2, 14), range(1, 5)
 KUHN = [("kuhn", ranks, suits, cap) for ranks in RANKS for suits in SUITS for cap in range(9)]
@@ -34,40 +32,25 @@ ROUNDS = {"kuhn": 1, "leduc": 2, "rhode": 3}
 SOLVE_SECONDS, TRIES = 60, 12
 
 
-class Refused(Exception):
-    """The line of a refusal by the program."""
-
-
 class Stopped(Exception):
     """Why a piece of work did not end within the hours of its run."""
 
 
-class Judge(Program):
-    """The built program, whose refusals are exceptions."""
+def own_classes(program, game):
+    """Returns the game and the lossless classes of a game file, as the program states them in a strategy file."""
+    file = json.loads(program.run("play --turns 0", game))
+    return file["game"], file["classes"]
 
-    def printed(self, words, text=""):
-        out, status = self.run(words, text)
-        if status:
-            raise Refused(out or "status %d" % status)
-        return out + "\n"
 
-    def game(self, deck):
-        """Returns a deck's game file."""
-        return self.made(*deck)
+def checksum(program):
+    """Returns the checksum of the program's file; of the one that ./gameshrink runs, where that is a script."""
+    with open(program.binary, "rb") as file:
+        return hashlib.sha256(file.read()).hexdigest()
 
-    def own_classes(self, game):
-        """Returns the game and the lossless classes of a game file, as the program states them in a strategy file."""
-        file = json.loads(self.printed("play --turns 0", game))
-        return file["game"], file["classes"]
 
-    def checksum(self):
-        """Returns the checksum of the program's file; of the one that ./gameshrink runs, where that is a script."""
-        with open(self.path, "rb") as file:
-            whole = file.read()
-        if whole.startswith(b"#!"):
-            with open(os.path.join(os.path.dirname(self.path), "crates", "shrink_cli", "out", "shrink_cli"), "rb") as file:
-                whole = file.read()
-        return hashlib.sha256(whole).hexdigest()
+def line_of(refusal):
+    """Returns the line of a refusal by the program."""
+    return refusal.line or "status %d" % refusal.status
 
 
 def name_of(deck):
@@ -147,50 +130,56 @@ def plans_of(form, found, total=LARGEST_TOTAL):
     return plans
 
 
+def form_of(game, classes):
+    """Returns the sequence form of a game file over classes as `check` or `shrink` prints them."""
+    read = Game.parse(game)
+    return SequenceForm(read, classes_in(read, classes))
+
+
 def optimum(form, seconds):
-    """Returns Clp's optimum of a game, and that of QSopt_ex or why there is none."""
+    """Returns Clp's optimum of a game, and that of QSopt_ex, which begins at Clp's basis, or why there is none."""
     with tempfile.TemporaryDirectory() as folder:
-        with open(os.path.join(folder, "game.lp"), "w", encoding="ascii") as file:
-            file.write(form.program())
-        near = atlas_solvers.by_clp(folder, seconds)
+        work = solvers.Work(folder, form.program(), seconds)
+        near = work.by_clp("barrier")
         try:
-            return near, atlas_solvers.by_qsopt(folder, seconds)
-        except atlas_solvers.Failure as failure:
+            return near, work.by_qsopt_ex(from_basis=True)
+        except solvers.Failure as failure:
             return near, str(failure)
 
 
-def judged(judge, form, plans):
+def judged(program, form, plans):
     """Returns a strategy file with its value and gaps on raw cards. Where a game has too many pairs of raw signals for `judge`, the numbers are
     those that `evaluate` names in turn as it refuses wrong ones: it looks at classes alone."""
+    strategy = Strategy(form.layout, plans, program)
     try:
-        return judge.filled(form.strategy(plans))
+        return strategy.filled()
     except Refused as refusal:
-        if not str(refusal).startswith("too large"):
+        if not refusal.line.startswith("too large"):
             raise
-    numbers = ["0/1", "0/1", "0/1"]
+    numbers = [Fraction(0)] * 3
     for _ in range(4):
         try:
-            judge.printed("evaluate", form.strategy(plans, numbers))
+            program.run("evaluate", strategy.text(Verdict(*numbers)))
             break
         except Refused as refusal:
-            words = str(refusal).split()
+            words = refusal.line.split()
             if words[:2] != ["wrong", "numbers:"]:
                 raise
-            numbers[NUMBERS.index(words[2])] = words[5]
-    return form.strategy(plans, numbers)
+            numbers[NUMBERS.index(words[2])] = Fraction(words[5])
+    return strategy.text(Verdict(*numbers))
 
 
 def numbers_of(text):
     """Returns the value and gaps that a strategy file states, as fractions."""
     file = json.loads(text)
-    return [Fraction(file[key]) for key in NUMBERS]
+    return Verdict(*(Fraction(file[key]) for key in NUMBERS))
 
 
-def narrow(judge, form, found):
+def narrow(program, form, found):
     """Returns the strategy file of an optimum, rounded to total 2^36; where its bracket is too wide, the best of several totals just below."""
     best = None
     for total in range(LARGEST_TOTAL, LARGEST_TOTAL - TRIES, -1):
-        text = judged(judge, form, plans_of(form, found, total))
+        text = judged(program, form, plans_of(form, found, total))
         width = sum(numbers_of(text)[1:])
         best = (width, text) if best is None or width < best[0] else best
         if width < WIDEST:
@@ -208,45 +197,40 @@ def kept(cache, name, text):
 # ---- pieces of work
 
 
-def counts(summary):
-    """Returns the deals, and for each round the signals and the classes, of a summary."""
-    lines = [line.split() for line in summary.splitlines()]
-    return int(lines[0][1]), [int(line[5]) for line in lines[1:]], [int(line[3]) for line in lines[1:]]
-
-
-def classed(judge, deck, _cache, _seconds):
+def classed(program, deck, _cache, _seconds):
     """Returns a deck's deals, signals and classes, round by round."""
-    game = judge.game(deck)
-    deals, signals, isomorphic = counts(judge.printed("shrink --summary", game))
-    return {"deals": deals, "signals": signals, "isomorphic": isomorphic, "classes": counts(judge.printed("check --summary", game))[2]}
+    game = program.make(*deck)
+    summary = read_summary(program.run("shrink --summary", game))
+    classes = read_summary(program.run("check --summary", game)).classes
+    return {"deals": summary.deals, "signals": summary.signals, "isomorphic": summary.classes, "classes": classes}
 
 
-def solved(judge, deck, cache, seconds):
+def solved(program, deck, cache, seconds):
     """Returns how near an outside solver's plans come to a game's value, by the program's verdict, and the exact solver's value."""
-    record, game = classed(judge, deck, cache, seconds), judge.game(deck)
-    judge.own_classes(game)
-    form = SequenceForm(Game(game), read_classes(judge.printed("check", game)))
+    record, game = classed(program, deck, cache, seconds), program.make(*deck)
+    own_classes(program, game)
+    form = form_of(game, program.run("check", game))
     record["sequences"] = [len(form.slots[player]) + 1 for player in (1, 2)]
     near, exact = optimum(form, seconds)
     record["solvers"], record["seconds"] = [solvers.floating_name()], [round(near.seconds, 2)]
     if isinstance(exact, str):
         record["exact_failed"] = exact
     else:
-        record["exact"] = str(-exact.aim / form.weight)
+        record["exact"] = str(form.value(exact))
         record["solvers"].append(solvers.exact_name())
         record["seconds"].append(round(exact.seconds, 2))
-    text = narrow(judge, form, near if isinstance(exact, str) else exact)
+    text = narrow(program, form, near if isinstance(exact, str) else exact)
     record.update(kept(cache, name_of(deck), text))
-    fault = fault_of(judge, deck, record, text)
+    fault = fault_of(program, deck, record, text)
     return {**record, "failed": fault} if fault else record
 
 
-def fault_of(judge, deck, record, text):
+def fault_of(program, deck, record, text):
     """Returns what is wrong with a game's stored strategy by the program, or nothing."""
     stated = json.loads(text)
-    if judge.own_classes(judge.game(deck)) != (stated["game"], stated["classes"]):
+    if own_classes(program, program.make(*deck)) != (stated["game"], stated["classes"]):
         return "the strategy is of another game or other classes"
-    if judge.printed("evaluate", text) != "".join("%s %s\n" % (key, record[key]) for key in NUMBERS):
+    if program.run("evaluate", text) != "".join("%s %s\n" % (key, record[key]) for key in NUMBERS):
         return "evaluate prints other numbers"
     value, gap1, gap2 = numbers_of(text)
     if gap1 + gap2 >= WIDEST:
@@ -256,32 +240,32 @@ def fault_of(judge, deck, record, text):
     return None
 
 
-def lost(judge, deck, cache, seconds):
+def lost(program, deck, cache, seconds):
     """Returns what plans that are optimal over the isomorphism classes leave open on raw cards."""
-    game = judge.game(deck)
-    form = SequenceForm(Game(game), read_classes(judge.printed("shrink", game)))
+    game = program.make(*deck)
+    form = form_of(game, program.run("shrink", game))
     near, exact = optimum(form, seconds)
-    text = judge.filled(form.strategy(plans_of(form, near if isinstance(exact, str) else exact)))
+    text = Strategy(form.layout, plans_of(form, near if isinstance(exact, str) else exact), program).filled()
     return kept(cache, "isomorphic_" + name_of(deck), text)
 
 
-def own_solution(judge, deck, _cache, _seconds):
+def own_solution(program, deck, _cache, _seconds):
     """Returns the value that `solve` finds, or the line of its refusal."""
 
     def limit():
         resource.setrlimit(resource.RLIMIT_CPU, (SOLVE_SECONDS, SOLVE_SECONDS))
 
-    done = subprocess.run([judge.path, "solve"], input=judge.game(deck).encode(), capture_output=True, preexec_fn=limit, check=False)
+    done = program.ended("solve", program.make(*deck).encode(), preexec_fn=limit)
     if done.returncode < 0:
         return {"refused": "not ended within %d processor seconds" % SOLVE_SECONDS}
     return {"refused": done.stderr.decode().strip()} if done.returncode else {"value": json.loads(done.stdout)["value"]}
 
 
-def played(judge, deck, _cache, _seconds):
+def played(program, deck, _cache, _seconds):
     """Returns the value and both gaps after so many turns of play."""
-    game, found = judge.game(deck), {}
+    game, found = program.make(*deck), {}
     for turns in TURNS:
-        file = json.loads(judge.printed("play --turns %d" % turns, game))
+        file = json.loads(program.run("play --turns %d" % turns, game))
         found[turns] = [file[key] for key in NUMBERS]
     return {"turns": found}
 
@@ -322,30 +306,30 @@ def in_time(end, work):
         signal.setitimer(signal.ITIMER_REAL, 0)
 
 
-def done(cache, judge, name, make, deck, seconds, end):
+def done(cache, program, name, make, deck, seconds, end):
     """Makes a record and keeps it; a refusal, a failure and the end of the run are records too."""
     begun = time.time()
     try:
-        record = in_time(end, lambda: make(judge, deck, cache, seconds))
+        record = in_time(end, lambda: make(program, deck, cache, seconds))
     except Stopped as stopped:
         record = {"stopped": str(stopped)}
     except Refused as refusal:
-        record = {"refused": str(refusal)}
-    except atlas_solvers.Failure as failure:
+        record = {"refused": line_of(refusal)}
+    except solvers.Failure as failure:
         record = {"failed": str(failure)}
     when = time.strftime("%Y-%m-%d %H:%M", time.gmtime(begun))
     cache.keep(name, {"deck": deck, **record, "when": when, "took": round(time.time() - begun, 1)})
     return record
 
 
-def confirmed(cache, judge, name, make, deck):
+def confirmed(cache, program, name, make, deck):
     """Has the program judge a record's strategy again, or solve its game again; returns what is wrong, an empty text where nothing is, and
     nothing where the record has neither."""
     record = cache.record(name)
     if record is None or "stopped" in record:
         return None
     if make is own_solution:
-        again = own_solution(judge, deck, cache, None)
+        again = own_solution(program, deck, cache, None)
         if "value" not in record:
             cache.keep(name, {**record, **again})
         return "" if again.get("value") == record.get("value") or "value" not in record else "%s: solve finds otherwise" % name
@@ -355,6 +339,6 @@ def confirmed(cache, judge, name, make, deck):
     if hashlib.sha256(text.encode()).hexdigest() != record["sha256"]:
         return "%s: the strategy file is another" % name
     if make is lost:
-        return "" if judge.filled(text) == text else "%s: judge prints other numbers" % name
-    fault = fault_of(judge, deck, record, text)
+        return "" if Strategy.parse(text, program=program).filled() == text else "%s: judge prints other numbers" % name
+    fault = fault_of(program, deck, record, text)
     return "" if fault == record.get("failed") else "%s: %s" % (name, fault)

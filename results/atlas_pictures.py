@@ -3,7 +3,7 @@
 import os
 import subprocess
 
-from texts import decimal, write_csv
+from gameshrink.texts import decimal, write_csv
 
 HEAD = """set terminal svg size %d,%d font "sans,13" background "white"
 set datafile separator ","
@@ -56,15 +56,15 @@ def values(folder, panels):
     draw(folder, "value_by_ranks", (1000, 760), script)
 
 
-def losses(folder, panels):
-    """Draws what the isomorphism classes lose, by ranks; `panels` are titles, each with a line for each gap."""
+def prices(folder, panels):
+    """Draws what the isomorphism classes cost, by ranks; `panels` are titles, each with a line for each seat."""
     panels = with_data(panels)
-    table_of(folder, "isomorphism_loss", "ranks", [("%s %s" % (title, gap), found) for title, columns in panels for gap, found in columns])
-    script, first = 'set multiplot layout 1,3\nset xlabel "ranks"\nset ylabel "gap on raw cards, chips"\nset yrange [0:]\nset xtics 1\nset key top right\n', 2
+    table_of(folder, "isomorphism_price", "ranks", [("%s %s" % (title, seat), found) for title, columns in panels for seat, found in columns])
+    script, first = 'set multiplot layout 1,3\nset xlabel "ranks"\nset ylabel "price, chips"\nset yrange [0:]\nset xtics 1\nset key top right\n', 2
     for title, columns in panels:
-        script += 'set title "%s"\n' % title + lines("isomorphism_loss", first, columns)
+        script += 'set title "%s"\n' % title + lines("isomorphism_price", first, columns)
         first += len(columns)
-    draw(folder, "isomorphism_loss", (1200, 420), script)
+    draw(folder, "isomorphism_price", (1200, 420), script)
 
 
 def classes(folder, columns):

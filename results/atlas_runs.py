@@ -7,8 +7,8 @@ import shutil
 import subprocess
 import time
 
-import solvers
-from atlas_games import Judge
+from atlas_games import checksum
+from gameshrink import Program, solvers
 
 
 def machine():
@@ -40,7 +40,7 @@ def note(asked, begun, counts, is_whole):
     if not asked.confirm:
         record |= {"limit": asked.seconds, "solvers": [solvers.floating_name(), solvers.exact_name()]}
         record |= {"hours": asked.hours} if asked.hours else {}
-    record |= {"program": Judge(asked.program).checksum(), "built": asked.built, "kit": kit(), "machine": machine()}
+    record |= {"program": checksum(Program(asked.program)), "built": asked.built, "kit": kit(), "machine": machine()}
     with open(os.path.join(asked.cache, "runs.jsonl"), "a", encoding="ascii") as file:
         file.write(json.dumps(record) + "\n")
 

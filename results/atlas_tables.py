@@ -5,14 +5,15 @@ import os
 from dataclasses import dataclass
 from fractions import Fraction
 
+import abstraction_pages
 import atlas_pictures
 import atlas_runs
-from atlas_claims import NAMES, claims, grouped
-from atlas_games import KUHN, LEDUC, LOSSY, NUMBERS, PLAYED, RANKS, RHODE, name_of, reason
-from program import TOP
-from texts import decimal, listed, number, outwards, small, table, write_csv
+from atlas_claims import NAMES, claims, grouped, is_lossy
+from atlas_games import KUHN, LEDUC, NUMBERS, PLAYED, RANKS, RHODE, name_of, reason
+from gameshrink.program import CHECKOUT
+from gameshrink.texts import decimal, listed, number, outwards, small, table, write_csv
 
-FOLDER = os.path.join(TOP, "docs", "atlas")
+FOLDER = CHECKOUT / "docs" / "atlas"
 DIGITS, LONGEST = 12, 1500
 STORED = [("kuhn", 3, 1, 1), ("kuhn", 13, 4, 2)]
 STORED += [("leduc", *deck) for deck in [(3, 2, 1), (3, 2, 2), (3, 2, 3), (3, 2, 4), (3, 3, 1), (3, 3, 2), (3, 4, 2), (4, 2, 2), (5, 1, 2), (5, 2, 2), (5, 4, 2)]]
@@ -108,7 +109,7 @@ def write_losses(cache):
 # ---- stored strategies
 
 
-def write_stored(cache, judge, rows):
+def write_stored(cache, program, rows):
     """Writes the stored strategies, each with its certificate; returns those that there are with their sizes."""
     folder, sizes = os.path.join(FOLDER, "strategies"), {}
     os.makedirs(folder, exist_ok=True)
@@ -116,7 +117,7 @@ def write_stored(cache, judge, rows):
         os.remove(os.path.join(folder, name))
     for deck in STORED:
         if deck in rows:
-            text = judge.printed("certify", cache.strategy(name_of(deck)))
+            text = program.run("certify", cache.strategy(name_of(deck)))
             packed = gzip.compress(text.encode(), 9, mtime=0)
             with open(os.path.join(folder, name_of(deck) + ".jsonl.gz"), "wb") as file:
                 file.write(packed)
@@ -131,10 +132,10 @@ def by_ranks(rows, kind, suits, cap):
     return {deck[1]: row.value for deck, row in rows.items() if (deck[0], *deck[2:]) == (kind, suits, cap)}
 
 
-def lost_by_ranks(cache, kind, suits, cap):
-    """Returns both gaps by ranks."""
-    records = {ranks: cache.record("isomorphic_%s_%d_%d_%d" % (kind, ranks, suits, cap)) or {} for ranks in RANKS}
-    return [("gap %d" % player, {ranks: Fraction(r["gap%d" % player]) for ranks, r in records.items() if "gap1" in r}) for player in (1, 2)]
+def prices_by_ranks(costs, kind, suits, cap):
+    """Returns both prices of the isomorphism classes by ranks."""
+    decks = {ranks: (kind, ranks, suits, cap) for ranks in RANKS}
+    return [("seat %s" % seat, {ranks: costs[deck].row.most("price", seat) for ranks, deck in decks.items() if deck in costs}) for seat in "12"]
 
 
 def classes_by_signals(cache, kind, suits, key):
@@ -146,11 +147,17 @@ def title(kind, suits):
     return "%s, %d suit%s" % (NAMES[kind], suits, "s" * (suits > 1))
 
 
+def write_prices():
+    """Draws the prices of the isomorphism classes by ranks."""
+    costs = abstraction_pages.costs()
+    lossy = [("leduc", 2, 2), ("leduc", 4, 2), ("rhode", 4, 1)]
+    atlas_pictures.prices(FOLDER, [("%s, cap %d" % (title(*p[:2]), p[2]), prices_by_ranks(costs, *p)) for p in lossy])
+
+
 def write_pictures(cache, rows):
     panels = [("leduc", suits) for suits in (1, 2, 4)] + [("rhode", 4)]
     atlas_pictures.values(FOLDER, [(title(*p), [("cap %d" % cap, by_ranks(rows, *p, cap)) for cap in range(1, 5)]) for p in panels])
-    lossy = [("leduc", 2, 2), ("leduc", 4, 2), ("rhode", 4, 1)]
-    atlas_pictures.losses(FOLDER, [("%s, cap %d" % (title(*p[:2]), p[2]), lost_by_ranks(cache, *p)) for p in lossy])
+    write_prices()
     kinds = [("isomorphic", "by isomorphism"), ("classes", "lossless")]
     columns = [("%s, %s" % (title(*p), text), classes_by_signals(cache, *p, key)) for p in [("leduc", 4), ("rhode", 2), ("rhode", 4)] for key, text in kinds]
     atlas_pictures.classes(FOLDER, columns)
@@ -193,12 +200,6 @@ def failed_lines(others):
     return ["- `%s`: %s." % (why, grouped(decks)) for why, decks in reasons.items()]
 
 
-def without_losses(cache):
-    """Returns the decks, with their records, for which it was not found what the isomorphism classes lose."""
-    found = [(deck, cache.record("isomorphic_" + name_of(deck)) or {"failed": "not tried"}) for deck in LOSSY]
-    return [(deck, record) for deck, record in found if "gap1" not in record]
-
-
 def stored_table(rows, sizes):
     cells = []
     for deck, size in sizes.items():
@@ -207,13 +208,9 @@ def stored_table(rows, sizes):
     return table(["game", "ranks", "suits", "cap", "file", "bytes", "value"], cells)
 
 
-def lost_table(cache):
-    cells = []
-    for deck in sorted(LEDUC + RHODE):
-        record = cache.record("isomorphic_" + name_of(deck))
-        if record and "gap1" in record:
-            cells.append([NAMES[deck[0]], *deck[1:], *(decimal(Fraction(record[key]), 7) for key in NUMBERS)])
-    return table(["game", "ranks", "suits", "cap", "value", "gap 1 on raw cards", "gap 2 on raw cards"], cells)
+def cost_table(costs):
+    cells = [[NAMES[deck[0]], *deck[1:], *costs[deck].texts] for deck in sorted(costs)]
+    return table(["game", "ranks", "suits", "cap", "price, seat 1", "price, seat 2", "an equilibrium, seat 1", "an equilibrium, seat 2"], cells)
 
 
 def seconds_of(rows):
@@ -246,7 +243,7 @@ def head_lines(rows, kuhn):
         "",
         "**How to check a row.** A [stored strategy](#stored-strategies) needs the program alone. `results/atlas CACHE --only leduc_3_2_2` makes that row again in the folder CACHE; with the same solvers the strategy has the checksum of games.csv. "
         "`results/atlas CACHE --confirm` has the program judge all strategies of a run again. "
-        "`tools/recheck.py` computes value and gaps a second time, without the program.",
+        "`python/gameshrink-tools recheck` computes value and gaps a second time, without the program.",
         "",
         "**Columns.** Classes are the coarsest lossless ones, round by round. Sequences include the empty one; one number stands for both players. Bounds are rounded outwards and gaps up. "
         "\"agreed\" is the value with as many digits, 12 at most, as both bounds have when they are rounded to the nearest. Exact values of more than 40 characters stand in the CSV alone. "
@@ -254,7 +251,7 @@ def head_lines(rows, kuhn):
         "",
         "**CSV.** [games.csv](atlas/games.csv) has every game with its numbers as fractions, what `solve` finds, and the checksum of its strategy; its bounds are decimals rounded outwards. "
         "Counts for each round stand in one cell, in the order of the rounds. A game without numbers has the reason under `note`. "
-        "[isomorphism.csv](atlas/isomorphism.csv) has what the isomorphism classes lose. The class counts of all decks stand in [results/csv/classes.csv](../results/csv/classes.csv).",
+        "[isomorphism.csv](atlas/isomorphism.csv) has value and gaps on raw cards of one equilibrium over the isomorphism classes. The class counts of all decks stand in [results/csv/classes.csv](../results/csv/classes.csv).",
         "",
     ]
 
@@ -267,9 +264,9 @@ def picture_lines():
         "",
         "The value to player 1 by ranks, a line for each cap. Data: [value_by_ranks.csv](atlas/value_by_ranks.csv).",
         "",
-        "![What the isomorphism classes lose, by ranks](atlas/isomorphism_loss.svg)",
+        "![What the isomorphism classes cost, by ranks](atlas/isomorphism_price.svg)",
         "",
-        "Both gaps on raw cards of plans that are optimal over the isomorphism classes. Data: [isomorphism_loss.csv](atlas/isomorphism_loss.csv).",
+        "The price of the isomorphism classes for each seat. Data: [isomorphism_price.csv](atlas/isomorphism_price.csv).",
         "",
         "![Classes of the last round against its signals](atlas/class_counts.svg)",
         "",
@@ -299,34 +296,39 @@ def stored_lines(rows, sizes):
     ]
 
 
-def lost_lines(cache):
-    missing = without_losses(cache)
+def cost_lines(rows):
+    """Returns the section on isomorphism, from the CSV files of docs/abstraction and docs/atlas; `rows` are those of Leduc and Rhode Island."""
+    costs = abstraction_pages.costs()
+    missing = [deck for deck in rows if is_lossy(rows[deck]) and deck not in costs]
     return [
-        "## What the isomorphism classes lose",
+        "## What the isomorphism classes cost",
         "",
-        "The same work over the classes of `shrink`: plans that are optimal where both players see these classes alone, rounded as above and judged on raw cards. "
-        "Other optimal plans over the same classes may have other gaps. For Rhode Island only cap 1 was tried.",
+        "The price of classes for a seat is the game's value to it, less the most that a plan over the classes secures against an opponent who sees every card. "
+        "The table has it for the classes of `shrink` where they are lossy, rounded up; 0 stands for less than 10^-8. [ABSTRACTION.md](ABSTRACTION.md) has the brackets, and what is proved of them.",
         "",
-        *lost_table(cache),
+        "Beside it stands what one equilibrium loses, as an example: the plans of isomorphism.csv, which are optimal where both players see these classes alone. "
+        "Other equilibria over the same classes lose more or less, and none loses less than the price. RESULTS.md has the same numbers for three games. `results/abstraction --only isomorphism` makes the prices again.",
         "",
-        *(["Not found:", "", *failed_lines(missing), ""] if missing else []),
+        *cost_table(costs),
+        "",
+        *(["Not priced: %s." % grouped(missing), ""] if missing else []),
     ]
 
 
-def write(cache, judge):
+def write(cache, program):
     """Writes docs/ATLAS.md and all of docs/atlas/."""
     os.makedirs(FOLDER, exist_ok=True)
     rows, others = rows_of(cache, LEDUC + RHODE)
     kuhn, left = rows_of(cache, KUHN)
     write_games(cache, KUHN + LEDUC + RHODE, {**rows, **kuhn})
     write_losses(cache)
-    sizes = write_stored(cache, judge, {**rows, **kuhn})
+    sizes = write_stored(cache, program, {**rows, **kuhn})
     write_pictures(cache, rows)
     lines = head_lines(rows, kuhn) + ["## What it shows", "", *claims(rows, cache), ""]
     for kind in ("leduc", "rhode"):
         lines += ["## %s" % NAMES[kind], "", *game_table(of_kind(rows, kind)), ""]
-    lines += lost_lines(cache) + picture_lines() + stored_lines({**rows, **kuhn}, sizes)
+    lines += cost_lines(rows) + picture_lines() + stored_lines({**rows, **kuhn}, sizes)
     lines += ["## What is not here", "", "Decks without a bracket, by reason. The exact values of Kuhn's decks stand in games.csv and in [RESULTS.md](RESULTS.md).", "", *failed_lines(others + left), ""]
     lines += ["## Runs", "", "The solvers took %.2f processor hours for the games above. Runs of `results/atlas`; the first began with an empty folder, each later one took up what was left:" % seconds_of({**rows, **kuhn}), "", *atlas_runs.lines(cache)]
-    with open(os.path.join(TOP, "docs", "ATLAS.md"), "w", encoding="ascii") as file:
+    with open(CHECKOUT / "docs" / "ATLAS.md", "w", encoding="ascii") as file:
         file.write("\n".join(lines) + "\n")
