@@ -34,7 +34,8 @@ class TestReport(unittest.TestCase):
     def test_page(self):
         perfect = solve(Strategy.parse(LOOSE).game, program=PROGRAM)
         rng = random.Random(10)
-        for strategy, other in [(Strategy.parse(LOOSE), perfect), (Strategy.parse(BLIND), None), *((drawn(rng, GAMES[name]), None) for name in ("leduc", "rhode", "trees"))]:
+        some = [drawn(rng, GAMES[name]) for name in ("leduc", "rhode", "trees")]
+        for strategy, other in [(Strategy.parse(LOOSE), perfect), (Strategy.parse(BLIND), None), *((it, None) for it in some)]:
             with tempfile.TemporaryDirectory() as folder:
                 path = Path(folder, "page.html")
                 strategy.report(path, "a <b> & c", other)
