@@ -1,4 +1,5 @@
 //! What last-round signals are paid in their deals, modulo 2^32, board by board.
+//! These walks stand beside those of `walks`, seven lines each: one for both would go by a trait of cells with laws.
 
 ghost use Rattle.std.specs.Prelude.{◌≡◌, ◌+◌, ◌<◌, ◌≤◌, ◌+ℤ◌, ℕ, true, false, All, IfOk, OnOk, drop, get_or, length, pos, slice_index_or, take};
 ghost use Rattle.gs_tree.specs.{Plain.{IsPlain}, Trees.{rules_of}, Walk.{last_count, shows_same}};

@@ -79,6 +79,7 @@ fn classes_each(
 
 /// Returns the classes of a round, numbered from 1 by first member.
 /// Two signals are in one class if their parents are in one class of the round before and their numbers are equal.
+/// Most keys just occurred, so a key is compared with the latest one of its number before the set is asked.
 pub(crate) fn round_classes(alloc: Global, items: RoundItems<'_>) -> Result<Vec<u32>, AllocError>
     requires { length items.numbers.now + 1 < 2 ^ 32 }
     ensures long { IfOk result (λ v. length v.items ≡ length items.entry.numbers.now) }

@@ -45,6 +45,7 @@ pub(crate) fn leaves_under(
 }
 
 /// Returns the mark of a deal as a leaf: one number for its ways and its outcome. `path` is the number of ways to the deal's signal.
+/// One number, since whole numbers are sorted and compared at half the cost of pairs.
 fn mark_of(deal: Deal, path: u64) -> u64
     requires some { 0 < path }
     requires few { deal.weight < 2 ^ 32 }

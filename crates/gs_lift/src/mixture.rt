@@ -16,6 +16,7 @@ use std::marker::Model;
 const MOST_MOVES: usize = 26;
 
 /// Moves by their letters, each with its share: a behaviour strategy at one information set. A mixture has room for 26 moves, the most of any point.
+/// So no push needs memory, and who prints one needs no condition.
 #[derive(Drop)]
 pub struct Mixture {
     pairs: Vec<(u8, Fraction)>,

@@ -126,6 +126,7 @@ impl<'a> AspectKeys<'a> {
     }
 
     // Returns the parts of a signal's deals.
+    // They are read off the board where there is a table of it: deals one by one take twice the instructions.
     fn deal_parts(&self, alloc: Global, signal: u32) -> Result<Vec<Part>, AllocError>
         requires aspect { self.now.aspect ≡ aspects.Deals }
         requires in_range { signal < length (signals_in (rules_of self.now.signals.now) self.now.round) }

@@ -31,6 +31,7 @@ fn add(sums: &mut Vec<Part>, part: Part) -> Result<(), AllocError>
 }
 
 /// Returns the total weight at each class and outcome that some part has, in ascending order.
+/// It sorts: a map costs more, and a table has no bound.
 pub(crate) fn sums_of(alloc: Global, mut parts: Vec<Part>) -> Result<Vec<Part>, AllocError>
     requires some { All (λ p. 0 < p.weight) parts.items }
     requires fits { sum_by (λ p. p.weight) parts.items < 2 ^ 32 }

@@ -18,6 +18,7 @@ use std::alloc::{AllocError, Global};
 const MANY: u32 = 4096;
 
 /// The number of signals that are compared before the boards are listed.
+/// An unlike pair mostly stands early.
 const FEW: u32 = 64;
 
 /// Returns whether each class of a round has one member.

@@ -8,6 +8,7 @@ use crate::graph::Graph;
 use std::alloc::{AllocError, Global};
 
 /// Returns `count` empty lists.
+/// `gs_lossless` has one of its own: no crate that runs is below both.
 fn empty_lists(alloc: Global, count: u32) -> Result<Vec<Vec<u32>>, AllocError>
     ensures long { IfOk result (λ lists. length lists.items ≡ count) }
     ensures empty { IfOk result (λ lists. (k : ℕ) → row_of (rows lists.items) k ≡ []) }

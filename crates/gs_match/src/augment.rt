@@ -9,6 +9,7 @@ use std::alloc::{AllocError, Global};
 
 /// Adds the left node `root` to a matching of the left nodes below it. Moves the left nodes on the augmenting path to other right nodes.
 /// Returns `None` on success. If no augmenting path exists, returns the visits of the search and changes nothing.
+/// `holders` has the left node of each right node, and a visit where it came from: so no holder is searched for, and the sides may differ in size.
 pub(crate) fn augment(
     alloc: Global,
     adjacent: &[Vec<u32>],

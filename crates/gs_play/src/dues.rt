@@ -7,6 +7,7 @@ ghost use Rattle.gs_play.specs.DueTurns.{IsDues, IsNoneDue};
 use std::alloc::{AllocError, Global};
 
 /// A turn for each place, and for each 64 of them a turn that is not after any of theirs.
+/// So a sweep passes over what is not due.
 #[derive(Drop)]
 pub(crate) struct Dues {
     pub(crate) turns: Vec<u32>,

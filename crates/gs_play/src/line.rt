@@ -8,6 +8,7 @@ use crate::lasting::behind;
 use gs_seq::{plus, scaled};
 
 /// A number that in each turn is `at` plus `slope` times the turn. A sum of lines wraps around at 64 bits: where it is small, it is exact.
+/// A line is read only where it is settled, and is small there.
 #[derive(Clone, Copy, PartialEq)]
 pub(crate) struct Line {
     pub(crate) at: i64,
@@ -72,6 +73,7 @@ pub(crate) fn value(line: Line, turn: u32) -> i128
 }
 
 /// Returns the last turn, at most `last`, up to which a line that is behind in the turn `now` does not overtake one that is ahead.
+/// It has to be the greatest such turn: a weaker clause lets through a body that takes each turn by itself.
 pub(crate) fn until(before: bool, ahead: Line, other: Line, now: u32, last: u32) -> u32
     requires order { now ≤ last }
     requires few { last ≤ 2 ^ 20 }

@@ -196,6 +196,7 @@ fn first_leak(
 }
 
 /// Returns the first reason why a total and weights do not form a plan of a player, or `None` if they do.
+/// It is called once for a plan, so it finds the slot of a step by counting back and keeps no table.
 pub fn plan_fault(
     game: &ValidGame,
     classes: &Classes,

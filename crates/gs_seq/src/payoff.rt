@@ -54,6 +54,7 @@ impl<'a> Abstract<'a> {
 
     /// Returns what an end pays a player at the player's class against a plan of the other player.
     /// This is the sum, over the other's classes, of the plan's number times what the end pays in the deals of both classes.
+    /// It takes no memory; walks over all classes take `end_sums`.
     pub fn end_sum(&self, player: u8, other: &Plan, end: u32, class: u32) -> i128
         requires some { 0 < player }
         requires two { player ≤ 2 }

@@ -1,5 +1,6 @@
 //! The arithmetic of one row in whole numbers. Products stay in place where they are narrow, and take 128 bits otherwise. A row is divided by its greatest
 //! common divisor only where its numbers may be long.
+//! Most rows are narrow, and finding divisors would be most of the cost.
 
 ghost use Rattle.std.specs.Prelude.{◌≡◌, ◌≢◌, MatchBool, MatchResult, ℕ, ◌+◌, ◌*◌, ◌/◌, ◌<◌, ◌≤◌, ◌^◌, IsTrue, ℤ, pos, ◌-ℤ◌, ◌*ℤ◌, ◌<ℤ◌};
 ghost use Rattle.std.specs.Prelude.{length, slice_index, unsigned_abs};

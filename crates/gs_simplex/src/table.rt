@@ -43,6 +43,7 @@ fn turn_row(row: &mut [i64], c: usize)
 
 // Makes a row the pivot row. Negates it if its number in column `c` is negative, divides it by its greatest common divisor, and copies it to `lead`.
 // Lists in `filled` the places where the row is not 0, and returns their number.
+// It is divided before it clears the others, so the first number that is not narrow is the one that the definition names.
 fn take_row(row: &mut [i64], c: usize, lead: &mut [i64], filled: &mut [u32]) -> usize
     requires long { length row.old ≡ length lead.old }
     requires inside { c < length row.old }

@@ -14,6 +14,7 @@ use std::alloc::{AllocError, Global};
 
 /// Sets the numbers of the members of a class. Two members get equal numbers exactly if they agree on the aspect.
 /// Makes sums only of members without an earlier stand-in, and keeps them until the class is done. `nexts` has the next member of the class of each signal.
+/// The sums of a whole round would take 28 MB for 15,600 signals.
 pub(crate) fn number_members(
     alloc: Global,
     at: &AspectKeys<'_>,

@@ -76,6 +76,7 @@ fn class_again(keys: &TurnKeys<'_>, classes: &[u32], item: u32, key: TurnKey) ->
 }
 
 /// Returns the new classes of a round, numbered from 1 by first member: signals with equal keys are in one class.
+/// Most keys just occurred, so the set is asked last. `gs_iso` has a loop of its own: one for both would take closures, with laws of theirs.
 pub(crate) fn round_classes(alloc: Global, keys: &TurnKeys<'_>) -> Result<Vec<u32>, AllocError>
     requires { length keys.now.numbers.now + 1 < 2 ^ 32 }
     ensures long { IfOk result (λ v. length v.items ≡ length keys.now.numbers.now) }

@@ -1,4 +1,5 @@
 //! The commands that read a strategy file. All but `verify` let its bytes go once they are read.
+//! So up to 16 MB are not kept beside what was read.
 
 ghost use Rattle.std.specs.Prelude.{◌<◌, ◌≤◌};
 ghost use Rattle.gs_words.specs.Tasks.{IsInRange, of_strategy, strategy_task};

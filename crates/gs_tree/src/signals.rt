@@ -177,6 +177,7 @@ impl<'g> Signals<'g> {
     }
 
     /// Returns the number of ways to take all that a last-round signal shows: the product of the edge weights on the way to it.
+    /// Isomorphism divides the weights of deals by it.
     pub fn path_weight(&self, signal: u32) -> u64
         requires { signal < length (signals (rules_of self.now) (round_count (rules_of self.now))) }
         ensures value { result ≡ path_weight (rules_of self.now).copies (signal_at (rules_of self.now) (round_count (rules_of self.now)) signal) }
@@ -243,6 +244,7 @@ impl<'g> Signals<'g> {
 
     /// Adds the text of a signal of round 2 or later to `text`: `parent`, the text of its parent, then `/` and what the signal shows last. Fails only if
     /// memory runs out.
+    /// So the parents of a signal are not walked again for its text.
     pub fn push_text_below(
         &self,
         text: &mut String,
@@ -266,6 +268,7 @@ impl<'g> Signals<'g> {
     }
 
     /// Returns the signal of a round with this text, none where no signal has it. It takes no memory, and may read all signals of the round.
+    /// A query asks once, so no table is kept for it.
     pub fn index_of(&self, round: u8, text: &str) -> Option<u32>
         requires some { 0 < round }
         requires last { round ≤ round_count (rules_of self.now) }

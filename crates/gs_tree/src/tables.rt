@@ -22,6 +22,7 @@ pub(crate) struct Grown {
 }
 
 /// Returns an empty table of signals, with room for those of a round.
+/// The room is reserved once: a list that doubles is copied.
 fn none_grown(alloc: Global, room: usize, parents: usize) -> Result<Grown, AllocError>
     ensures parents { IfOk result (λ grown. grown.parents.items ≡ []) }
     ensures shown { IfOk result (λ grown. grown.layer.shown.items ≡ []) }
