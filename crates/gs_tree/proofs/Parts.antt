@@ -1,8 +1,8 @@
 -- The cards of a signal, kept behind those of the one before.
 use Rattle.std.proofs.{Common.{◌≡◌, ◌+◌, ◌*◌, ◌<◌, ◌≤◌, ◌∙◌, ℕ, List, [], length, take, drop, get_or, ap, arith}, lemmas.List.{length-map}}
 use Rattle.std.specs.Prelude.{flat_map}
-use Rattle.gs_model.specs.{Deals.{path_weight}, Game.{Game}, Signals.{Signal, own_cards, public_cards, signal_at, signals}}
-use Rattle.gs_tree.specs.Kept.{AreKeptCards}
+use Rattle.gs_model.specs.{Deals.{path_weight}, Game.{Game, round_count}, Signals.{Signal, own_cards, public_cards, signal_at, signals}}
+use Rattle.gs_tree.specs.{Kept.{AreHands, AreKeptCards}, Walk.{last_count}, declared.kept.Hands.{Hands}}
 use Rattle.gs_tree.proofs.Rows.{part_in, part_is, parts_length}
 
 module _ (f : Signal → List ℕ) (each : ℕ) (ss : List Signal) (kept : List ℕ) (is : kept ≡ flat_map f ss) (sized : (i : ℕ) → i < length ss
@@ -36,3 +36,7 @@ module _ (g : Game) (round : ℕ) (paths owns publics : List ℕ) (own public : 
 
   pub public_part : (i : ℕ) → i < length (signals g round) → take public (drop (i * public) publics) ≡ public_cards (signal_at g round i)
   public_part = kept_part public_cards public (signals g round) publics h.shown h.public_each
+
+-- the number of ways is that of the last-round signals
+pub hands_counted : (g : Game) (h : Hands) (count : ℕ) → AreHands g (round_count g) h → count ≡ length h.paths → count ≡ last_count g
+hands_counted g h count are long = long ∙ paths_long g (round_count g) h.paths h.owns.items h.publics.items h.own h.public are

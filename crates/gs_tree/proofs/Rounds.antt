@@ -1,6 +1,7 @@
 -- What the tables tell of the signals of the next round, and what is kept of these from the round before.
 use Rattle.std.proofs.Common.{◌≡◌, ℕ, zero, suc, ◌-◌, ◌*◌, ◌^◌, ◌<◌, ◌≤◌, ◌++◌, List, [], ◌∷◌, length, map, get_or, replicate, refl, sym, ap, ◌∙◌, arith, subst}
-use Rattle.std.proofs.{Common.{All}, lemmas.Grind.{get_or_default_zero}, lemmas.List.{get_or-map, get_or-replicate, length-map, length-replicate}}
+use Rattle.std.proofs.{Common.{All, take, take_all}, lemmas.Grind.{get_or_default_zero}}
+use Rattle.std.proofs.lemmas.List.{get_or-map, get_or-replicate, length-map, length-replicate}
 use Rattle.std.specs.Global.{Vec}
 use Rattle.gs_game.specs.Limits.{IsDealable}
 use Rattle.gs_model.specs.{Deals.{path_weight}, Game.{Game, round_count}}
@@ -29,6 +30,10 @@ module _ {g : Game} {ps : List (Vec ℕ)} {ls : List Layer} {n : ℕ} (t : AreTa
   layer_long l e =
       let h = layer_of g ps ls (suc n) l t (omega arith) (omega (arith, in')) (e ∙ ap (λ k. get_or ls k l) (sym before)) in
       (h.long, h.edges_long)
+
+  -- those up to one behind all that the layer shows are all
+  pub all_shown : (l : Layer) (i : ℕ) → l ≡ get_or ls n l → length l.shown.items ≤ i → take i (signals g (suc n)) ≡ signals g (suc n)
+  all_shown l i e m = take_all i (signals g (suc n)) (omega (arith, (layer_long l e).0, m))
 
   pub row_is_long : (row : Vec ℕ) → row ≡ get_or ps n row → length row.items ≡ length (signals g (suc n))
   row_is_long row r = ap (λ (v : Vec ℕ). length v.items) r ∙ ap (λ (x : List ℕ). length x) (t.owned n row in') ∙ length-parents g (suc n)

@@ -1,6 +1,6 @@
 -- What the tables of signals hold, round by round.
-use Rattle.std.specs.{Prelude.{ℕ, suc, ◌≡◌, ◌<◌, ◌+◌, List, length, map, slice_index_or}, List.{range_with_len}, Global.{Vec}}
-use Rattle.gs_model.specs.{Game.{Game}, Signals.{Seen, signals, parents, last_edge, first_child}}
+use Rattle.std.specs.{Prelude.{ℕ, suc, ◌≡◌, ◌<◌, ◌≤◌, ◌+◌, List, length, map, slice_index_or}, List.{range_with_len}, Global.{Vec}}
+use Rattle.gs_model.specs.{Game.{Game, Round, round_at}, Signals.{Seen, signals, parents, last_edge, first_child}}
 use Rattle.gs_tree.specs.{Layers.{last_seen}, Shown.{seen_of}, declared.layer.Layer.{Layer}}
 
 -- what the last rounds of a layer's signals show
@@ -19,3 +19,11 @@ pub record AreTables (g : Game) (parents_of : List (Vec ℕ)) (layers : List Lay
   pub as_many : length parents_of ≡ length layers
   pub owned : (round : ℕ) (d : Vec ℕ) → round < length layers → (slice_index_or parents_of round d).items ≡ parents g (suc round)
   pub listed : (round : ℕ) (d : Layer) → round < length layers → IsLayer g round (slice_index_or layers round d)
+
+-- the round that comes after the first rounds, and the number of signals of the last of these
+pub record IsNext (g : Game) (rounds count : ℕ) (next : Round) : Type 0 where
+  pub counted : count ≡ length (signals g rounds)
+  pub ruled : next ≡ round_at g (suc rounds)
+  pub few : length (signals g (suc rounds)) ≤ 200000
+  pub private : next.private ≤ 3
+  pub public : next.public ≤ 3

@@ -26,6 +26,12 @@ pair_number g one two = one * last_count g + two
 abbrev pub shows_same : Game → ℕ → ℕ → Bool
 shows_same g one two = same_public (signal_at g (round_count g) one) (signal_at g (round_count g) two)
 
+-- two last-round signals that show the same public cards
+pub record IsPair (g : Game) (one two : ℕ) : Type 0 where
+  pub one_in : one < last_count g
+  pub two_in : two < last_count g
+  pub same : shows_same g one two ≡ true
+
 -- a pair that the walk looks at: unless row `one` is at the end, two signals that show the same public cards
 pub record IsOnWalk (g : Game) (one two end : ℕ) : Type 0 where
   pub end_in : end ≤ last_count g

@@ -1,14 +1,14 @@
 //! Last-round signals that show the same public cards.
 
 ghost use Rattle.std.specs.Prelude.{◌≡◌, ◌≤◌, ◌<◌, All, ◌^◌, IfOk, IfSome, length, replicate, slice_set};
-ghost use Rattle.gs_card.specs.Decks.{kinds};
-ghost use Rattle.gs_game.specs.{Games.{game_of}, Limits.{IsWithinLimits}};
+ghost use Rattle.gs_card.specs.{Decks.{kinds}, declared.faults.TheConstants.{MOST_KINDS}};
+ghost use Rattle.gs_game.specs.Games.{game_of};
 ghost use Rattle.gs_model.specs.{Game.{round_count}, Signals.{public_cards, signal_at}};
-ghost use Rattle.gs_tree.specs.{Boards.{AreBoards, code_behind, first_on_board, linked, seen_last}, Kept.{AreKeptCards}, Walk.{last_count}};
+ghost use Rattle.gs_tree.specs.{Boards.{AreBoards, code_behind, first_on_board, linked, seen_last}, Kept.{AreHands}, Walk.{last_count}};
 
 use crate::kept::{Hands, part};
 use gs_card::Card;
-use gs_game::Game;
+use gs_game::ValidGame;
 use std::alloc::{AllocError, Global};
 use std::collections::HashMap;
 
@@ -29,11 +29,15 @@ fn numbers_of(alloc: Global, cards: &[Card]) -> Result<Vec<u8>, AllocError>
 }
 
 /// Returns the public cards that a last-round signal shows.
-fn board_of(alloc: Global, game: &Game, hands: &Hands, signal: u32) -> Result<Vec<u8>, AllocError>
-    requires hands { AreKeptCards (game_of game.now) (round_count (game_of game.now)) hands.now.paths hands.now.owns.items hands.now.publics.items hands.now.own
-        hands.now.public }
-    requires signal_in { signal < last_count (game_of game.now) }
-    ensures { IfOk result (λ v. v.items ≡ public_cards (signal_at (game_of game.now) (round_count (game_of game.now)) signal)) }
+fn board_of(
+    alloc: Global,
+    valid: &ValidGame,
+    hands: &Hands,
+    signal: u32,
+) -> Result<Vec<u8>, AllocError>
+    requires hands { AreHands (game_of valid.now.game) (round_count (game_of valid.now.game)) hands.now }
+    requires signal_in { signal < last_count (game_of valid.now.game) }
+    ensures { IfOk result (λ v. v.items ≡ public_cards (signal_at (game_of valid.now.game) (round_count (game_of valid.now.game)) signal)) }
 {
     let public = part(&hands.publics, hands.public, signal);
     numbers_of(alloc, public)
@@ -48,7 +52,7 @@ fn seen_last(count: u32, entry: u32) -> Option<u32>
 
 /// Returns how many lists of this many cards there are.
 fn code_count(kinds: usize, cards: usize) -> usize
-    requires few_kinds { kinds ≤ 52 }
+    requires few_kinds { kinds ≤ MOST_KINDS }
     requires few_cards { cards ≤ 3 }
     ensures { result ≡ kinds ^ cards }
 {
@@ -68,7 +72,7 @@ fn none_seen(alloc: Global, count: u32, places: usize) -> Result<Vec<u32>, Alloc
 
 /// Returns the number of a list of cards among all lists of the same length.
 fn code(kinds: usize, cards: &[Card]) -> usize
-    requires few_kinds { kinds ≤ 52 }
+    requires few_kinds { kinds ≤ MOST_KINDS }
     requires few_cards { length cards.now ≤ 3 }
     requires of_deck { All (λ card. card < kinds) cards.now }
     ensures { result ≡ code_behind kinds 0 cards.now }
@@ -85,14 +89,14 @@ fn code(kinds: usize, cards: &[Card]) -> usize
 }
 
 /// Returns the number of the public cards that a last-round signal shows.
-fn board_code(game: &Game, hands: &Hands, signal: u32) -> usize
-    requires hands { AreKeptCards (game_of game.now) (round_count (game_of game.now)) hands.now.paths hands.now.owns.items hands.now.publics.items hands.now.own
-        hands.now.public }
+fn board_code(valid: &ValidGame, hands: &Hands, signal: u32) -> usize
+    requires hands { AreHands (game_of valid.now.game) (round_count (game_of valid.now.game)) hands.now }
     requires few { hands.now.public ≤ 3 }
-    requires signal_in { signal < last_count (game_of game.now) }
-    ensures { result ≡ code_behind (kinds game.now.deck) 0 (public_cards (signal_at (game_of game.now) (round_count (game_of game.now)) signal)) }
+    requires signal_in { signal < last_count (game_of valid.now.game) }
+    ensures { result ≡ code_behind (kinds valid.now.game.deck) 0 (public_cards (signal_at (game_of valid.now.game) (round_count (game_of valid.now.game))
+        signal)) }
 {
-    let kinds = usize::from(game.deck.kinds());
+    let kinds = usize::from(valid.game.deck.kinds());
     code(kinds, part(&hands.publics, hands.public, signal))
 }
 
@@ -126,20 +130,18 @@ fn link(boards: &mut Boards, before: Option<u32>, signal: u32)
 }
 
 /// Links the last-round signals that show the same public cards, at most three. A table has a place for each list of that many cards.
-fn link_by_table(alloc: Global, game: &Game, hands: &Hands) -> Result<Boards, AllocError>
-    requires hands { AreKeptCards (game_of game.now) (round_count (game_of game.now)) hands.now.paths hands.now.owns.items hands.now.publics.items hands.now.own
-        hands.now.public }
-    requires limits { IsWithinLimits (game_of game.now) }
+fn link_by_table(alloc: Global, valid: &ValidGame, hands: &Hands) -> Result<Boards, AllocError>
+    requires hands { AreHands (game_of valid.now.game) (round_count (game_of valid.now.game)) hands.now }
     requires few { hands.now.public ≤ 3 }
-    ensures { IfOk result (λ b. AreBoards (game_of game.now) b.firsts.items b.nexts.items) }
+    ensures { IfOk result (λ b. AreBoards (game_of valid.now.game) b.firsts.items b.nexts.items) }
 {
     let count = hands.paths.len() as u32;
-    let kinds = usize::from(game.deck.kinds());
+    let kinds = usize::from(valid.game.deck.kinds());
     let mut boards = none_linked(alloc, count)?;
     // for each list of cards the last signal so far that shows it, or the number of all signals if none does
     let mut last = none_seen(alloc, count, code_count(kinds, hands.public))?;
     for signal in 0..count {
-        let code = board_code(game, hands, signal);
+        let code = board_code(valid, hands, signal);
         let before = seen_last(count, last[code]);
         last[code] = signal;
         link(&mut boards, before, signal);
@@ -148,17 +150,15 @@ fn link_by_table(alloc: Global, game: &Game, hands: &Hands) -> Result<Boards, Al
 }
 
 /// Links the last-round signals that show the same public cards, by a map from boards to the last signal on each.
-fn link_by_map(alloc: Global, game: &Game, hands: &Hands) -> Result<Boards, AllocError>
-    requires hands { AreKeptCards (game_of game.now) (round_count (game_of game.now)) hands.now.paths hands.now.owns.items hands.now.publics.items hands.now.own
-        hands.now.public }
-    requires limits { IsWithinLimits (game_of game.now) }
-    ensures { IfOk result (λ b. AreBoards (game_of game.now) b.firsts.items b.nexts.items) }
+fn link_by_map(alloc: Global, valid: &ValidGame, hands: &Hands) -> Result<Boards, AllocError>
+    requires hands { AreHands (game_of valid.now.game) (round_count (game_of valid.now.game)) hands.now }
+    ensures { IfOk result (λ b. AreBoards (game_of valid.now.game) b.firsts.items b.nexts.items) }
 {
     let count = hands.paths.len() as u32;
     let mut boards = none_linked(alloc, count)?;
     let mut seen = HashMap::new(alloc);
     for signal in 0..count {
-        let board = board_of(alloc, game, hands, signal)?;
+        let board = board_of(alloc, valid, hands, signal)?;
         let before = seen.insert(board, signal)?;
         link(&mut boards, before, signal);
     }
@@ -166,15 +166,17 @@ fn link_by_map(alloc: Global, game: &Game, hands: &Hands) -> Result<Boards, Allo
 }
 
 /// Links the last-round signals that show the same public cards. Fails only if memory runs out.
-pub(crate) fn link_boards(alloc: Global, game: &Game, hands: &Hands) -> Result<Boards, AllocError>
-    requires hands { AreKeptCards (game_of game.now) (round_count (game_of game.now)) hands.now.paths hands.now.owns.items hands.now.publics.items hands.now.own
-        hands.now.public }
-    requires limits { IsWithinLimits (game_of game.now) }
-    ensures { IfOk result (λ b. AreBoards (game_of game.now) b.firsts.items b.nexts.items) }
+pub(crate) fn link_boards(
+    alloc: Global,
+    valid: &ValidGame,
+    hands: &Hands,
+) -> Result<Boards, AllocError>
+    requires hands { AreHands (game_of valid.now.game) (round_count (game_of valid.now.game)) hands.now }
+    ensures { IfOk result (λ b. AreBoards (game_of valid.now.game) b.firsts.items b.nexts.items) }
 {
     if hands.public <= 3 {
-        link_by_table(alloc, game, hands)
+        link_by_table(alloc, valid, hands)
     } else {
-        link_by_map(alloc, game, hands)
+        link_by_map(alloc, valid, hands)
     }
 }

@@ -1,15 +1,15 @@
 //! What is kept of the last-round signals to weigh deals: the ways to take what each shows, and their cards.
 
 ghost use Rattle.std.specs.Prelude.{◌≡◌, ◌≤◌, ◌<◌, ◌+◌, ◌*◌, ◌++◌, ◌∷◌, ℕ, [], suc, All, IfOk, OnOk, drop, flat_map, length, map, slice_index, take};
-ghost use Rattle.gs_game.specs.{Games.{game_of, round_rules}, Limits.{IsDealable, IsWithinLimits}};
+ghost use Rattle.gs_game.specs.Games.{game_of, round_rules};
 ghost use Rattle.gs_model.specs.{Deals.{path_weight}, Game.{round_count}, Signals.{signal_at, signals}};
-ghost use Rattle.gs_tree.specs.{Kept.{AreKeptCards}, Layers.{last_seen}, Shown.{cards_on, seen_on, shown_by}, Tables.{AreTables}};
+ghost use Rattle.gs_tree.specs.{Kept.{AreHands}, Layers.{last_seen}, Shown.{cards_on, seen_on, shown_by}, Tables.{AreTables}};
 
 use crate::layer::Pile;
 use crate::tables::Tables;
 use crate::ways::Ways;
 use gs_card::Card;
-use gs_game::{Game, Round};
+use gs_game::{Round, ValidGame};
 use std::alloc::{AllocError, Global};
 
 /// The cards of a round's signals, and the ways to take all that each signal shows. The cards of the signals follow one another, and all signals have
@@ -36,21 +36,17 @@ fn first_path(alloc: Global) -> Result<Ways, AllocError>
 /// Returns for each signal of a round the ways to take all that it shows, from the ways of the round before it.
 fn next_paths(
     alloc: Global,
-    game: &Game,
+    valid: &ValidGame,
     tables: &Tables,
     round: usize,
     before: &Ways,
 ) -> Result<Ways, AllocError>
-    requires tables { AreTables (game_of game.now) tables.now.parents.items tables.now.layers.items }
-    requires all { length tables.now.layers.items ≡ round_count (game_of game.now) }
-    requires limits { IsWithinLimits (game_of game.now) }
-    requires dealable { IsDealable (game_of game.now) }
+    requires tables { AreTables (game_of valid.now.game) tables.now.parents.items tables.now.layers.items }
+    requires all { length tables.now.layers.items ≡ round_count (game_of valid.now.game) }
     requires round_in { round < length tables.now.layers.items }
-    requires before { before.now ≡ map (path_weight (game_of game.now).copies) (signals (game_of game.now) round) }
-    ensures { IfOk result (λ w. w ≡ map (path_weight (game_of game.now).copies) (signals (game_of game.now) (suc round))) }
+    requires before { before.now ≡ map (path_weight (game_of valid.now.game).copies) (signals (game_of valid.now.game) round) }
+    ensures { IfOk result (λ w. w ≡ map (path_weight (game_of valid.now.game).copies) (signals (game_of valid.now.game) (suc round))) }
 {
-    // called only for what its contract says
-    let _kinds = game.deck.kinds();
     let parents = &tables.parents[round];
     let edges = &tables.layers[round].edges;
     if let (Some(_), Some(count)) = (before.ones(), edges.ones()) {
@@ -109,19 +105,19 @@ fn cards_shown(round: &Round, pile: Pile) -> usize
 /// Returns the cards in one pile of the signals of round `round + 1`. Each signal has the one card of its parent and shows one more.
 fn paired_cards(
     alloc: Global,
-    game: &Game,
+    valid: &ValidGame,
     tables: &Tables,
     round: usize,
     before: &[Card],
     pile: Pile,
 ) -> Result<Vec<Card>, AllocError>
-    requires tables { AreTables (game_of game.now) tables.now.parents.items tables.now.layers.items }
+    requires tables { AreTables (game_of valid.now.game) tables.now.parents.items tables.now.layers.items }
     requires round_in { round < length tables.now.layers.items }
-    requires before { before.now ≡ flat_map (cards_on pile) (signals (game_of game.now) round) }
-    requires each { (i : ℕ) → i < length (signals (game_of game.now) round) → length (cards_on pile (signal_at (game_of game.now) round i)) ≡ 1 }
-    requires more { (i : ℕ) → i < length (signals (game_of game.now) (suc round))
-        → length (seen_on pile (last_seen (signal_at (game_of game.now) (suc round) i))) ≡ 1 }
-    ensures { IfOk result (λ v. v.items ≡ flat_map (cards_on pile) (signals (game_of game.now) (suc round))) }
+    requires before { before.now ≡ flat_map (cards_on pile) (signals (game_of valid.now.game) round) }
+    requires each { (i : ℕ) → i < length (signals (game_of valid.now.game) round) → length (cards_on pile (signal_at (game_of valid.now.game) round i)) ≡ 1 }
+    requires more { (i : ℕ) → i < length (signals (game_of valid.now.game) (suc round))
+        → length (seen_on pile (last_seen (signal_at (game_of valid.now.game) (suc round) i))) ≡ 1 }
+    ensures { IfOk result (λ v. v.items ≡ flat_map (cards_on pile) (signals (game_of valid.now.game) (suc round))) }
 {
     let parents = &tables.parents[round];
     let shown = &tables.layers[round].shown;
@@ -138,29 +134,29 @@ fn paired_cards(
 /// One own card and one more card have loops of their own: a loop over parts of any length takes three times as long for each signal.
 fn next_cards(
     alloc: Global,
-    game: &Game,
+    valid: &ValidGame,
     tables: &Tables,
     round: usize,
     before: &[Card],
     each: usize,
     pile: Pile,
 ) -> Result<Vec<Card>, AllocError>
-    requires tables { AreTables (game_of game.now) tables.now.parents.items tables.now.layers.items }
-    requires all { length tables.now.layers.items ≡ round_count (game_of game.now) }
+    requires tables { AreTables (game_of valid.now.game) tables.now.parents.items tables.now.layers.items }
+    requires all { length tables.now.layers.items ≡ round_count (game_of valid.now.game) }
     requires round_in { round < length tables.now.layers.items }
-    requires before { before.now ≡ flat_map (cards_on pile) (signals (game_of game.now) round) }
-    requires each { (i : ℕ) → i < length (signals (game_of game.now) round) → length (cards_on pile (signal_at (game_of game.now) round i)) ≡ each }
-    ensures { IfOk result (λ v. v.items ≡ flat_map (cards_on pile) (signals (game_of game.now) (suc round))) }
+    requires before { before.now ≡ flat_map (cards_on pile) (signals (game_of valid.now.game) round) }
+    requires each { (i : ℕ) → i < length (signals (game_of valid.now.game) round) → length (cards_on pile (signal_at (game_of valid.now.game) round i)) ≡ each }
+    ensures { IfOk result (λ v. v.items ≡ flat_map (cards_on pile) (signals (game_of valid.now.game) (suc round))) }
 {
     let parents = &tables.parents[round];
     let shown = &tables.layers[round].shown;
-    let now = &game.rounds[round];
+    let now = &valid.game.rounds[round];
     let more = cards_shown(now, pile);
     if each == 1 && more == 0 {
         return parent_cards(alloc, parents, before);
     }
     if each == 1 && more == 1 {
-        return paired_cards(alloc, game, tables, round, before, pile);
+        return paired_cards(alloc, valid, tables, round, before, pile);
     }
     let room = shown.len().saturating_mul(each.saturating_add(more));
     let mut cards = Vec::with_capacity(alloc, room)?;
@@ -175,23 +171,21 @@ fn next_cards(
 /// Returns the hands of the signals of round `round + 1`, from the hands of the round before.
 fn next_hands(
     alloc: Global,
-    game: &Game,
+    valid: &ValidGame,
     tables: &Tables,
     round: usize,
     before: &Hands,
 ) -> Result<Hands, AllocError>
-    requires tables { AreTables (game_of game.now) tables.now.parents.items tables.now.layers.items }
-    requires all { length tables.now.layers.items ≡ round_count (game_of game.now) }
-    requires limits { IsWithinLimits (game_of game.now) }
-    requires dealable { IsDealable (game_of game.now) }
+    requires tables { AreTables (game_of valid.now.game) tables.now.parents.items tables.now.layers.items }
+    requires all { length tables.now.layers.items ≡ round_count (game_of valid.now.game) }
     requires round_in { round < length tables.now.layers.items }
-    requires before { AreKeptCards (game_of game.now) round before.now.paths before.now.owns.items before.now.publics.items before.now.own before.now.public }
-    ensures { IfOk result (λ h. AreKeptCards (game_of game.now) (suc round) h.paths h.owns.items h.publics.items h.own h.public) }
+    requires before { AreHands (game_of valid.now.game) round before.now }
+    ensures { IfOk result (AreHands (game_of valid.now.game) (suc round)) }
 {
-    let paths = next_paths(alloc, game, tables, round, &before.paths)?;
+    let paths = next_paths(alloc, valid, tables, round, &before.paths)?;
     let owns = next_cards(
         alloc,
-        game,
+        valid,
         tables,
         round,
         &before.owns,
@@ -200,7 +194,7 @@ fn next_hands(
     )?;
     let publics = next_cards(
         alloc,
-        game,
+        valid,
         tables,
         round,
         &before.publics,
@@ -220,12 +214,10 @@ fn next_hands(
 }
 
 /// Returns the hands of the last-round signals, made round by round from the empty hand. Fails only if memory runs out.
-pub(crate) fn gather(alloc: Global, game: &Game, tables: &Tables) -> Result<Hands, AllocError>
-    requires tables { AreTables (game_of game.now) tables.now.parents.items tables.now.layers.items }
-    requires all { length tables.now.layers.items ≡ round_count (game_of game.now) }
-    requires limits { IsWithinLimits (game_of game.now) }
-    requires dealable { IsDealable (game_of game.now) }
-    ensures { IfOk result (λ h. AreKeptCards (game_of game.now) (round_count (game_of game.now)) h.paths h.owns.items h.publics.items h.own h.public) }
+pub(crate) fn gather(alloc: Global, valid: &ValidGame, tables: &Tables) -> Result<Hands, AllocError>
+    requires tables { AreTables (game_of valid.now.game) tables.now.parents.items tables.now.layers.items }
+    requires all { length tables.now.layers.items ≡ round_count (game_of valid.now.game) }
+    ensures { IfOk result (AreHands (game_of valid.now.game) (round_count (game_of valid.now.game))) }
 {
     let paths = first_path(alloc)?;
     let owns = Vec::new(alloc);
@@ -238,7 +230,7 @@ pub(crate) fn gather(alloc: Global, game: &Game, tables: &Tables) -> Result<Hand
         public: 0,
     };
     for round in 0..tables.layers.len() {
-        hands = next_hands(alloc, game, tables, round, &hands)?;
+        hands = next_hands(alloc, valid, tables, round, &hands)?;
     }
     Ok(hands)
 }

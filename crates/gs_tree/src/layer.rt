@@ -2,7 +2,7 @@
 
 ghost use Rattle.std.specs.Prelude.{◌≡◌, ◌≤◌, ◌<◌, ◌++◌, ◌*◌, ◌-◌, slice_set, slice_index, All, IfOk, OnOk, map, length};
 ghost use Rattle.gs_card.specs.Decks.{kinds};
-ghost use Rattle.gs_tree.specs.{Shown.{cards_of, seen_of}, Layers.{showing}};
+ghost use Rattle.gs_tree.specs.{Shown.{cards_of, seen_of}, Layers.{AreFew, showing}};
 ghost use Rattle.gs_model.specs.{Cards.{left_after}, Cards.{groups, groups_above, groups_with, ways}, Signals.{showings, edge}};
 ghost use Rattle.gs_game.specs.Games.{round_rules};
 
@@ -92,8 +92,7 @@ fn push_card(
     layer: &mut Layer,
 ) -> Result<(), AllocError>
     requires kind_in { kind < length rest.now }
-    requires few_kinds { length rest.now ≤ 52 }
-    requires few_copies { All (λ n. n ≤ 9) rest.now }
+    requires few_left { AreFew rest.now }
     requires few_ways { own_ways ≤ 729 }
     ensures shown { OnOk result (map seen_of layer.new.shown.items ≡ map seen_of layer.old.shown.items
         ++ map (showing (cards_of own.now)) (groups_with (groups_above 0) rest.now kind)) }
@@ -118,8 +117,7 @@ fn push_cards(
     own_ways: u64,
     layer: &mut Layer,
 ) -> Result<(), AllocError>
-    requires few_kinds { length rest.now ≤ 52 }
-    requires few_copies { All (λ n. n ≤ 9) rest.now }
+    requires few_left { AreFew rest.now }
     requires few_ways { own_ways ≤ 729 }
     ensures shown { OnOk result (map seen_of layer.new.shown.items ≡ map seen_of layer.old.shown.items
         ++ map (showing (cards_of own.now)) (groups rest.now 1)) }
@@ -143,7 +141,7 @@ fn push_publics(
     layer: &mut Layer,
 ) -> Result<(), AllocError>
     requires counted { length rest.now ≡ kinds deck.now }
-    requires few_copies { All (λ n. n ≤ 9) rest.now }
+    requires few_left { AreFew rest.now }
     requires small { size ≤ 3 }
     requires few_ways { own_ways ≤ 729 }
     ensures shown { OnOk result (map seen_of layer.new.shown.items ≡ map seen_of layer.old.shown.items
@@ -151,8 +149,6 @@ fn push_publics(
     ensures firsts { layer.new.firsts.items ≡ layer.old.firsts.items }
     ensures edges { OnOk result (layer.new.edges ≡ layer.old.edges ++ map (λ g. own_ways * ways rest.now g) (groups rest.now size)) }
 {
-    // called only for what its contract says
-    let _kinds = deck.kinds();
     if size == 1 {
         return push_cards(rest, &own, own_ways, layer);
     }
@@ -175,7 +171,7 @@ pub(crate) fn push_showings(
     layer: &mut Layer,
 ) -> Result<(), AllocError>
     requires counted { length left.now ≡ kinds deck.now }
-    requires few_copies { All (λ n. n ≤ 9) left.now }
+    requires few_left { AreFew left.now }
     requires small_private { round.now.private ≤ 3 }
     requires small_public { round.now.public ≤ 3 }
     ensures shown { OnOk result (map seen_of layer.new.shown.items ≡ map seen_of layer.old.shown.items ++ showings left.now (round_rules round.now)) }

@@ -3,13 +3,13 @@
 ghost use Rattle.std.specs.Prelude.{◌≡◌, ◌<◌, ◌==◌, ℕ, All, IfOk, MatchOption, count_by, if◌then◌else◌, min};
 ghost use Rattle.std.specs.Int.{bit_at};
 ghost use Rattle.std.specs.Int.RustNames.{bit_and};
-ghost use Rattle.gs_game.specs.{Games.{game_of}, Limits.{IsWithinLimits}};
+ghost use Rattle.gs_game.specs.Games.{game_of};
 ghost use Rattle.gs_model.specs.Game.{round_count};
-ghost use Rattle.gs_tree.specs.{Kept.{AreKeptCards}, Masks.{AreMasks, HasMasks}, Walk.{last_count}};
+ghost use Rattle.gs_tree.specs.{Kept.{AreHands}, Masks.{AreMasks, HasMasks}, Walk.{last_count}};
 
 use crate::kept::{Hands, part};
 use gs_card::Card;
-use gs_game::{Game, are_single};
+use gs_game::{ValidGame, are_single};
 use std::alloc::{AllocError, Global};
 
 /// Returns some cards as bits: a bit is set exactly where the card with its number is among them.
@@ -28,16 +28,14 @@ pub(crate) fn mask_of(cards: &[Card]) -> u64
 /// Fails only if memory runs out.
 pub(crate) fn masks_of(
     alloc: Global,
-    game: &Game,
+    valid: &ValidGame,
     hands: &Hands,
 ) -> Result<Option<Vec<u64>>, AllocError>
-    requires hands { AreKeptCards (game_of game.now) (round_count (game_of game.now)) hands.now.paths hands.now.owns.items hands.now.publics.items hands.now.own
-        hands.now.public }
-    requires limits { IsWithinLimits (game_of game.now) }
-    ensures { IfOk result (λ m. MatchOption m (HasMasks (game_of game.now) → last_count (game_of game.now) ≡ 0)
-        (λ v. AreMasks (game_of game.now) v.items)) }
+    requires hands { AreHands (game_of valid.now.game) (round_count (game_of valid.now.game)) hands.now }
+    ensures { IfOk result (λ m. MatchOption m (HasMasks (game_of valid.now.game) → last_count (game_of valid.now.game) ≡ 0)
+        (λ v. AreMasks (game_of valid.now.game) v.items)) }
 {
-    let copies = game.deck.counts();
+    let copies = valid.game.deck.counts();
     if hands.own <= 1 || !are_single(copies) {
         return Ok(None);
     }

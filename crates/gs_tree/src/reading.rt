@@ -10,7 +10,7 @@ ghost use Rattle.gs_tree.specs.{Shown.{cards_of, seen_of}, Tables.{AreTables}, T
 use crate::layer::Shown;
 use crate::tables::Tables;
 use gs_card::{Card, Deck};
-use gs_game::Game;
+use gs_game::ValidGame;
 
 /// Returns what follows a byte at the beginning of a text.
 fn after_byte(text: &[u8], byte: u8) -> Option<&[u8]>
@@ -64,44 +64,43 @@ fn after_seen<'t>(text: &'t [u8], deck: &Deck, shown: &Shown) -> Option<&'t [u8]
 /// Returns what follows the text of a signal at the beginning of a text.
 fn after_signal<'t>(
     text: &'t [u8],
-    game: &Game,
+    valid: &ValidGame,
     tables: &Tables,
     round: usize,
     signal: u32,
 ) -> Option<&'t [u8]>
-    requires tables { AreTables (game_of game.now) tables.now.parents.items tables.now.layers.items }
+    requires tables { AreTables (game_of valid.now.game) tables.now.parents.items tables.now.layers.items }
     requires some { 0 < round }
     requires round_in { round ≤ length tables.now.layers.items }
-    requires signal_in { signal < length (signals (game_of game.now) round) }
-    ensures { IsRest text.now (signal_text game.now.deck (signal_at (game_of game.now) round signal)) result }
+    requires signal_in { signal < length (signals (game_of valid.now.game) round) }
+    ensures { IsRest text.now (signal_text valid.now.game.deck (signal_at (game_of valid.now.game) round signal)) result }
 {
-    let _kinds = game.deck.kinds();
     let layer = &tables.layers[round - 1];
     let shown = &layer.shown[signal as usize];
     if round == 1 {
-        return after_seen(text, &game.deck, shown);
+        return after_seen(text, &valid.game.deck, shown);
     }
     let parent = tables.parents[round - 1][signal as usize];
-    let rest = after_signal(text, game, tables, round - 1, parent)?;
+    let rest = after_signal(text, valid, tables, round - 1, parent)?;
     let rest = after_byte(rest, b'/')?;
-    after_seen(rest, &game.deck, shown)
+    after_seen(rest, &valid.game.deck, shown)
 }
 
 /// Returns whether a text is the text of a signal.
 pub(crate) fn is_text_of(
     text: &[u8],
-    game: &Game,
+    valid: &ValidGame,
     tables: &Tables,
     round: usize,
     signal: u32,
 ) -> bool
-    requires tables { AreTables (game_of game.now) tables.now.parents.items tables.now.layers.items }
+    requires tables { AreTables (game_of valid.now.game) tables.now.parents.items tables.now.layers.items }
     requires some { 0 < round }
     requires round_in { round ≤ length tables.now.layers.items }
-    requires signal_in { signal < length (signals (game_of game.now) round) }
-    ensures { Decides result (text.now ≡ signal_text game.now.deck (signal_at (game_of game.now) round signal)) }
+    requires signal_in { signal < length (signals (game_of valid.now.game) round) }
+    ensures { Decides result (text.now ≡ signal_text valid.now.game.deck (signal_at (game_of valid.now.game) round signal)) }
 {
-    match after_signal(text, game, tables, round, signal) {
+    match after_signal(text, valid, tables, round, signal) {
         Some(rest) => rest.is_empty(),
         None => false,
     }

@@ -54,7 +54,7 @@ pub fn parents_of(alloc: Global, game: &ValidGame) -> Result<Vec<Vec<u32>>, Allo
     ensures { IfOk result (λ v. map (λ p. p.items) v.items
         ≡ map (parents_in (game_of game.now.game)) (range_with_len 1 (round_count (game_of game.now.game)))) }
 {
-    Ok(Tables::of(alloc, game.game())?.parents)
+    Ok(Tables::of(alloc, game)?.parents)
 }
 
 impl<'g> Signals<'g> {
@@ -65,19 +65,18 @@ impl<'g> Signals<'g> {
     ghost use Rattle.gs_model.specs.Signals.{signals, parents as parents_in, signal_at, child_count, first_child, last_edge, left_by, own_cards, public_cards};
     ghost use Rattle.gs_model.specs.{ViewTree.{signal_strength}, Deals.{Deal as Dealt, deals, own_ways, path_weight}};
     ghost use Rattle.gs_tree.specs.{Boards.{AreBoards}, Masks.{AreMasks, HasMasks}, Plain.{IsPlain}, Texts.{signal_text}, Trees.{rules_of, deck_of}};
-    ghost use Rattle.gs_tree.specs.Walk.{deal_at, last_count, shows_same, IsNextPair, IsRowStart};
-    ghost use Rattle.gs_card.specs.Decks.{IsDeck};
+    ghost use Rattle.gs_tree.specs.Walk.{deal_at, last_count, IsNextPair, IsPair, IsRowStart};
 
     /// Returns the signals of a valid game. Fails only if memory runs out.
     pub fn of(alloc: Global, game: &'g ValidGame) -> Result<Signals<'g>, AllocError>
         ensures { IfOk result (λ s. s.game.now ≡ game.entry.now) }
     {
-        let tables = Tables::of(alloc, game.game())?;
-        let hands = gather(alloc, game.game(), &tables)?;
-        let strengths = strengths(alloc, game.game(), &hands)?;
-        let boards = link_boards(alloc, game.game(), &hands)?;
-        let plain = is_plain(game.game(), &hands);
-        let masks = masks_of(alloc, game.game(), &hands)?;
+        let tables = Tables::of(alloc, game)?;
+        let hands = gather(alloc, game, &tables)?;
+        let strengths = strengths(alloc, game, &hands)?;
+        let boards = link_boards(alloc, game, &hands)?;
+        let plain = is_plain(game, &hands);
+        let masks = masks_of(alloc, game, &hands)?;
         Ok(Signals {
             game,
             tables,
@@ -91,13 +90,9 @@ impl<'g> Signals<'g> {
 
     // Returns the deck of the game.
     fn deck(&self) -> &'g Deck
-        ensures deck { result.now ≡ deck_of self.now }
-        ensures valid { IsDeck (deck_of self.now) }
+        ensures { result.now ≡ deck_of self.now }
     {
-        let deck = &self.game.game().deck;
-        // called only for what its contract says
-        let _kinds = deck.kinds();
-        deck
+        &self.game.game().deck
     }
 
     /// Returns the game whose signals these are.
@@ -225,7 +220,7 @@ impl<'g> Signals<'g> {
     pub fn is_plain(&self) -> bool
         ensures { MatchBool result (IsPlain (rules_of self.now)) (IsPlain (rules_of self.now) → last_count (rules_of self.now) ≡ 0) }
     {
-        is_plain(self.game.game(), &self.hands)
+        is_plain(self.game, &self.hands)
     }
 
     /// Returns the text of a signal: a part for each round, joined by `/`. A part has the own cards and then, if there are any, `+` and the public cards.
@@ -238,7 +233,7 @@ impl<'g> Signals<'g> {
     {
         let mut text = String::new(alloc);
         self.tables
-            .push_signal(&mut text, self.game.game(), usize::from(round), signal)?;
+            .push_signal(&mut text, self.game, usize::from(round), signal)?;
         Ok(text)
     }
 
@@ -277,11 +272,9 @@ impl<'g> Signals<'g> {
         ensures only { (i : ℕ) → i < length (signals (rules_of self.now) round)
             → text.now ≡ signal_text (deck_of self.now) (signal_at (rules_of self.now) round i) → result ≡ Some i }
     {
-        let game = self.game.game();
-        let _deck = self.deck();
         let bytes = text.as_bytes();
         for signal in 0..self.count(round) {
-            if is_text_of(bytes, game, &self.tables, usize::from(round), signal) {
+            if is_text_of(bytes, self.game, &self.tables, usize::from(round), signal) {
                 return Some(signal);
             }
         }
@@ -298,9 +291,7 @@ impl<'g> Signals<'g> {
 
     // Returns the deal of two last-round signals that show the same public cards; it weighs 0 where it is impossible.
     pub(crate) fn deal(&self, one: u32, two: u32) -> Deal
-        requires one_in { one < last_count (rules_of self.now) }
-        requires two_in { two < last_count (rules_of self.now) }
-        requires same { shows_same (rules_of self.now) one two ≡ true }
+        requires { IsPair (rules_of self.now) one two }
         ensures { result ≡ deal_at (rules_of self.now) one two }
     {
         let game = self.game.game();
@@ -362,9 +353,7 @@ impl<'g> Signals<'g> {
 
     // Returns the number of ways to deal these two last-round signals.
     fn weight(&self, one: u32, two: u32) -> u64
-        requires one_in { one < last_count (rules_of self.now) }
-        requires two_in { two < last_count (rules_of self.now) }
-        requires same { shows_same (rules_of self.now) one two ≡ true }
+        requires { IsPair (rules_of self.now) one two }
         ensures { result ≡ (deal_at (rules_of self.now) one two).weight }
     {
         if self.plain {
@@ -389,9 +378,7 @@ impl<'g> Signals<'g> {
 
     // Returns the next pair of signals that show the same public cards, row by row.
     pub(crate) fn next_pair(&self, one: u32, two: u32) -> (u32, u32)
-        requires one_in { one < last_count (rules_of self.now) }
-        requires two_in { two < last_count (rules_of self.now) }
-        requires same { shows_same (rules_of self.now) one two ≡ true }
+        requires { IsPair (rules_of self.now) one two }
         ensures { IsNextPair (rules_of self.now) one two result.0 result.1 }
     {
         let next = self.boards.nexts[two as usize];

@@ -1,17 +1,17 @@
 //! The tables of all signals of a game.
 
 ghost use Rattle.std.specs.Prelude.{◌≡◌, ◌≤◌, ◌<◌, ◌+◌, suc, [], ◌++◌, ◌/◌, ◌∷◌, All, IfOk, OnOk, length, map, string_bytes};
-ghost use Rattle.gs_game.specs.{Games.{game_of, round_rules}, Limits.{IsDealable, IsWithinLimits}};
-ghost use Rattle.gs_model.specs.{Game.{round_at, round_count}, Signals.{signals, signal_at, left_by}};
+ghost use Rattle.gs_game.specs.Games.{game_of, round_rules};
+ghost use Rattle.gs_model.specs.{Game.{round_count}, Signals.{signals, signal_at, left_by}};
 ghost use Rattle.gs_model.specs.{Signals.{edge, parents as parents_in, showings}, Cards.{ways, left_after}};
 ghost use Rattle.gs_card.specs.Decks.{IsDeck, kinds};
-ghost use Rattle.gs_tree.specs.{Texts.{signal_text}, Tables.{AreTables, IsLayer, shown_in}};
+ghost use Rattle.gs_tree.specs.{Layers.{AreFew}, Texts.{signal_text}, Tables.{AreTables, IsLayer, IsNext, shown_in}};
 
 use crate::layer::{Layer, push_showings, take_cards};
 use crate::texts::push_seen;
 use crate::ways::Ways;
 use gs_card::{Card, Deck, times};
-use gs_game::{Game, Round};
+use gs_game::{Round, ValidGame};
 use std::alloc::{AllocError, Global};
 
 /// The signals of one round, each with its parent.
@@ -55,7 +55,7 @@ fn push_children(
     grown: &mut Grown,
 ) -> Result<(), AllocError>
     requires counted { length left.now ≡ kinds deck.now }
-    requires few_copies { All (λ n. n ≤ 9) left.now }
+    requires few_left { AreFew left.now }
     requires private { next.now.private ≤ 3 }
     requires public { next.now.public ≤ 3 }
     requires long { length grown.old.parents.items ≡ length grown.old.layer.shown.items }
@@ -80,19 +80,17 @@ pub(crate) struct Tables {
 
 impl Tables {
     /// Returns the tables of all signals of a game. Fails only if memory runs out.
-    pub(crate) fn of(alloc: Global, game: &Game) -> Result<Tables, AllocError>
-        requires limits { IsWithinLimits (game_of game.now) }
-        requires dealable { IsDealable (game_of game.now) }
-        ensures tables { IfOk result (λ t. AreTables (game_of game.now) t.parents.items t.layers.items) }
-        ensures all { IfOk result (λ t. length t.layers.items ≡ round_count (game_of game.now)) }
+    pub(crate) fn of(alloc: Global, valid: &ValidGame) -> Result<Tables, AllocError>
+        ensures tables { IfOk result (λ t. AreTables (game_of valid.now.game) t.parents.items t.layers.items) }
+        ensures all { IfOk result (λ t. length t.layers.items ≡ round_count (game_of valid.now.game)) }
     {
         let mut tables = Tables {
             parents: Vec::new(alloc),
             layers: Vec::new(alloc),
         };
         let mut count = 1u32;
-        for next in &game.rounds {
-            let Grown { parents, layer } = tables.grow(alloc, game, count, next)?;
+        for next in &valid.game.rounds {
+            let Grown { parents, layer } = tables.grow(alloc, valid, count, next)?;
             count = parents.len() as u32;
             tables.parents.push(parents)?;
             tables.layers.push(layer)?;
@@ -104,23 +102,23 @@ impl Tables {
     fn copies_left(
         &self,
         alloc: Global,
-        game: &Game,
+        valid: &ValidGame,
         round: usize,
         signal: u32,
     ) -> Result<Vec<u8>, AllocError>
-        requires tables { AreTables (game_of game.now) self.now.parents.items self.now.layers.items }
+        requires tables { AreTables (game_of valid.now.game) self.now.parents.items self.now.layers.items }
         requires round_in { round ≤ length self.now.layers.items }
-        requires signal_in { signal < length (signals (game_of game.now) round) }
-        ensures left { IfOk result (λ left. left.items ≡ left_by (game_of game.now).copies (signal_at (game_of game.now) round signal)) }
+        requires signal_in { signal < length (signals (game_of valid.now.game) round) }
+        ensures left { IfOk result (λ left. left.items ≡ left_by (game_of valid.now.game).copies (signal_at (game_of valid.now.game) round signal)) }
         ensures few { IfOk result (λ left. All (λ n. n ≤ 9) left.items) }
-        ensures len { IfOk result (λ left. length left.items ≡ length (game_of game.now).copies) }
+        ensures len { IfOk result (λ left. length left.items ≡ length (game_of valid.now.game).copies) }
     {
         if round == 0 {
-            return Vec::from_slice(alloc, game.deck.counts());
+            return Vec::from_slice(alloc, valid.game.deck.counts());
         }
         let shown = &self.layers[round - 1].shown[signal as usize];
         let parent = self.parents[round - 1][signal as usize];
-        let mut left = self.copies_left(alloc, game, round - 1, parent)?;
+        let mut left = self.copies_left(alloc, valid, round - 1, parent)?;
         take_cards(&mut left, shown.own.cards());
         take_cards(&mut left, shown.public.cards());
         Ok(left)
@@ -130,29 +128,24 @@ impl Tables {
     fn push_round(
         &self,
         alloc: Global,
-        game: &Game,
+        valid: &ValidGame,
         count: u32,
         next: &Round,
         grown: &mut Grown,
     ) -> Result<(), AllocError>
-        requires deck { IsDeck game.now.deck }
-        requires tables { AreTables (game_of game.now) self.now.parents.items self.now.layers.items }
-        requires counted { count ≡ length (signals (game_of game.now) (length self.now.layers.items)) }
-        requires round { round_rules next.now ≡ round_at (game_of game.now) (suc (length self.now.layers.items)) }
-        requires few { length (signals (game_of game.now) (suc (length self.now.layers.items))) ≤ 200000 }
-        requires private { next.now.private ≤ 3 }
-        requires public { next.now.public ≤ 3 }
+        requires tables { AreTables (game_of valid.now.game) self.now.parents.items self.now.layers.items }
+        requires next { IsNext (game_of valid.now.game) (length self.now.layers.items) count (round_rules next.now) }
         requires no_parents { grown.old.parents.items ≡ [] }
         requires no_shown { grown.old.layer.shown.items ≡ [] }
         requires no_edges { grown.old.layer.edges ≡ [] }
         requires no_firsts { grown.old.layer.firsts.items ≡ [] }
-        ensures parents { OnOk result (grown.new.parents.items ≡ parents_in (game_of game.now) (suc (length self.now.layers.items))) }
-        ensures layer { OnOk result (IsLayer (game_of game.now) (length self.now.layers.items) grown.new.layer) }
+        ensures parents { OnOk result (grown.new.parents.items ≡ parents_in (game_of valid.now.game) (suc (length self.now.layers.items))) }
+        ensures layer { OnOk result (IsLayer (game_of valid.now.game) (length self.now.layers.items) grown.new.layer) }
     {
         let round = self.layers.len();
         for parent in 0..count {
-            let left = self.copies_left(alloc, game, round, parent)?;
-            push_children(alloc, &game.deck, &left, next, parent, grown)?;
+            let left = self.copies_left(alloc, valid, round, parent)?;
+            push_children(alloc, &valid.game.deck, &left, next, parent, grown)?;
         }
         grown.layer.firsts.push(grown.layer.shown.len() as u32)?;
         Ok(())
@@ -162,22 +155,18 @@ impl Tables {
     fn grow(
         &self,
         alloc: Global,
-        game: &Game,
+        valid: &ValidGame,
         count: u32,
         next: &Round,
     ) -> Result<Grown, AllocError>
-        requires tables { AreTables (game_of game.now) self.now.parents.items self.now.layers.items }
-        requires counted { count ≡ length (signals (game_of game.now) (length self.now.layers.items)) }
-        requires round { round_rules next.now ≡ round_at (game_of game.now) (suc (length self.now.layers.items)) }
-        requires few { length (signals (game_of game.now) (suc (length self.now.layers.items))) ≤ 200000 }
-        requires private { next.now.private ≤ 3 }
-        requires public { next.now.public ≤ 3 }
-        ensures parents { IfOk result (λ grown. grown.parents.items ≡ parents_in (game_of game.now) (suc (length self.now.layers.items))) }
-        ensures layer { IfOk result (λ grown. IsLayer (game_of game.now) (length self.now.layers.items) grown.layer) }
+        requires tables { AreTables (game_of valid.now.game) self.now.parents.items self.now.layers.items }
+        requires next { IsNext (game_of valid.now.game) (length self.now.layers.items) count (round_rules next.now) }
+        ensures parents { IfOk result (λ grown. grown.parents.items ≡ parents_in (game_of valid.now.game) (suc (length self.now.layers.items))) }
+        ensures layer { IfOk result (λ grown. IsLayer (game_of valid.now.game) (length self.now.layers.items) grown.layer) }
     {
-        let room = room_for(count, game.deck.kinds());
+        let room = room_for(count, valid.game.deck.kinds());
         let mut grown = none_grown(alloc, room, count as usize + 1)?;
-        self.push_round(alloc, game, count, next, &mut grown)?;
+        self.push_round(alloc, valid, count, next, &mut grown)?;
         Ok(grown)
     }
 
@@ -185,27 +174,26 @@ impl Tables {
     pub(crate) fn push_signal(
         &self,
         text: &mut String,
-        game: &Game,
+        valid: &ValidGame,
         round: usize,
         signal: u32,
     ) -> Result<(), AllocError>
-        requires tables { AreTables (game_of game.now) self.now.parents.items self.now.layers.items }
+        requires tables { AreTables (game_of valid.now.game) self.now.parents.items self.now.layers.items }
         requires some { 0 < round }
         requires round_in { round ≤ length self.now.layers.items }
-        requires signal_in { signal < length (signals (game_of game.now) round) }
-        ensures { OnOk result (string_bytes text.new ≡ string_bytes text.old ++ signal_text game.now.deck (signal_at (game_of game.now) round signal)) }
+        requires signal_in { signal < length (signals (game_of valid.now.game) round) }
+        ensures { OnOk result (string_bytes text.new ≡ string_bytes text.old ++ signal_text valid.now.game.deck
+            (signal_at (game_of valid.now.game) round signal)) }
     {
-        // called only for what its contract says
-        let _kinds = game.deck.kinds();
         let layer = &self.layers[round - 1];
         let shown = &layer.shown[signal as usize];
         if round == 1 {
-            return push_seen(text, &game.deck, shown);
+            return push_seen(text, &valid.game.deck, shown);
         }
         let parent = self.parents[round - 1][signal as usize];
-        self.push_signal(text, game, round - 1, parent)?;
+        self.push_signal(text, valid, round - 1, parent)?;
         text.push('/')?;
-        push_seen(text, &game.deck, shown)
+        push_seen(text, &valid.game.deck, shown)
     }
 }
 
@@ -229,12 +217,12 @@ pub(crate) fn ways_beside(
     before: &[Card],
     own: &[Card],
 ) -> u64
+    requires deck { IsDeck deck.now }
     requires own_in { All (λ card. card < kinds deck.now) own.now }
     requires own_few { length own.now ≤ 3 }
     ensures value { result ≡ ways (left_after (left_after (left_after deck.now.counts held.now) board.now) before.now) own.now }
     ensures small { result ≤ 729 }
 {
-    let _kinds = deck.kinds();
     let mut ways: u64 = 1;
     for (i, card) in own.iter().enumerate() {
         let again = times(&own[..i], *card);

@@ -10,13 +10,13 @@ pub part-requires : goal.part-requires
 part-requires c =
     let h = c.args.hands.now in
     let P : List ℕ → Type 0 = λ x. c.args.signal * h.public + h.public ≤ length x in
-    subst P (sym c.deref.ensures.value) (public_room (game_of c.args.game.now) (round_count (game_of c.args.game.now)) h.paths h.owns.items h.publics.items
-    h.own h.public c.requires.hands c.args.signal c.requires.signal_in)
+    subst P (sym c.deref.ensures.value) (public_room (game_of c.args.valid.now.game) (round_count (game_of c.args.valid.now.game)) h.paths h.owns.items
+    h.publics.items h.own h.public c.requires.hands c.args.signal c.requires.signal_in)
 
 -- the part is the signal's public cards
-shown : (c : After-part) → let g = game_of c.args.game.now in c.part.result.now ≡ public_cards (signal_at g (round_count g) c.args.signal)
+shown : (c : After-part) → let g = game_of c.args.valid.now.game in c.part.result.now ≡ public_cards (signal_at g (round_count g) c.args.signal)
 shown c =
-    let g : Game = game_of c.args.game.now in
+    let g : Game = game_of c.args.valid.now.game in
     let h = c.args.hands.now in
     c.part.ensures ∙ ap (λ (x : List ℕ). take h.public (drop (c.args.signal * h.public) x)) c.deref.ensures.value
     ∙ public_part g (round_count g) h.paths h.owns.items h.publics.items h.own h.public c.requires.hands c.args.signal c.requires.signal_in
@@ -33,8 +33,8 @@ code-requires-clause-few_cards c =
 
 pub code-requires-clause-of_deck : goal.code-requires-clause-of_deck
 code-requires-clause-of_deck c =
-    let g : Game = game_of c.args.game.now in
-    let d : DeckValue = c.args.game.now.deck in
+    let g : Game = game_of c.args.valid.now.game in
+    let d : DeckValue = c.args.valid.now.game.deck in
     let h = c.args.hands.now in
     let board = shown_board g d h.paths h.owns.items h.publics.items h.own h.public c.args.signal c.kinds.ensures.deck refl c.requires.hands
     c.requires.signal_in in
@@ -46,4 +46,4 @@ pub returns : goal.returns
 returns c =
     c.code.ensures
     ∙ ap (λ k. code_behind k 0 c.part.result.now) (c.from-kinds.ensures ∙ c.kinds.ensures.number)
-    ∙ ap (code_behind (kinds c.args.game.now.deck) 0) (shown (goal.at.returns c).After-part)
+    ∙ ap (code_behind (kinds c.args.valid.now.game.deck) 0) (shown (goal.at.returns c).After-part)

@@ -4,21 +4,17 @@ use lib.Pointwise.{pointwise}
 use Rattle.gs_model.specs.{Game.{Game, round_count}, Signals.{public_cards, signal_at}}
 use Rattle.gs_game.specs.Games.{game_of}
 use Rattle.gs_tree.specs.Walk.{last_count}
-use Rattle.gs_tree.proofs.{Linked.{are_boards, last_in, last_place, linked_more, start_linked}, Parts.{paths_long}, boards.link_by_map.Goals.{After-len-count}}
+use Rattle.gs_tree.proofs.{Linked.{are_boards, last_in, last_place, linked_more, start_linked}, Parts.{hands_counted}}
+use Rattle.gs_tree.proofs.boards.link_by_map.Goals.{After-len-count}
 use Rattle.gs_tree.proofs.boards.link_by_map.Goals as goal
 
 -- a place for each signal
-counted : (c : After-len-count) → c.len-count.result ≡ last_count (game_of c.args.game.now)
-counted c = omega (
-  arith,
-  paths_long (game_of c.args.game.now) (round_count (game_of c.args.game.now)) c.args.hands.now.paths c.args.hands.now.owns.items
-      c.args.hands.now.publics.items c.args.hands.now.own c.args.hands.now.public c.requires.hands,
-  c.len-count.ensures,
-)
+counted : (c : After-len-count) → c.len-count.result ≡ last_count (game_of c.args.valid.now.game)
+counted c = hands_counted (game_of c.args.valid.now.game) c.args.hands.now c.len-count.result c.requires.hands c.len-count.ensures
 
 pub loop-signal-preserved : goal.loop-signal-preserved
 loop-signal-preserved c =
-    let g : Game = game_of c.args.game.now in
+    let g : Game = game_of c.args.valid.now.game in
     let key : ℕ → List ℕ = λ i. public_cards (signal_at g (round_count g) i) in
     let n : ℕ = c.loop-signal.signal in
     let old = c.loop-signal.boards in
@@ -42,17 +38,17 @@ board_of-requires-clause-signal_in c = omega (arith, counted (goal.at.board_of-r
 pub returns : goal.returns
 returns c =
     let count = counted (goal.at.returns c).After-len-count in
-    are_boards (game_of c.args.game.now) c.loop-signal.signal c.len-count.result c.loop-signal.boards.firsts.items c.loop-signal.boards.nexts.items
+    are_boards (game_of c.args.valid.now.game) c.loop-signal.signal c.len-count.result c.loop-signal.boards.firsts.items c.loop-signal.boards.nexts.items
     c.loop-signal.invariant.linked (omega (arith, count, c.loop-signal.auto.signal-end, c.loop-signal-test.false)) count
 
 pub overflow_cast-count : goal.overflow_cast-count
 overflow_cast-count c =
-    let g : Game = game_of c.args.game.now in
-    omega (arith, counted c, c.requires.limits.signals_in (round_count g) (omega arith))
+    let g : Game = game_of c.args.valid.now.game in
+    omega (arith, counted c, c.args.valid.now.limits.signals_in (round_count g) (omega arith))
 
 pub loop-signal-init : goal.loop-signal-init
 loop-signal-init c =
-    let g : Game = game_of c.args.game.now in
+    let g : Game = game_of c.args.valid.now.game in
     let key : ℕ → List ℕ = λ i. public_cards (signal_at g (round_count g) i) in
     record {
       linked = start_linked key c.len-count.result c.in_ok-boards.boards.firsts.items c.in_ok-boards.boards.nexts.items c.in_ok-boards.ensures.firsts
@@ -64,7 +60,7 @@ pub link-requires : goal.link-requires
 link-requires c = record {
   long = c.loop-signal.invariant.linked.nexts_whole ∙ sym c.loop-signal.invariant.linked.firsts_whole;
   signal_in = omega (arith, c.loop-signal.invariant.linked.firsts_whole, c.loop-signal-test.true);
-  before_in = let g : Game = game_of c.args.game.now in
+  before_in = let g : Game = game_of c.args.valid.now.game in
       let key : ℕ → List ℕ = λ i. public_cards (signal_at g (round_count g) i) in
       let board = c.in_ok-board.board in
       let last : c.in_ok-before.before ≡ last_place key c.loop-signal.signal board.items = c.in_ok-before.ensures.old ∙ c.loop-signal.invariant.found board in

@@ -4,7 +4,7 @@ use Rattle.gs_card.specs.Decks.{kinds}
 use Rattle.gs_game.specs.Games.{game_of}
 use Rattle.gs_tree.specs.Walk.{last_count}
 use Rattle.gs_tree.proofs.Coded.{IsBoardOf, IsTableOf, board_in, none_in_table, shown_board, table_more, table_read}
-use Rattle.gs_tree.proofs.{Linked.{are_boards, last_in, last_place, linked_more, start_linked}, Parts.{paths_long}}
+use Rattle.gs_tree.proofs.{Linked.{are_boards, last_in, last_place, linked_more, start_linked}, Parts.{hands_counted}}
 use Rattle.gs_tree.proofs.boards.link_by_table.Goals.{After-board_code-code, After-len-count, After-seen_last-before, In-loop-signal}
 use Rattle.gs_tree.proofs.boards.link_by_table.Goals as goal
 
@@ -13,44 +13,43 @@ abbrev board : Game → ℕ → List ℕ
 board g i = public_cards (signal_at g (round_count g) i)
 
 -- a place for each signal
-counted : (c : After-len-count) → c.len-count.result ≡ last_count (game_of c.args.game.now)
-counted c = omega (
-  arith,
-  paths_long (game_of c.args.game.now) (round_count (game_of c.args.game.now)) c.args.hands.now.paths c.args.hands.now.owns.items
-      c.args.hands.now.publics.items c.args.hands.now.own c.args.hands.now.public c.requires.hands,
-  c.len-count.ensures,
-)
+counted : (c : After-len-count) → c.len-count.result ≡ last_count (game_of c.args.valid.now.game)
+counted c = hands_counted (game_of c.args.valid.now.game) c.args.hands.now c.len-count.result c.requires.hands c.len-count.ensures
 
 -- the next signal shows a board
-shown : (c : In-loop-signal) → c.len-count.result ≡ last_count (game_of c.args.game.now) → IsBoardOf (kinds c.args.game.now.deck) c.args.hands.now.public
-    (board (game_of c.args.game.now) c.loop-signal.signal)
-shown c count = shown_board (game_of c.args.game.now) c.args.game.now.deck c.args.hands.now.paths c.args.hands.now.owns.items c.args.hands.now.publics.items
+shown : (c : In-loop-signal) → c.len-count.result ≡ last_count (game_of c.args.valid.now.game) → IsBoardOf (kinds c.args.valid.now.game.deck)
+    c.args.hands.now.public
+    (board (game_of c.args.valid.now.game) c.loop-signal.signal)
+shown c count = shown_board (game_of c.args.valid.now.game) c.args.valid.now.game.deck c.args.hands.now.paths c.args.hands.now.owns.items
+    c.args.hands.now.publics.items
     c.args.hands.now.own c.args.hands.now.public c.loop-signal.signal c.kinds.ensures.deck refl c.requires.hands (omega (arith, count, c.loop-signal-test.true))
 
 -- its code has a place in the table
-code_in : (c : After-board_code-code) → IsBoardOf (kinds c.args.game.now.deck) c.args.hands.now.public (board (game_of c.args.game.now) c.loop-signal.signal)
+code_in : (c : After-board_code-code) → IsBoardOf (kinds c.args.valid.now.game.deck) c.args.hands.now.public
+    (board (game_of c.args.valid.now.game) c.loop-signal.signal)
     → c.board_code-code.result < length c.loop-signal.last.items
 code_in c h = omega (
   arith,
-  board_in (kinds c.args.game.now.deck) c.args.hands.now.public (length c.loop-signal.last.items)
-      (board (game_of c.args.game.now) c.loop-signal.signal) h c.loop-signal.invariant.kept.wide,
+  board_in (kinds c.args.valid.now.game.deck) c.args.hands.now.public (length c.loop-signal.last.items)
+      (board (game_of c.args.valid.now.game) c.loop-signal.signal) h c.loop-signal.invariant.kept.wide,
   c.board_code-code.ensures,
 )
 
 -- what stands there is the last signal before that shows this board
-last_before : (c : After-seen_last-before) → IsBoardOf (kinds c.args.game.now.deck) c.args.hands.now.public
-    (board (game_of c.args.game.now) c.loop-signal.signal) → c.seen_last-before.result ≡ last_place (board (game_of c.args.game.now)) c.loop-signal.signal
-    (board (game_of c.args.game.now) c.loop-signal.signal)
+last_before : (c : After-seen_last-before) → IsBoardOf (kinds c.args.valid.now.game.deck) c.args.hands.now.public
+    (board (game_of c.args.valid.now.game) c.loop-signal.signal) → c.seen_last-before.result ≡ last_place (board (game_of c.args.valid.now.game))
+    c.loop-signal.signal
+    (board (game_of c.args.valid.now.game) c.loop-signal.signal)
 last_before c h =
     c.seen_last-before.ensures
-    ∙ table_read (board (game_of c.args.game.now)) c.loop-signal.signal c.len-count.result (kinds c.args.game.now.deck) c.args.hands.now.public
+    ∙ table_read (board (game_of c.args.valid.now.game)) c.loop-signal.signal c.len-count.result (kinds c.args.valid.now.game.deck) c.args.hands.now.public
     c.board_code-code.result c.index.result.now c.loop-signal.last.items c.loop-signal.invariant.kept h c.board_code-code.ensures c.index.ensures
 
 pub loop-signal-init : goal.loop-signal-init
 loop-signal-init c =
-    let g : Game = game_of c.args.game.now in
+    let g : Game = game_of c.args.valid.now.game in
     let key : ℕ → List ℕ = board g in
-    let k : ℕ = kinds c.args.game.now.deck in
+    let k : ℕ = kinds c.args.valid.now.game.deck in
     let wide : c.code_count.result ≡ k ^ c.args.hands.now.public = c.code_count.ensures
     ∙ ap (λ n. n ^ c.args.hands.now.public) (c.from-kinds.ensures ∙ c.kinds.ensures.number) in
     record {
@@ -76,9 +75,9 @@ index_mut-requires c =
 pub loop-signal-preserved : goal.loop-signal-preserved
 loop-signal-preserved c =
     let w = goal.at.loop-signal-preserved c in
-    let key : ℕ → List ℕ = board (game_of c.args.game.now) in
+    let key : ℕ → List ℕ = board (game_of c.args.valid.now.game) in
     let n : ℕ = c.loop-signal.signal in
-    let k : ℕ = kinds c.args.game.now.deck in
+    let k : ℕ = kinds c.args.valid.now.game.deck in
     let size : ℕ = c.args.hands.now.public in
     let old = c.loop-signal.boards in
     let here = shown w.In-loop-signal (counted w.After-len-count) in
@@ -94,7 +93,7 @@ loop-signal-preserved c =
 pub returns : goal.returns
 returns c =
     let count = counted (goal.at.returns c).After-len-count in
-    are_boards (game_of c.args.game.now) c.loop-signal.signal c.len-count.result c.loop-signal.boards.firsts.items c.loop-signal.boards.nexts.items
+    are_boards (game_of c.args.valid.now.game) c.loop-signal.signal c.len-count.result c.loop-signal.boards.firsts.items c.loop-signal.boards.nexts.items
     c.loop-signal.invariant.linked (omega (arith, count, c.loop-signal.auto.signal-end, c.loop-signal-test.false)) count
 
 pub overflow_cast-count : goal.overflow_cast-count
@@ -105,7 +104,7 @@ link-requires c = record {
   long = c.loop-signal.invariant.linked.nexts_whole ∙ sym c.loop-signal.invariant.linked.firsts_whole;
   signal_in = omega (arith, c.loop-signal.invariant.linked.firsts_whole, c.loop-signal-test.true);
   before_in = let w = goal.at.link-requires c in
-      let key : ℕ → List ℕ = board (game_of c.args.game.now) in
+      let key : ℕ → List ℕ = board (game_of c.args.valid.now.game) in
       last_in key c.loop-signal.signal (key c.loop-signal.signal) c.seen_last-before.result
       (last_before w.After-seen_last-before (shown w.In-loop-signal (counted w.After-len-count)));
 }

@@ -6,8 +6,8 @@ use Rattle.gs_tree.proofs.boards.link_by_table.Given as goal
 
 abbrev pub invariant-loop-signal : goal.invariant-loop-signal
 invariant-loop-signal l = record {
-  linked : AreBegun (λ i. public_cards (signal_at (game_of l.game) (round_count (game_of l.game)) i)) l.signal l.count l.boards.firsts.items
+  linked : AreBegun (λ i. public_cards (signal_at (game_of l.valid.game) (round_count (game_of l.valid.game)) i)) l.signal l.count l.boards.firsts.items
       l.boards.nexts.items;
-  kept : IsTableOf (λ i. public_cards (signal_at (game_of l.game) (round_count (game_of l.game)) i)) l.signal l.count
-      (kinds l.game.deck) l.hands.public l.last.items;
+  kept : IsTableOf (λ i. public_cards (signal_at (game_of l.valid.game) (round_count (game_of l.valid.game)) i)) l.signal l.count
+      (kinds l.valid.game.deck) l.hands.public l.last.items;
 }

@@ -7,7 +7,7 @@ use Rattle.gs_tree.proofs.kept.next_hands.Goals as goal
 
 pub returns : goal.returns
 returns c =
-    let g : Game = game_of c.args.game.now in
+    let g : Game = game_of c.args.valid.now.game in
     let n : ℕ = suc c.args.round in
     let ss : List Signal = signals g n in
     let count : length c.in_ok-paths.paths ≡ length ss = ap (λ (x : List ℕ). length x) c.in_ok-paths.ensures ∙ length-map ss (path_weight g.copies) in

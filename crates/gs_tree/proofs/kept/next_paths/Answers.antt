@@ -15,16 +15,18 @@ within c =
 
 -- what the tables tell of it
 known : (c : After-index-in-loop-signal) → c.loop-signal.signal < length c.index.result.now.shown.items
-    → IsTold (game_of c.args.game.now) c.args.round c.loop-signal.signal c.index-in-loop-signal.result.now c.index-parents.result.now.items c.index.result.now
+    → IsTold (game_of c.args.valid.now.game) c.args.round c.loop-signal.signal c.index-in-loop-signal.result.now c.index-parents.result.now.items
+    c.index.result.now
 known c m = told_at c.requires.tables c.requires.round_in
     c.index-parents.result.now c.index.result.now c.loop-signal.signal c.index-in-loop-signal.result.now c.index-parents.ensures c.index.ensures m
     c.index-in-loop-signal.ensures
 
 -- the ways to its parent
-path : (c : After-of-path) → c.index-in-loop-signal.result.now < length (signals (game_of c.args.game.now) c.args.round)
-    → c.of-path.result ≡ path_weight (game_of c.args.game.now).copies (signal_at (game_of c.args.game.now) c.args.round c.index-in-loop-signal.result.now)
+path : (c : After-of-path) → c.index-in-loop-signal.result.now < length (signals (game_of c.args.valid.now.game) c.args.round)
+    → c.of-path.result ≡ path_weight (game_of c.args.valid.now.game).copies (signal_at (game_of c.args.valid.now.game) c.args.round
+    c.index-in-loop-signal.result.now)
 path c m =
-    let g : Game = game_of c.args.game.now in
+    let g : Game = game_of c.args.valid.now.game in
     c.of-path.ensures ∙ ap (λ (x : List ℕ). get_or x c.index-in-loop-signal.result.now 0) c.requires.before
     ∙ get_or-map (path_weight g.copies) (signals g c.args.round) c.index-in-loop-signal.result.now [] 0 m
 
@@ -40,7 +42,7 @@ index-requires-in-loop-signal c =
 pub of-path-requires : goal.of-path-requires
 of-path-requires c =
     let w = goal.at.of-path-requires c in
-    let g : Game = game_of c.args.game.now in
+    let g : Game = game_of c.args.valid.now.game in
     omega (
       arith,
       (known w.After-index-in-loop-signal (within w.In-loop-signal)).parent_in,
@@ -53,15 +55,15 @@ pub overflow_mul-path : goal.overflow_mul-path
 overflow_mul-path c =
     let w = goal.at.overflow_mul-path c in
     let h = known w.After-index-in-loop-signal (within w.In-loop-signal) in
-    let fits = path_fits (game_of c.args.game.now) c.args.round c.loop-signal.signal c.index-in-loop-signal.result.now c.of-path.result c.of.result
-    c.requires.dealable c.kinds-kinds.ensures.deck.copies (omega (arith, c.requires.round_in, c.requires.all)) c.requires.limits.few_rounds h.here
+    let fits = path_fits (game_of c.args.valid.now.game) c.args.round c.loop-signal.signal c.index-in-loop-signal.result.now c.of-path.result c.of.result
+    c.args.valid.now.dealable c.args.valid.now.deck.copies (omega (arith, c.requires.round_in, c.requires.all)) c.args.valid.now.limits.few_rounds h.here
     h.parent_in (path w.After-of-path h.parent_in) (c.of.ensures ∙ h.edge_is) in
     omega (arith, fits)
 
 pub loop-signal-preserved : goal.loop-signal-preserved
 loop-signal-preserved c =
     let w = goal.at.loop-signal-preserved c in
-    let g : Game = game_of c.args.game.now in
+    let g : Game = game_of c.args.valid.now.game in
     let n : ℕ = c.args.round in
     let h = known w.After-index-in-loop-signal (within w.In-loop-signal) in
     let value : c.of-path.result * c.of.result ≡ path_weight g.copies (signal_at g (suc n) c.loop-signal.signal) =
@@ -72,7 +74,7 @@ loop-signal-preserved c =
 
 pub returns-in-Some-Some : goal.returns-in-Some-Some
 returns-in-Some-Some c =
-    let g : Game = game_of c.args.game.now in
+    let g : Game = game_of c.args.valid.now.game in
     let t = c.args.tables.now in
     let ones = c.in-Some-Some in
     c.all_ones.ensures ∙ one_way g t.parents.items t.layers.items c.args.round c.requires.tables c.requires.round_in c.index-parents.result.now

@@ -1,15 +1,15 @@
-use Rattle.std.proofs.Common.{◌≡◌, ◌<◌, ◌++◌, ◌∷◌, ℕ, List, [], suc, length, take_all, get_or, ap, ◌∙◌, append_assoc, arith}
+use Rattle.std.proofs.Common.{◌≡◌, ◌<◌, ◌++◌, ◌∷◌, ℕ, List, [], suc, length, get_or, ap, ◌∙◌, append_assoc, arith}
 use Rattle.std.proofs.lemmas.Grind.{get_or_default_zero}
 use Rattle.std.specs.Prelude.{flat_map}
 use Rattle.gs_game.specs.Games.{game_of}
 use Rattle.gs_model.specs.{Game.{Game}, Signals.{Seen, Signal, signal_at, signals}}
 use Rattle.gs_tree.specs.{Layers.{last_seen}, Shown.{cards_on, seen_of, seen_on}, declared.layer.Shown.{Shown}}
-use Rattle.gs_tree.proofs.{Parts.{kept_long, kept_part}, Pushed.{joined_more}, Rounds.{IsTold, layer_long, row_covers, shown_at, told_at}, Piles.{paired}}
+use Rattle.gs_tree.proofs.{Parts.{kept_long, kept_part}, Pushed.{joined_more}, Rounds.{IsTold, all_shown, row_covers, shown_at, told_at}, Piles.{paired}}
 use Rattle.gs_tree.proofs.kept.paired_cards.Goals.{After-index-in-loop-signal, After-on}
 use Rattle.gs_tree.proofs.kept.paired_cards.Goals as goal
 
 -- what the tables tell of the signal
-known : (c : After-index-in-loop-signal) → IsTold (game_of c.args.game.now) c.args.round c.loop-signal.signal c.index-in-loop-signal.result.now
+known : (c : After-index-in-loop-signal) → IsTold (game_of c.args.valid.now.game) c.args.round c.loop-signal.signal c.index-in-loop-signal.result.now
     c.index-parents.result.now.items c.index.result.now
 known c = told_at c.requires.tables c.requires.round_in
     c.index-parents.result.now c.index.result.now c.loop-signal.signal c.index-in-loop-signal.result.now c.index-parents.ensures c.index.ensures
@@ -20,12 +20,13 @@ parent_in : (c : After-index-in-loop-signal) → c.index-in-loop-signal.result.n
 parent_in c = omega (
   arith,
   (known c).parent_in,
-  kept_long (cards_on c.args.pile) 1 (signals (game_of c.args.game.now) c.args.round) c.args.before.now
+  kept_long (cards_on c.args.pile) 1 (signals (game_of c.args.valid.now.game) c.args.round) c.args.before.now
       c.requires.before c.requires.each,
 )
 
 -- the cards that it shows last
-shown_last : (c : After-on) → c.on.result.now ≡ seen_on c.args.pile (last_seen (signal_at (game_of c.args.game.now) (suc c.args.round) c.loop-signal.signal))
+shown_last : (c : After-on) → c.on.result.now ≡ seen_on c.args.pile (last_seen (signal_at (game_of c.args.valid.now.game) (suc c.args.round)
+    c.loop-signal.signal))
 shown_last c =
     let shown : Shown = c.last-item.result in
     let shows = shown_at c.requires.tables
@@ -53,7 +54,7 @@ bounds-on-0 c =
 pub loop-signal-preserved : goal.loop-signal-preserved
 loop-signal-preserved c =
     let w = goal.at.loop-signal-preserved c in
-    let g : Game = game_of c.args.game.now in
+    let g : Game = game_of c.args.valid.now.game in
     let n : ℕ = c.args.round in
     let i : ℕ = c.loop-signal.signal in
     let p : ℕ = c.index-in-loop-signal.result.now in
@@ -78,14 +79,8 @@ loop-signal-preserved c =
 pub returns : goal.returns
 returns c =
     c.loop-signal.invariant
-    ∙ ap (flat_map (cards_on c.args.pile)) (take_all c.loop-signal.signal (signals (game_of c.args.game.now) (suc c.args.round))
-    (omega (
-      arith,
-      (layer_long c.requires.tables
-          c.requires.round_in c.index.result.now c.index.ensures).0,
-      ap (λ (x : List Shown). length x) c.deref-last-items.ensures.value,
-      c.loop-signal-test.false,
-    )))
+    ∙ ap (flat_map (cards_on c.args.pile)) (all_shown c.requires.tables c.requires.round_in c.index.result.now c.loop-signal.signal c.index.ensures
+    (omega (arith, ap (λ (x : List Shown). length x) c.deref-last-items.ensures.value, c.loop-signal-test.false)))
 
 pub offset_bounds-last-items-signal : goal.offset_bounds-last-items-signal
 offset_bounds-last-items-signal c = omega arith

@@ -70,11 +70,8 @@ few_ways-requires c = record {
   few_cards = let h = item_has (IsGroup c.args.rest.now c.args.size) c.in_ok-groups.field-0.items c.deref-public-items.result.now c.loop-public.public-index
       c.public-item.result c.deref-public-items.ensures.value c.in_ok-groups.ensures.each c.loop-public-test.true c.public-item.is in
       omega (arith, h.sized, c.requires.small);
-  few_copies = c.requires.few_copies;
+  few_copies = c.requires.few_left.copies;
 }
-
-pub push_cards-requires-clause-few_copies : goal.push_cards-requires-clause-few_copies
-push_cards-requires-clause-few_copies c = c.requires.few_copies
 
 pub returns-in_err-push-clause-firsts : goal.returns-in_err-push-clause-firsts
 returns-in_err-push-clause-firsts c = c.loop-public.invariant.firsts

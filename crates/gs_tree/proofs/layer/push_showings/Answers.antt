@@ -4,7 +4,7 @@ use Rattle.std.specs.Prelude.{OnOk, flat_map}
 use Rattle.gs_model.specs.{Cards.{groups, ways, left_after}, Signals.{Seen}}
 use Rattle.gs_card.specs.Groups.{IsGroup}
 use Rattle.gs_game.specs.Games.{round_rules}
-use Rattle.gs_tree.specs.{Layers.{showing}, Shown.{seen_of, cards_of}}
+use Rattle.gs_tree.specs.{Layers.{AreFew, showing}, Shown.{seen_of, cards_of}}
 use Rattle.gs_tree.proofs.Pushed.{item_has, edges_alone, edges_of, joined_more, shown_alone}
 use Rattle.gs_tree.proofs.layer.push_showings.Goals as goal
 
@@ -50,7 +50,10 @@ pub push_publics-requires-in-loop-own : goal.push_publics-requires-in-loop-own
 push_publics-requires-in-loop-own c = record {
   counted = ap (λ (l : List ℕ). length l) c.deref.ensures.value ∙ c.take_cards.ensures.len
       ∙ ap (λ (l : List ℕ). length l) c.in_ok-rest.ensures.items ∙ c.requires.counted;
-  few_copies = subst (All (λ (n : ℕ). n ≤ 9)) (sym c.deref.ensures.value) c.take_cards.ensures.few;
+  few_left = subst AreFew (sym c.deref.ensures.value) (record {
+    kinds = omega (arith, c.take_cards.ensures.len, ap (λ (l : List ℕ). length l) c.in_ok-rest.ensures.items, c.requires.few_left.kinds);
+    copies = c.take_cards.ensures.few;
+  });
   small = c.requires.small_public;
   few_ways = c.few_ways-own_ways.ensures.few;
 }
@@ -65,7 +68,7 @@ of-requires c =
     omega (arith, h.sized, c.requires.small_private)
 
 pub take_cards-requires : goal.take_cards-requires
-take_cards-requires c = subst (All (λ (n : ℕ). n ≤ 9)) (sym c.in_ok-rest.ensures.items) c.requires.few_copies
+take_cards-requires c = subst (All (λ (n : ℕ). n ≤ 9)) (sym c.in_ok-rest.ensures.items) c.requires.few_left.copies
 
 pub few_ways-own_ways-requires : goal.few_ways-own_ways-requires
 few_ways-own_ways-requires c = record {
@@ -74,11 +77,8 @@ few_ways-own_ways-requires c = record {
   few_cards = let h = item_has (IsGroup c.args.left.now c.args.round.now.private) c.in_ok-groups.field-0.items c.deref-own-items.result.now c.loop-own.own-index
       c.own-item.result c.deref-own-items.ensures.value c.in_ok-groups.ensures.each c.loop-own-test.true c.own-item.is in
       omega (arith, h.sized, c.requires.small_private);
-  few_copies = c.requires.few_copies;
+  few_copies = c.requires.few_left.copies;
 }
-
-pub push_publics-requires-clause-few_copies : goal.push_publics-requires-clause-few_copies
-push_publics-requires-clause-few_copies c = grind arith
 
 pub returns : goal.returns
 returns c = record {

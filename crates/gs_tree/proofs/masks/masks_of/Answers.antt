@@ -7,9 +7,9 @@ use Rattle.gs_tree.proofs.{Hands.{dealt}, Linked.{old_read}, Parts.{own_part, ow
 use Rattle.gs_tree.proofs.masks.masks_of.Goals as goal
 
 -- the signal is one of the last round
-here : (c : After-deref) → c.loop-signal.signal < length (signals (game_of c.args.game.now) (round_count (game_of c.args.game.now)))
+here : (c : After-deref) → c.loop-signal.signal < length (signals (game_of c.args.valid.now.game) (round_count (game_of c.args.valid.now.game)))
 here c =
-    let g : Game = game_of c.args.game.now in
+    let g : Game = game_of c.args.valid.now.game in
     let h = c.args.hands.now in
     omega (
       arith,
@@ -19,9 +19,10 @@ here c =
     )
 
 -- the part is its own cards
-own : (c : After-part) → c.part.result.now ≡ own_cards (signal_at (game_of c.args.game.now) (round_count (game_of c.args.game.now)) c.loop-signal.signal)
+own : (c : After-part) → c.part.result.now ≡ own_cards (signal_at (game_of c.args.valid.now.game) (round_count (game_of c.args.valid.now.game))
+    c.loop-signal.signal)
 own c =
-    let g : Game = game_of c.args.game.now in
+    let g : Game = game_of c.args.valid.now.game in
     let h = c.args.hands.now in
     c.part.ensures ∙ ap (λ (x : List ℕ). take h.own (drop (c.loop-signal.signal * h.own) x)) c.deref.ensures.value
     ∙ own_part g (round_count g) h.paths h.owns.items h.publics.items h.own h.public c.requires.hands c.loop-signal.signal
@@ -29,7 +30,7 @@ own c =
 
 pub part-requires : goal.part-requires
 part-requires c =
-    let g : Game = game_of c.args.game.now in
+    let g : Game = game_of c.args.valid.now.game in
     let h = c.args.hands.now in
     let P : List ℕ → Type 0 = λ x. c.loop-signal.signal * h.own + h.own ≤ length x in
     subst P (sym c.deref.ensures.value) (own_room g (round_count g) h.paths h.owns.items h.publics.items h.own h.public c.requires.hands c.loop-signal.signal
@@ -37,7 +38,7 @@ part-requires c =
 
 pub mask_of-requires : goal.mask_of-requires
 mask_of-requires c =
-    let g : Game = game_of c.args.game.now in
+    let g : Game = game_of c.args.valid.now.game in
     let in' = (dealt g (round_count g) c.loop-signal.signal (omega arith) (here (goal.at.mask_of-requires c).After-deref)).own_in in
     let d = c.counts-copies.ensures.deck in
     let P : List ℕ → Type 0 = λ x. All (λ card. card < 64) x in
@@ -46,7 +47,7 @@ mask_of-requires c =
 pub loop-signal-preserved : goal.loop-signal-preserved
 loop-signal-preserved c =
     let w = goal.at.loop-signal-preserved c in
-    let g : Game = game_of c.args.game.now in
+    let g : Game = game_of c.args.valid.now.game in
     let Held : ℕ → ℕ → Type 0 = λ i mask. (card : ℕ)
     → bit_at mask card ≡ min (count_by (λ other. other == card) (own_cards (signal_at g (round_count g) i))) 1 in
     let Q : List ℕ → Type 0 = λ cards. (card : ℕ) → bit_at c.mask_of.result card ≡ min (count_by (λ other. other == card) cards) 1 in

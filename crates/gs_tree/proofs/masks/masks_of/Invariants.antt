@@ -8,5 +8,5 @@ abbrev pub invariant-loop-signal : goal.invariant-loop-signal
 invariant-loop-signal l = record {
   long : length l.masks.items ≡ l.signal;
   held : (i card : ℕ) → i < l.signal → bit_at (slice_index l.masks.items i) card
-      ≡ min (count_by (λ other. other == card) (own_cards (signal_at (game_of l.game) (round_count (game_of l.game)) i))) 1;
+      ≡ min (count_by (λ other. other == card) (own_cards (signal_at (game_of l.valid.game) (round_count (game_of l.valid.game)) i))) 1;
 }

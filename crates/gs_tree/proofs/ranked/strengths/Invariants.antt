@@ -7,6 +7,6 @@ use Rattle.gs_tree.proofs.ranked.strengths.Given as goal
 
 abbrev pub invariant-loop-signal : goal.invariant-loop-signal
 invariant-loop-signal l = record {
-  value : l.found.items ≡ map (signal_strength (game_of l.game)) (take l.signal (signals (game_of l.game) (round_count (game_of l.game))));
-  within : All (IsStrength (ranking_of l.game.ranking)) l.found.items;
+  value : l.found.items ≡ map (signal_strength (game_of l.valid.game)) (take l.signal (signals (game_of l.valid.game) (round_count (game_of l.valid.game))));
+  within : All (IsStrength (ranking_of l.valid.game.ranking)) l.found.items;
 }

@@ -6,7 +6,7 @@ use Rattle.gs_tree.proofs.reading.is_text_of.Goals as goal
 
 pub returns-in-None : goal.returns-in-None
 returns-in-None c =
-    let whole = signal_text c.args.game.now.deck (signal_at (game_of c.args.game.now) c.args.round c.args.signal) in
+    let whole = signal_text c.args.valid.now.game.deck (signal_at (game_of c.args.valid.now.game) c.args.round c.args.signal) in
     (λ e. absurd (true≢false (sym e)), λ e. absurd (c.in-None.ensures [] (e ∙ sym (append-nil whole))))
 
 pub returns-in-Some : goal.returns-in-Some

@@ -18,8 +18,8 @@ overflow_mul-ways c =
     let card : ℕ = c.index-own-i.result in
     let here : card < length counts =
     subst (λ (n : ℕ). n < length counts) (sym c.index-own-i.is) (subst (λ (n : ℕ). get_or c.args.own.now c.loop-i.i card < n)
-    (sym c.kinds-kinds.ensures.deck.counted) (c.requires.own_in c.loop-i.i card c.loop-i-test.true)) in
-    let few : get_or counts card 0 ≤ 9 = c.kinds-kinds.ensures.deck.copies card 0 here in
+    (sym c.requires.deck.counted) (c.requires.own_in c.loop-i.i card c.loop-i-test.true)) in
+    let few : get_or counts card 0 ≤ 9 = c.requires.deck.copies card 0 here in
     let rest : c.saturating_sub-rest.result ≤ 9 =
     four_few _ _ _ _ _ _ _ _ c.times-again.result _ 9 (c.from.ensures ∙ c.count.ensures) c.saturating_sub.ensures c.saturating_sub-in-loop-i.ensures
     c.saturating_sub-in-loop-i-2.ensures c.saturating_sub-rest.ensures few in
@@ -36,7 +36,7 @@ loop-i-preserved c =
     let card : ℕ = c.index-own-i.result in
     let here : card < length counts =
     subst (λ (n : ℕ). n < length counts) (sym c.index-own-i.is) (subst (λ (n : ℕ). get_or own i card < n)
-    (sym c.kinds-kinds.ensures.deck.counted) (c.requires.own_in i card c.loop-i-test.true)) in
+    (sym c.requires.deck.counted) (c.requires.own_in i card c.loop-i-test.true)) in
     let there : card < length left = omega (
       arith,
       here,
@@ -44,7 +44,7 @@ loop-i-preserved c =
       length-after (left_after counts c.args.held.now) c.args.board.now,
       length-after counts c.args.held.now,
     ) in
-    let few : get_or counts card 0 ≤ 9 = c.kinds-kinds.ensures.deck.copies card 0 here in
+    let few : get_or counts card 0 ≤ 9 = c.requires.deck.copies card 0 here in
     let read = beside_read counts c.args.held.now c.args.board.now c.args.before.now card in
     let copies : c.from.result ≡ get_or counts card 0 = c.from.ensures ∙ c.count.ensures in
     let rest : c.saturating_sub-rest.result ≡ get_or left card 0 - c.times-again.result =

@@ -49,9 +49,3 @@ invariant_of-self-then-deal-gt0 c =
 
 pub loop-self-smaller : goal.loop-self-smaller
 loop-self-smaller c = grind arith
-
-pub deal-deal-requires-clause-two_in : goal.deal-deal-requires-clause-two_in
-deal-deal-requires-clause-two_in c = grind arith
-
-pub next_pair-one-requires-clause-two_in : goal.next_pair-one-requires-clause-two_in
-next_pair-one-requires-clause-two_in c = grind arith

@@ -1,6 +1,5 @@
 use Rattle.std.proofs.{Common.{◌≡◌, ◌<◌, ℕ, Some, length, sym, ap, ◌∙◌, ⊎_elim, arith}, lemmas.Bool.{cases_lt, false≢true}}
 use Rattle.gs_model.specs.{Game.{Game}, Signals.{signal_at, signals}}
-use Rattle.gs_game.specs.{Games.{game_of}, declared.game.Game.{Game as Described}}
 use Rattle.gs_tree.specs.{Texts.{signal_text}, Trees.{deck_of, rules_of}}
 use Rattle.gs_tree.proofs.Named.{text_once}
 use Rattle.gs_tree.proofs.signals.Signals.index_of.Goals as goal
@@ -10,10 +9,8 @@ loop-signal-preserved c =
     let g : Game = rules_of c.args.self.now in
     let d = deck_of c.args.self.now in
     let n : ℕ = c.loop-signal.signal in
-    let read : signal_text c.game-game.result.now.deck (signal_at (game_of c.game-game.result.now) c.from.result n)
-    ≡ signal_text d (signal_at g c.args.round n) =
-    ap (λ (x : Described). signal_text x.deck (signal_at (game_of x) c.from.result n)) c.game-game.ensures
-    ∙ ap (λ k. signal_text d (signal_at g k n)) c.from.ensures in
+    let read : signal_text d (signal_at g c.from.result n) ≡ signal_text d (signal_at g c.args.round n) =
+    ap (λ k. signal_text d (signal_at g k n)) c.from.ensures in
     λ k below e. ⊎_elim
     (λ before. c.loop-signal.invariant k before e)
     (λ from.
@@ -24,9 +21,8 @@ loop-signal-preserved c =
 
 pub is_text_of-requires-clause-signal_in : goal.is_text_of-requires-clause-signal_in
 is_text_of-requires-clause-signal_in c =
-    let same : length (signals (game_of c.game-game.result.now) c.from.result) ≡ length (signals (rules_of c.args.self.now) c.args.round) =
-    ap (λ (x : Described). length (signals (game_of x) c.from.result)) c.game-game.ensures
-    ∙ ap (λ k. length (signals (rules_of c.args.self.now) k)) c.from.ensures in
+    let same : length (signals (rules_of c.args.self.now) c.from.result) ≡ length (signals (rules_of c.args.self.now) c.args.round) =
+    ap (λ k. length (signals (rules_of c.args.self.now) k)) c.from.ensures in
     omega (arith, same, c.count-signal-end.ensures.value, c.loop-signal-test.true)
 
 pub returns-clause-only : goal.returns-clause-only
@@ -40,10 +36,10 @@ returns-then-is_text_of c = record {
       let n : ℕ = c.loop-signal.signal in
       let here : c.args.text.now ≡ signal_text d (signal_at g c.args.round n) =
       sym c.as_bytes-bytes.ensures.value ∙ c.is_text_of.ensures.0 c.if-is_text_of.true
-      ∙ ap (λ (x : Described). signal_text x.deck (signal_at (game_of x) c.from.result n)) c.game-game.ensures
       ∙ ap (λ k. signal_text d (signal_at g k n)) c.from.ensures in
       let within : n < length (signals g c.args.round) = omega (arith, c.loop-signal-test.true, c.count-signal-end.ensures.value) in
-      λ i l e. ap Some (text_once g d c.args.round n i c.deck-deck.ensures.valid c.deck-deck.ensures.valid.counted within l (sym here ∙ e));
+      let deck = c.args.self.now.game.now.deck in
+      λ i l e. ap Some (text_once g d c.args.round n i deck deck.counted within l (sym here ∙ e));
 }
 
 pub is_text_of-requires-clause-tables : goal.is_text_of-requires-clause-tables

@@ -1,7 +1,7 @@
 use Rattle.std.proofs.Common.{◌≡◌, ◌+◌, ◌*◌, ◌<◌, ◌≤◌, ℕ, List, [], All, length, map, take, take_all, get_or, sym, ap, ◌∙◌, subst, arith}
 use Rattle.std.proofs.{lemmas.List.{length-map, length-take-le}, lemmas.Slice.{between_from_start}}
 use Rattle.std.specs.List.{between}
-use Rattle.gs_card.specs.Decks.{DeckValue, kinds}
+use Rattle.gs_card.specs.Decks.{DeckValue, IsDeck, kinds}
 use Rattle.gs_game.specs.{Games.{round_rules}, declared.game.Game.{Game as Described}}
 use Rattle.gs_model.specs.{Cards.{ways, left_after}, Deals.{own_ways}, Game.{Game, Round, round_count}}
 use Rattle.gs_model.specs.Signals.{Seen, Signal, signal_at, signals, left_by, own_cards}
@@ -36,14 +36,17 @@ copies_left : (c : After-own-own) → left_after (left_after c.deck-deck.result.
 copies_left c =
     let g : Game = rules_of c.args.self.now in
     let s : Signal = signal_at g (round_count g) c.args.one in
-    ap (λ (d : DeckValue). left_after (left_after d.counts c.own-held.result.now) c.public-board.result.now) c.deck-deck.ensures.deck
+    ap (λ (d : DeckValue). left_after (left_after d.counts c.own-held.result.now) c.public-board.result.now) c.deck-deck.ensures
     ∙ ap (λ x. left_after (left_after g.copies x) c.public-board.result.now) c.own-held.ensures
     ∙ ap (left_after (left_after g.copies (own_cards s))) c.public-board.ensures ∙ sym (left_by_cards g.copies s)
+
+pub ways_beside-requires-clause-deck : goal.ways_beside-requires-clause-deck
+ways_beside-requires-clause-deck c = subst IsDeck (sym c.deck-deck.ensures) c.args.self.now.game.now.deck
 
 pub ways_beside-requires-clause-own_in : goal.ways_beside-requires-clause-own_in
 ways_beside-requires-clause-own_in c =
     let g : Game = rules_of c.args.self.now in
-    let kinds_are : length g.copies ≡ kinds c.deck-deck.result.now = c.deck-deck.ensures.valid.counted ∙ sym (ap kinds c.deck-deck.ensures.deck) in
+    let kinds_are : length g.copies ≡ kinds c.deck-deck.result.now = c.args.self.now.game.now.deck.counted ∙ sym (ap kinds c.deck-deck.ensures) in
     let P : ℕ → Type 0 = λ n. All (λ card. card < n) c.own-own.result.now in
     let Q : List ℕ → Type 0 = λ xs. All (λ card. card < length g.copies) xs in
     subst P kinds_are (subst Q (sym c.own-own.ensures) (dealt g (round_count g) c.args.two (omega arith) c.requires.two_in).own_in)
@@ -84,9 +87,10 @@ slice_bounds-ways_beside-end-in-loop-round-2 c =
 
 pub ways_beside-ways-requires : goal.ways_beside-ways-requires
 ways_beside-ways-requires c = record {
+  deck = subst IsDeck (sym c.deck-deck.ensures) c.args.self.now.game.now.deck;
   own_in = let w = goal.at.ways_beside-ways-requires c in
-      let kinds_are : length (rules_of c.args.self.now).copies ≡ kinds c.deck-deck.result.now = c.deck-deck.ensures.valid.counted
-      ∙ sym (ap kinds c.deck-deck.ensures.deck) in
+      let kinds_are : length (rules_of c.args.self.now).copies ≡ kinds c.deck-deck.result.now = c.args.self.now.game.now.deck.counted
+      ∙ sym (ap kinds c.deck-deck.ensures) in
       let P : ℕ → Type 0 = λ n. All (λ card. card < n) (between c.loop-round.start (c.loop-round.start + c.from.result) c.own-own.result.now) in
       subst P kinds_are (read_turn w.After-from (all_rounds w.After-deref-round-items)).own_in;
   own_few = let w = goal.at.ways_beside-ways-requires c in

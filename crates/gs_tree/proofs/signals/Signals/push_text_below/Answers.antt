@@ -19,7 +19,7 @@ seen c at =
     seen_read (rules_of c.args.self.now) s.tables.parents.items s.tables.layers.items c.args.round c.args.signal
     (kinds c.deck-deck.result.now) c.index-layer.result.now c.index-shown.result.now s.sound.listed (omega (arith, c.requires.later))
     (omega (arith, s.sound.counted, c.requires.last)) at c.requires.in_range c.index-shown.ensures
-    (c.deck-deck.ensures.valid.counted ∙ sym (ap kinds c.deck-deck.ensures.deck))
+    (s.game.now.deck.counted ∙ sym (ap kinds c.deck-deck.ensures))
 
 pub index-shown-requires : goal.index-shown-requires
 index-shown-requires c =
@@ -49,7 +49,7 @@ returns c =
     ∙ ap (λ x. x ++ 47 ∷ []) (c.in_ok-push_str.ensures.bytes ∙ ap (λ x. before ++ x) c.requires.parent) in
     let text : string_bytes c.push.new.self ++ seen_text c.deck-deck.result.now (seen_of shown) ≡ before ++ signal_text d (signal_at g c.args.round i) =
     ap (λ x. x ++ seen_text c.deck-deck.result.now (seen_of shown)) slash
-    ∙ ap (λ k. ((before ++ front) ++ 47 ∷ []) ++ seen_text k (seen_of shown)) c.deck-deck.ensures.deck
+    ∙ ap (λ k. ((before ++ front) ++ 47 ∷ []) ++ seen_text k (seen_of shown)) c.deck-deck.ensures
     ∙ text_behind before front (seen_text d (seen_of shown)) (signal_text d (signal_at g c.args.round i))
     (text_grown g d c.args.round i (get_or (parents g c.args.round) i 0) shown (omega (arith, c.requires.later)) c.requires.in_range refl shows) in
     let Q : List ℕ → Type 0 = λ x. OnOk c.push_seen.result (string_bytes c.push_seen.new.text ≡ x) in

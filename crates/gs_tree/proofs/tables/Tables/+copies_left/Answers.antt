@@ -10,23 +10,24 @@ use Rattle.gs_tree.proofs.tables.Tables.+copies_left.Goals as goal
 pub index-shown-requires : goal.index-shown-requires
 index-shown-requires t c =
     let l : Layer = c.index.result.now in
-    let h = layer_of (game_of c.args.game.now) c.args.self.now.parents.items c.args.self.now.layers.items c.args.round l c.requires.tables
+    let h = layer_of (game_of c.args.valid.now.game) c.args.self.now.parents.items c.args.self.now.layers.items c.args.round l c.requires.tables
     (omega arith) c.requires.round_in c.index.ensures in
     omega (arith, h.long, l.shown.ok.0, c.requires.signal_in)
 
 -- the round's row is of the parents
-row_is : (t : ℕ) (c : After-index-2 t) → c.index-2.result.now.items ≡ parents (game_of c.args.game.now) c.args.round
-row_is t c = parents_of (game_of c.args.game.now) c.args.self.now.parents.items c.args.self.now.layers.items c.args.round c.index-2.result.now c.requires.tables
+row_is : (t : ℕ) (c : After-index-2 t) → c.index-2.result.now.items ≡ parents (game_of c.args.valid.now.game) c.args.round
+row_is t c = parents_of (game_of c.args.valid.now.game) c.args.self.now.parents.items c.args.self.now.layers.items c.args.round c.index-2.result.now
+    c.requires.tables
     (omega arith) c.requires.round_in c.index-2.ensures
 
 pub index-parent-requires : goal.index-parent-requires
 index-parent-requires t c =
     let h = row_is t (goal.at.index-parent-requires t c).After-index-2 in
-    omega (arith, ap (λ (x : List ℕ). length x) h, length-parents (game_of c.args.game.now) c.args.round, c.index-2.result.now.ok.0, c.requires.signal_in)
+    omega (arith, ap (λ (x : List ℕ). length x) h, length-parents (game_of c.args.valid.now.game) c.args.round, c.index-2.result.now.ok.0, c.requires.signal_in)
 
 pub copies_left-requires : goal.copies_left-requires
 copies_left-requires t c =
-    let g : Game = game_of c.args.game.now in
+    let g : Game = game_of c.args.valid.now.game in
     let p = parent_read g c.index-2.result.now c.args.round c.args.signal c.index-parent.result.now (row_is t (goal.at.copies_left-requires t c).After-index-2)
     c.requires.signal_in c.index-parent.ensures in
     let child = is_child g c.args.round c.args.signal (omega arith) c.requires.signal_in in
@@ -34,7 +35,7 @@ copies_left-requires t c =
 
 pub returns-clause-left : goal.returns-clause-left
 returns-clause-left t c =
-    let g : Game = game_of c.args.game.now in
+    let g : Game = game_of c.args.valid.now.game in
     let l : Layer = c.index.result.now in
     let p = parent_read g c.index-2.result.now c.args.round c.args.signal c.index-parent.result.now (row_is t (goal.at.returns-clause-left t c).After-index-2)
     c.requires.signal_in c.index-parent.ensures in

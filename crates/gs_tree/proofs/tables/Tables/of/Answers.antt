@@ -14,17 +14,17 @@ counting m n e = omega arith
 
 pub overflow_cast-count : goal.overflow_cast-count
 overflow_cast-count c =
-    let g : Game = game_of c.args.game.now in
+    let g : Game = game_of c.args.valid.now.game in
     let m : ℕ = length c.loop-next.tables.layers.items in
     let n : m ≡ c.loop-next.next-index = c.loop-next.invariant.rounds in
-    let few = c.requires.limits.signals_in (suc m) (omega
-    (arith, n, ap (λ (x : List Round). length x) c.deref-next-items.ensures.value, length-map c.args.game.now.rounds.items round_rules)) in
+    let few = c.args.valid.now.limits.signals_in (suc m) (omega
+    (arith, n, ap (λ (x : List Round). length x) c.deref-next-items.ensures.value, length-map c.args.valid.now.game.rounds.items round_rules)) in
     let owned : c.in_ok-parents.field-0.parents.items ≡ parents g (suc m) = c.in_ok-parents.ensures.parents in
     omega (arith, few, ap (λ (x : List ℕ). length x) owned, length-parents g (suc m), c.len-count.ensures, c.in_ok-parents.field-0.parents.ok.0)
 
 pub loop-next-preserved : goal.loop-next-preserved
 loop-next-preserved c =
-    let g : Game = game_of c.args.game.now in
+    let g : Game = game_of c.args.valid.now.game in
     let m : ℕ = length c.loop-next.tables.layers.items in
     let ls : List Layer = c.loop-next.tables.layers.items in
     let row : Vec ℕ = c.in_ok-parents.field-0.parents in
@@ -49,24 +49,23 @@ returns c = grind (arith, common_steps)
 pub grow-requires : goal.grow-requires
 grow-requires c = record {
   tables = grind arith;
-  counted = c.loop-next.invariant.counted ∙ ap (λ k. length (signals (game_of c.args.game.now) k)) (sym c.loop-next.invariant.rounds);
-  round = let i : ℕ = c.loop-next.next-index in
-      let next : Round = c.next-item.result in
-      let rounds : List Round = c.args.game.now.rounds.items in
-      let none : Rules = record { private = 0; public = 0; tree = even } in
-      let here : i < length rounds = omega (arith, ap (λ (x : List Round). length x) c.deref-next-items.ensures.value) in
-      let at : i ≡ suc (length c.loop-next.tables.layers.items) - 1 = omega (arith, c.loop-next.invariant.rounds) in
-      ap round_rules (c.next-item.is ∙ ap (λ (x : List Round). get_or x i next) c.deref-next-items.ensures.value)
-      ∙ sym (get_or-map round_rules rounds i next none here) ∙ ap (λ k. get_or (map round_rules rounds) k none) at;
-  few = let n : length c.loop-next.tables.layers.items ≡ c.loop-next.next-index = c.loop-next.invariant.rounds in
-      c.requires.limits.signals_in (suc (length c.loop-next.tables.layers.items))
-      (omega (arith, n, ap (λ (x : List Round). length x) c.deref-next-items.ensures.value, length-map c.args.game.now.rounds.items round_rules));
-  private = let s = small_round c.args.game.now.rounds.items c.loop-next.next-index c.next-item.result c.requires.dealable.small
+  next = let s = small_round c.args.valid.now.game.rounds.items c.loop-next.next-index c.next-item.result c.args.valid.now.dealable.small
       (omega (arith, ap (λ (x : List Round). length x) c.deref-next-items.ensures.value))
       (c.next-item.is ∙ ap (λ (x : List Round). get_or x c.loop-next.next-index c.next-item.result) c.deref-next-items.ensures.value) in
-      omega (arith, s.0);
-  public = let s = small_round c.args.game.now.rounds.items c.loop-next.next-index c.next-item.result c.requires.dealable.small
-      (omega (arith, ap (λ (x : List Round). length x) c.deref-next-items.ensures.value))
-      (c.next-item.is ∙ ap (λ (x : List Round). get_or x c.loop-next.next-index c.next-item.result) c.deref-next-items.ensures.value) in
-      s.1;
+      record {
+        counted = c.loop-next.invariant.counted ∙ ap (λ k. length (signals (game_of c.args.valid.now.game) k)) (sym c.loop-next.invariant.rounds);
+        ruled = let i : ℕ = c.loop-next.next-index in
+            let next : Round = c.next-item.result in
+            let rounds : List Round = c.args.valid.now.game.rounds.items in
+            let none : Rules = record { private = 0; public = 0; tree = even } in
+            let here : i < length rounds = omega (arith, ap (λ (x : List Round). length x) c.deref-next-items.ensures.value) in
+            let at : i ≡ suc (length c.loop-next.tables.layers.items) - 1 = omega (arith, c.loop-next.invariant.rounds) in
+            ap round_rules (c.next-item.is ∙ ap (λ (x : List Round). get_or x i next) c.deref-next-items.ensures.value)
+            ∙ sym (get_or-map round_rules rounds i next none here) ∙ ap (λ k. get_or (map round_rules rounds) k none) at;
+        few = let n : length c.loop-next.tables.layers.items ≡ c.loop-next.next-index = c.loop-next.invariant.rounds in
+            c.args.valid.now.limits.signals_in (suc (length c.loop-next.tables.layers.items))
+            (omega (arith, n, ap (λ (x : List Round). length x) c.deref-next-items.ensures.value, length-map c.args.valid.now.game.rounds.items round_rules));
+        private = omega (arith, s.0);
+        public = s.1;
+      };
 }

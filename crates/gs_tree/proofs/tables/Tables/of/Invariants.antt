@@ -6,7 +6,7 @@ use Rattle.gs_tree.proofs.tables.Tables.of.Given as goal
 
 abbrev pub invariant-loop-next : goal.invariant-loop-next
 invariant-loop-next l = record {
-  tables : AreTables (game_of l.game) l.tables.parents.items l.tables.layers.items;
+  tables : AreTables (game_of l.valid.game) l.tables.parents.items l.tables.layers.items;
   rounds : length l.tables.layers.items ≡ l.next-index;
-  counted : l.count ≡ length (signals (game_of l.game) l.next-index);
+  counted : l.count ≡ length (signals (game_of l.valid.game) l.next-index);
 }

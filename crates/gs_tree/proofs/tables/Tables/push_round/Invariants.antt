@@ -7,7 +7,7 @@ use Rattle.gs_tree.proofs.tables.Tables.push_round.Given as goal
 
 abbrev pub invariant-loop-parent : goal.invariant-loop-parent
 invariant-loop-parent l =
-    let g = game_of l.game in
+    let g = game_of l.valid.game in
     let n = length l.self.layers.items in
     let r = round_at g (suc n) in
     record {
