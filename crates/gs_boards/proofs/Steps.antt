@@ -3,8 +3,9 @@ use Rattle.std.proofs.Common.{◌≡◌, ◌≢◌, ◌+◌, ◌-◌, ◌<◌, �
 use Rattle.std.proofs.{Common.{sum_by, take, drop, set, get_or-set_other, get_or-set_same}, lemmas.List.Sums.{sum_by-drop_more, sum_by_more}}
 use Rattle.std.proofs.{lemmas.Bool.{cases_eq, cases_lt}, lemmas.List.{get_or-drop, get_or-take, get_or_default, length-drop, length-take}}
 use Rattle.std.specs.Prelude.{◌==◌, All}
-use Rattle.gs_boards.specs.{Places.{AreApart, AreInOrder}, Runs.{arrived, passed_by}, declared.place.Place.{Place}}
-use Rattle.gs_boards.specs.declared.running.Running.{Running}
+use Rattle.gs_boards.specs.{Places.{AreApart, AreInOrder}, Runs.{arrived, lost_by, number_at, paid_by, passed_by, won_by}, declared.place.Place.{Place}}
+use Rattle.gs_boards.specs.declared.{pays.Pays.{Pays}, running.Running.{Running}}
+use Rattle.gs_boards.proofs.Payments.{lost_is, place_worth, won_is}
 use Rattle.gs_boards.proofs.Runs.{HasPassed, IsBefore, arrives, level_within, passes}
 
 -- a walk is at a place
@@ -172,6 +173,23 @@ module _ (worth : Place → ℕ) (places : List Place) (order : AreInOrder place
   -- it has passed no more on its board than before, and one worth more when it goes on
   pub come_within : (w : ℕ) (gone : Running) → gone ≡ passed_by here w → gone.on_board ≤ r.on_board + w
   come_within w gone e = omega (arith, ap (λ (x : Running). x.on_board) e, ap (λ (x : Running). x.on_board) is, arrived_within r (get_or places n d))
+
+-- what a place is paid by those that a walk has passed
+pub won_up : (pays : Pays) (numbers : List ℕ) (places : List Place) (n : ℕ) (d : Place) (r here : Running) → AreInOrder places → n < length places
+    → here ≡ arrived r (get_or places n d) → HasClimbed (number_at numbers) places n r
+    → won_by pays (get_or places n d) here ≡ paid_by pays numbers (get_or places n d) (take n places)
+won_up pays numbers places n d r here order inside is h =
+    let come = come_up (number_at numbers) places order n d inside r here is h in
+    won_is pays numbers (take n places) here (get_or places n d) come.passed come.at.board come.at.strength
+    (weaker_before (number_at numbers) places order n d inside r here is)
+
+pub lost_down : (pays : Pays) (numbers : List ℕ) (places : List Place) (n : ℕ) (d : Place) (r here : Running) → AreInOrder places → n < length places
+    → here ≡ arrived r (get_or places n d) → HasDescended (place_worth pays numbers) places (n + 1) r
+    → lost_by pays here ≡ paid_by pays numbers (get_or places n d) (drop (n + 1) places)
+lost_down pays numbers places n d r here order inside is h =
+    let come = come_down (place_worth pays numbers) places order n d inside r here is h in
+    lost_is pays numbers (drop (n + 1) places) here (get_or places n d) come.passed come.at.board come.at.strength
+    (stronger_behind (place_worth pays numbers) places order n d inside r here is)
 
 -- ---- what is written for places
 

@@ -3,7 +3,7 @@
 
 ghost use Rattle.std.specs.Prelude.{◌≡◌, ◌+◌, ◌<◌, ◌≤◌, ◌+ℤ◌, ℕ, true, false, All, IfOk, OnOk, drop, get_or, length, pos, slice_index_or, take};
 ghost use Rattle.gs_tree.specs.{Plain.{IsPlain}, Trees.{rules_of}, Walk.{last_count, shows_same}};
-ghost use Rattle.gs_boards.specs.{Boards.{IsFirstOn, deal_remainder, remainder}, Places.{AreApart, AreInOrder}, Runs.{paid_by}};
+ghost use Rattle.gs_boards.specs.{Boards.{IsFirstOn, deal_remainder, remainder}, Places.{AreWalkable}, Runs.{paid_by}};
 ghost use Rattle.gs_boards.specs.{declared.pays.Pays.TheVariants.{Showdown}, declared.place.Place.{Place as Placed}};
 
 use crate::pays::Pays;
@@ -24,11 +24,7 @@ fn folded(sum: i128) -> u32
 
 /// Writes to `sums` what each place of a board wins from the places before it, modulo 2^32.
 fn climb(board: &[Place], numbers: &[u32], sums: &mut [u32])
-    requires order { AreInOrder board.now }
-    requires apart { AreApart board.now }
-    requires numbers { All (λ p. p.signal < length numbers.now) board.now }
-    requires sums { All (λ p. p.signal < length sums.old) board.now }
-    requires few { length board.now ≤ 200000 }
+    requires { AreWalkable board.now (length numbers.now) (length sums.old) }
     ensures paid { (n : ℕ) (d : Placed) → n < length board.now → pos (get_or sums.new (slice_index_or board.now n d).signal 0)
         ≡ remainder (paid_by (Showdown 1) numbers.now (slice_index_or board.now n d) (take n board.now)) }
     ensures others { (s : ℕ) → All (λ p. p.signal ≡ s → ⊥) board.now → get_or sums.new s 0 ≡ get_or sums.old s 0 }
@@ -45,11 +41,7 @@ fn climb(board: &[Place], numbers: &[u32], sums: &mut [u32])
 
 /// Adds to `sums` what each place of a board loses to the places behind it, modulo 2^32.
 fn descend(board: &[Place], numbers: &[u32], sums: &mut [u32])
-    requires order { AreInOrder board.now }
-    requires apart { AreApart board.now }
-    requires numbers { All (λ p. p.signal < length numbers.now) board.now }
-    requires sums { All (λ p. p.signal < length sums.old) board.now }
-    requires few { length board.now ≤ 200000 }
+    requires { AreWalkable board.now (length numbers.now) (length sums.old) }
     ensures paid { (n : ℕ) (d : Placed) → n < length board.now → pos (get_or sums.new (slice_index_or board.now n d).signal 0)
         ≡ remainder (pos (get_or sums.old (slice_index_or board.now n d).signal 0)
         +ℤ paid_by (Showdown 1) numbers.now (slice_index_or board.now n d) (drop (n + 1) board.now)) }

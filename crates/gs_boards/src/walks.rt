@@ -1,7 +1,7 @@
 //! Walks over the places of the boards, from the first to the last and back.
 
 ghost use Rattle.std.specs.Prelude.{◌≡◌, ◌+◌, ◌<◌, ◌≤◌, ◌^◌, ◌+ℤ◌, ℕ, All, drop, get_or, length, pos, slice_index_or, take, unsigned_abs};
-ghost use Rattle.gs_boards.specs.{Places.{AreApart, AreInOrder}, Runs.{paid_by}, declared.place.Place.{Place as Placed}};
+ghost use Rattle.gs_boards.specs.{Places.{AreWalkable}, Runs.{paid_by}, declared.place.Place.{Place as Placed}};
 
 use crate::pays::Pays;
 use crate::place::Place;
@@ -9,11 +9,7 @@ use crate::running::Running;
 
 /// Writes to `sums` what each place is paid by the places before it.
 pub(crate) fn climb(places: &[Place], pays: Pays, numbers: &[u64], sums: &mut [i128])
-    requires order { AreInOrder places.now }
-    requires apart { AreApart places.now }
-    requires numbers { All (λ p. p.signal < length numbers.now) places.now }
-    requires sums { All (λ p. p.signal < length sums.old) places.now }
-    requires few { length places.now ≤ 200000 }
+    requires { AreWalkable places.now (length numbers.now) (length sums.old) }
     ensures paid { (n : ℕ) (d : Placed) → n < length places.now →
         get_or sums.new (slice_index_or places.now n d).signal (pos 0) ≡ paid_by pays numbers.now (slice_index_or places.now n d) (take n places.now) }
     ensures small { (n : ℕ) (d : Placed) → n < length places.now → unsigned_abs (get_or sums.new (slice_index_or places.now n d).signal (pos 0)) < 2 ^ 120 }
@@ -30,11 +26,7 @@ pub(crate) fn climb(places: &[Place], pays: Pays, numbers: &[u64], sums: &mut [i
 
 /// Adds to `sums` what each place is paid by the places behind it.
 pub(crate) fn descend(places: &[Place], pays: Pays, numbers: &[u64], sums: &mut [i128])
-    requires order { AreInOrder places.now }
-    requires apart { AreApart places.now }
-    requires numbers { All (λ p. p.signal < length numbers.now) places.now }
-    requires sums { All (λ p. p.signal < length sums.old) places.now }
-    requires few { length places.now ≤ 200000 }
+    requires walkable { AreWalkable places.now (length numbers.now) (length sums.old) }
     requires small { (n : ℕ) (d : Placed) → n < length places.now → unsigned_abs (get_or sums.old (slice_index_or places.now n d).signal (pos 0)) < 2 ^ 120 }
     ensures { (n : ℕ) (d : Placed) → n < length places.now →
         get_or sums.new (slice_index_or places.now n d).signal (pos 0)

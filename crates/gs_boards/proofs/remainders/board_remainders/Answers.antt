@@ -3,7 +3,7 @@ use Rattle.std.proofs.Common.{◌≡◌, ◌<◌, ◌≤◌, ◌∙◌, ℕ, Lis
 use Rattle.std.specs.Prelude.{All}
 use Rattle.gs_model.specs.Game.{Game, round_count}
 use Rattle.gs_tree.specs.{Trees.{rules_of}, Walk.{last_count}}
-use Rattle.gs_boards.specs.{Places.{AreApart, AreInOrder}, declared.place.Place.{Place}}
+use Rattle.gs_boards.specs.{Places.{AreWalkable}, declared.place.Place.{Place}}
 use Rattle.gs_boards.proofs.{BoardRemainders.{AreFoldedBefore, AreFoldedBehind, AreSorted, are_sorted, both_folded, no_place}, Once.{apart_from}}
 use Rattle.gs_boards.proofs.remainders.board_remainders.Goals as goal
 use Rattle.gs_boards.proofs.remainders.board_remainders.Goals.{After-sort_places}
@@ -16,13 +16,7 @@ sorted c =
 
 -- what both walks rely on
 ready : (c : After-sort_places) (sums : List ℕ) → length sums ≡ last_count (rules_of c.args.signals.now) → (board : List Place)
-    → board ≡ c.sort_places.new.places.items → record {
-      order : AreInOrder board;
-      apart : AreApart board;
-      numbers : All (λ p. p.signal < length c.args.numbers.now) board;
-      sums : All (λ p. p.signal < length sums) board;
-      few : length board ≤ 200000;
-    }
+    → board ≡ c.sort_places.new.places.items → AreWalkable board (length c.args.numbers.now) (length sums)
 ready c sums long board is =
     let g : Game = rules_of c.args.signals.now in
     let b = subst (AreSorted g c.args.first) (sym is) (sorted c) in

@@ -2,7 +2,7 @@ use Rattle.std.proofs.{Common.{◌≡◌, ◌<◌, ◌∙◌, ℕ, List, ap, ari
 use Rattle.std.specs.{Int.{w128}, Prelude.{All}}
 use mir.Val.{SFits}
 use Rattle.gs_boards.specs.{Boards.{remainder}, Runs.{number_at, paid_by}, declared.pays.Pays.TheVariants.{Showdown}, declared.place.Place.{Place}}
-use Rattle.gs_boards.proofs.{Payments.{won_is}, Steps.{come_up, come_within, go_up, weaker_before, written}}
+use Rattle.gs_boards.proofs.Steps.{come_up, come_within, go_up, won_up, written}
 use Rattle.gs_boards.proofs.remainders.climb.Goals as goal
 
 pub won-requires-clause-within : goal.won-requires-clause-within
@@ -20,12 +20,10 @@ loop-at-preserved c =
     let l : n < length board = omega arith in
     let r = c.loop-at.before in
     let here = c.at-here.result in
-    let come = come_up worth board c.requires.order n d l r here c.at-here.ensures c.loop-at.invariant.walked in
     let fits : SFits w128 c.won.result = search rules in
     let paid : pos c.folded.result ≡ remainder (paid_by (Showdown 1) numbers p (take n board)) =
     c.folded.ensures ∙ ap remainder (to_z-of_z w128 c.won.result fits ∙ c.won.ensures.value
-    ∙ won_is (Showdown 1) numbers (take n board) here p come.passed come.at.board come.at.strength
-    (weaker_before worth board c.requires.order n d l r here c.at-here.ensures)) in
+    ∙ won_up (Showdown 1) numbers board n d r here c.requires.order l c.at-here.ensures c.loop-at.invariant.walked) in
     let inside : All (λ (q : Place). q.signal < length sums) board = λ i e m. omega (arith, c.requires.sums i e m) in
     record {
       walked = go_up worth board c.requires.order n d l r here c.at-here.ensures c.from.result c.past-before.result c.from.ensures c.past-before.ensures

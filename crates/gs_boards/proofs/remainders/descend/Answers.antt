@@ -3,7 +3,7 @@ use Rattle.std.proofs.{lemmas.Grind.{common_steps}, lemmas.Int.{to_z-of_z}}
 use Rattle.std.specs.{Int.{w128}, Prelude.{All}}
 use mir.Val.{SFits}
 use Rattle.gs_boards.specs.{Boards.{remainder}, Runs.{paid_by}, declared.pays.Pays.TheVariants.{Showdown}, declared.place.Place.{Place}}
-use Rattle.gs_boards.proofs.{Payments.{lost_is, place_worth}, Steps.{come_down, come_within, go_down, one_back, stronger_behind, written}}
+use Rattle.gs_boards.proofs.{Payments.{place_worth}, Steps.{come_down, come_within, go_down, lost_down, one_back, written}}
 use Rattle.gs_boards.proofs.Wrapped.{remainder_more}
 use Rattle.gs_boards.proofs.remainders.descend.Goals as goal
 
@@ -25,13 +25,11 @@ loop-at-preserved c =
     let r = c.loop-at.behind in
     let here = c.at-here.result in
     let walked = one_back _ _ _ _ c.loop-at-test.true c.loop-at.invariant.walked in
-    let come = come_down worth board c.requires.order n d l r here c.at-here.ensures walked in
     let more = paid_by (Showdown 1) numbers p (drop (n + 1) board) in
     let fits : SFits w128 c.lost.result = search rules in
     let lost : pos c.folded.result ≡ remainder more =
     c.folded.ensures ∙ ap remainder (to_z-of_z w128 c.lost.result fits ∙ c.lost.ensures.value
-    ∙ lost_is (Showdown 1) numbers (drop (n + 1) board) here p come.passed come.at.board come.at.strength
-    (stronger_behind worth board c.requires.order n d l r here c.at-here.ensures)) in
+    ∙ lost_down (Showdown 1) numbers board n d r here c.requires.order l c.at-here.ensures walked) in
     let v : ℕ = (get_or sums p.signal 0 + c.folded.result) % 2 ^ 32 in
     let paid : pos v ≡ remainder (pos (get_or old p.signal 0) +ℤ more) =
     remainder_more (get_or sums p.signal 0) c.folded.result more lost

@@ -2,7 +2,7 @@ use Rattle.std.proofs.{Common.{◌≡◌, ◌<◌, ◌^◌, ◌∙◌, ℕ, List
 use Rattle.std.specs.{Int.{w128}, Prelude.{All, unsigned_abs}}
 use mir.Val.{SFits}
 use Rattle.gs_boards.specs.{Runs.{number_at, paid_by}, declared.place.Place.{Place}}
-use Rattle.gs_boards.proofs.{Payments.{won_is}, Steps.{come_up, come_within, go_up, weaker_before, written}}
+use Rattle.gs_boards.proofs.Steps.{come_up, come_within, go_up, won_up, written}
 use Rattle.gs_boards.proofs.walks.climb.Goals as goal
 
 pub won-requires-clause-within : goal.won-requires-clause-within
@@ -19,13 +19,10 @@ loop-at-preserved c =
     let l : n < length places = omega arith in
     let r = c.loop-at.before in
     let here = c.at-here.result in
-    let come = come_up worth places c.requires.order n d l r here c.at-here.ensures c.loop-at.invariant.walked in
     let fits : SFits w128 c.won.result = search rules in
     let kept : to_z w128 (of_z w128 c.won.result) ≡ c.won.result = to_z-of_z w128 c.won.result fits in
     let paid : c.won.result ≡ paid_by c.args.pays numbers p (take n places) =
-    c.won.ensures.value
-    ∙ won_is c.args.pays numbers (take n places) here p come.passed come.at.board come.at.strength
-    (weaker_before worth places c.requires.order n d l r here c.at-here.ensures) in
+    c.won.ensures.value ∙ won_up c.args.pays numbers places n d r here c.requires.order l c.at-here.ensures c.loop-at.invariant.walked in
     let inside : All (λ (q : Place). q.signal < length c.loop-at.sums) places = λ i e m. omega (arith, c.requires.sums i e m) in
     record {
       walked = go_up worth places c.requires.order n d l r here c.at-here.ensures c.from.result c.past-before.result c.from.ensures c.past-before.ensures

@@ -5,19 +5,26 @@ use Rattle.gs_boards.specs.{Places.{AreApart, AreInOrder}, declared.place.Place.
 use Rattle.gs_boards.proofs.Deals.{ArePaidBefore, ArePaidBehind, are_apart, both_ways}
 use Rattle.gs_boards.proofs.board_order.BoardOrder.deal_sums.Goals as goal
 
-pub climb-requires-clause-order : goal.climb-requires-clause-order
-climb-requires-clause-order c = subst AreInOrder (sym c.deref.ensures.value) c.args.self.now.placed.order
+pub climb-requires : goal.climb-requires
+climb-requires c = record {
+  order = subst AreInOrder (sym c.deref.ensures.value) c.args.self.now.placed.order;
+  apart = subst AreApart (sym c.deref.ensures.value) (are_apart (rules_of c.args.self.now.signals.now) c.args.self.now.places.items c.args.self.now.placed);
+  numbers = grind arith;
+  sums = grind arith;
+  few = grind arith;
+}
 
-pub descend-requires-clause-order : goal.descend-requires-clause-order
-descend-requires-clause-order c = subst AreInOrder (sym c.deref-2.ensures.value) c.args.self.now.placed.order
-
-pub climb-requires-clause-apart : goal.climb-requires-clause-apart
-climb-requires-clause-apart c = subst AreApart (sym c.deref.ensures.value)
-    (are_apart (rules_of c.args.self.now.signals.now) c.args.self.now.places.items c.args.self.now.placed)
-
-pub descend-requires-clause-apart : goal.descend-requires-clause-apart
-descend-requires-clause-apart c = subst AreApart (sym c.deref-2.ensures.value)
-    (are_apart (rules_of c.args.self.now.signals.now) c.args.self.now.places.items c.args.self.now.placed)
+pub descend-requires : goal.descend-requires
+descend-requires c = record {
+  walkable = record {
+    order = subst AreInOrder (sym c.deref-2.ensures.value) c.args.self.now.placed.order;
+    apart = subst AreApart (sym c.deref-2.ensures.value) (are_apart (rules_of c.args.self.now.signals.now) c.args.self.now.places.items c.args.self.now.placed);
+    numbers = grind arith;
+    sums = grind arith;
+    few = grind arith;
+  };
+  small = grind arith;
+}
 
 pub returns : goal.returns
 returns c =
@@ -27,9 +34,3 @@ returns c =
     both_ways g c.args.self.now.plain places c.args.self.now.placed c.args.pays numbers c.climb.new.sums c.descend.new.sums
     (subst (λ (qs : List Place). ArePaidBefore qs c.args.pays numbers c.climb.new.sums) c.deref.ensures.value c.climb.ensures.paid)
     (subst (λ (qs : List Place). ArePaidBehind qs c.args.pays numbers c.climb.new.sums c.descend.new.sums) c.deref-2.ensures.value c.descend.ensures)
-
-pub descend-requires-clause-small : goal.descend-requires-clause-small
-descend-requires-clause-small c = grind arith
-
-pub descend-requires-clause-numbers : goal.descend-requires-clause-numbers
-descend-requires-clause-numbers c = grind arith
