@@ -25,22 +25,20 @@ share-requires-clause-choice c =
     c.index-points-spot.is c.requires.point in
     omega (arith, r.long, c.deref-arrow-items.ensures.len, c.loop-choice-test.true)
 
-pub push-requires-clause-room : goal.push-requires-clause-room
-push-requires-clause-room c =
-    let f = abstract_frame c.args.a.now in
-    let r = moves_at c.args.a.now c.game.result.now c.points.result.now c.index-points-spot.result c.args.spot.point c.game.ensures c.points.ensures
-    c.index-points-spot.is c.requires.point in
-    let long = mixed_long f (lifted f (lists_of c.args.a.now) c.args.plan.now) c.args.spot.point c.args.spot.signal c.deref-arrow-items.result.now
-    c.loop-choice.choice c.loop-choice.out (omega (arith, c.loop-choice-test.true)) c.loop-choice.invariant in
-    omega (arith, r.few, c.deref-arrow-items.ensures.len, c.loop-choice-test.true, long)
-
-pub push-requires-clause-letter : goal.push-requires-clause-letter
-push-requires-clause-letter c =
-    let r = moves_at c.args.a.now c.game.result.now c.points.result.now c.index-points-spot.result c.args.spot.point c.game.ensures c.points.ensures
-    c.index-points-spot.is c.requires.point in
-    small_at c.deref-arrow-items.result.now c.loop-choice.choice _
-    (subst (λ (ms : List Arrow). AllByRecursion (λ l. l < 128) (map (λ (a : Arrow). a.letter) ms)) (sym c.deref-arrow-items.ensures.value) r.small)
-    c.loop-choice-test.true
+pub push-requires : goal.push-requires
+push-requires c = record {
+  room = let f = abstract_frame c.args.a.now in
+      let r = moves_at c.args.a.now c.game.result.now c.points.result.now c.index-points-spot.result c.args.spot.point c.game.ensures c.points.ensures
+      c.index-points-spot.is c.requires.point in
+      let long = mixed_long f (lifted f (lists_of c.args.a.now) c.args.plan.now) c.args.spot.point c.args.spot.signal c.deref-arrow-items.result.now
+      c.loop-choice.choice c.loop-choice.out (omega (arith, c.loop-choice-test.true)) c.loop-choice.invariant in
+      omega (arith, r.few, c.deref-arrow-items.ensures.len, c.loop-choice-test.true, long);
+  letter = let r = moves_at c.args.a.now c.game.result.now c.points.result.now c.index-points-spot.result c.args.spot.point c.game.ensures c.points.ensures
+      c.index-points-spot.is c.requires.point in
+      small_at c.deref-arrow-items.result.now c.loop-choice.choice _
+      (subst (λ (ms : List Arrow). AllByRecursion (λ l. l < 128) (map (λ (a : Arrow). a.letter) ms)) (sym c.deref-arrow-items.ensures.value) r.small)
+      c.loop-choice-test.true;
+}
 
 pub loop-choice-preserved : goal.loop-choice-preserved
 loop-choice-preserved c =

@@ -1,3 +1,4 @@
+use Rattle.std.proofs.lemmas.Grind.{common_steps}
 use Rattle.std.proofs.{Common.{◌≡◌, ℕ, ℤ, pos, [], ◌*◌, sym, ap, ◌∙◌, arith}, Math.IntN.{*ℤ_comm}, lemmas.Int.{to_z-of_z}}
 use Rattle.std.specs.Prelude.{◌*ℤ◌, unsigned_abs}
 use mir.Syntax.{w128}
@@ -34,8 +35,5 @@ returns c =
       value_is = ap (λ z. x.num *ℤ z) (sym den) ∙ c.new-2.ensures ∙ ap (λ z. z *ℤ x.den) num ∙ *ℤ_comm c.args.paid x.den ∙ ap (λ z. z *ℤ c.args.paid) b.is;
     }
 
-pub new-requires-2-clause-positive : goal.new-requires-2-clause-positive
-new-requires-2-clause-positive c = grind arith
-
-pub new-requires-2-clause-fits : goal.new-requires-2-clause-fits
-new-requires-2-clause-fits c = grind arith
+pub new-requires-2 : goal.new-requires-2
+new-requires-2 c = grind (arith, common_steps)

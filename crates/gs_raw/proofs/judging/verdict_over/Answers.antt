@@ -1,11 +1,9 @@
+use Rattle.std.proofs.lemmas.Grind.{common_steps}
 use Rattle.std.proofs.Common.{arith}
 use Rattle.gs_raw.proofs.judging.verdict_over.Goals as goal
 
-pub verdict-requires-clause-two : goal.verdict-requires-clause-two
-verdict-requires-clause-two c = grind arith
-
-pub verdict-requires-clause-one : goal.verdict-requires-clause-one
-verdict-requires-clause-one c = grind arith
+pub verdict-requires : goal.verdict-requires
+verdict-requires c = grind (arith, common_steps)
 
 pub returns : goal.returns
 returns c = grind arith

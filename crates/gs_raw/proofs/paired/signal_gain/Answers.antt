@@ -65,22 +65,21 @@ scaled-requires c =
     let up = mul-le-mul_left (2 ^ 84) (signal_weighs_le (abstract_frame a) c.args.end c.args.signal) in
     omega (arith, size, small, up, mul-le-mul_left (2 ^ 84) (form_modest a).weight)
 
-pub returns-clause-value : goal.returns-clause-value
-returns-clause-value c = to_z-of_z w128 c.scaled.result (record { sfits = c.scaled.type_inv }) ∙ c.scaled.ensures
-    ∙ product (goal.at.returns-clause-value c).After-end_value
-
-pub returns-clause-few : goal.returns-clause-few
-returns-clause-few c =
-    let side = c.args.side.now in
-    let a = side.form.now in
-    let now = to_z-of_z w128 c.scaled.result (record { sfits = c.scaled.type_inv }) ∙ c.scaled.ensures
-    ∙ product (goal.at.returns-clause-few c).After-end_value in
-    omega (
-      arith,
-      ap unsigned_abs now,
-      small_of a (lists_of a) side.singles side.one.now side.two.now side.one_plan side.two_plan c.args.end c.args.signal
-          c.requires.end,
-    )
+pub returns : goal.returns
+returns c = record {
+  value = to_z-of_z w128 c.scaled.result (record { sfits = c.scaled.type_inv }) ∙ c.scaled.ensures
+      ∙ product (goal.at.returns c).After-end_value;
+  few = let side = c.args.side.now in
+      let a = side.form.now in
+      let now = to_z-of_z w128 c.scaled.result (record { sfits = c.scaled.type_inv }) ∙ c.scaled.ensures
+      ∙ product (goal.at.returns c).After-end_value in
+      omega (
+        arith,
+        ap unsigned_abs now,
+        small_of a (lists_of a) side.singles side.one.now side.two.now side.one_plan side.two_plan c.args.end c.args.signal
+            c.requires.end,
+      );
+}
 
 pub invariant_of-facing : goal.invariant_of-facing
 invariant_of-facing c = record {

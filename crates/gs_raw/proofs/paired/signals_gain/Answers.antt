@@ -33,20 +33,18 @@ loop-signal-preserved c =
     let k = adding (goal.at.loop-signal-preserved c).After-signal_gain in record
     { sum_is = k.is c.plus-sum.result c.plus-sum.ensures; within = k.within c.plus-sum.result c.plus-sum.ensures }
 
-pub returns-clause-value : goal.returns-clause-value
-returns-clause-value c =
-    let side = c.args.side.now in
-    let f = abstract_frame side.form.now in
-    let lists = lists_of side.form.now in
-    c.loop-signal.invariant.sum_is ∙ ap (λ k. signals_pay f (lifted f lists side.one.now) (lifted f lists side.two.now) c.args.run.first
-    (k - c.args.run.first) c.args.end) (omega arith)
-
-pub returns-clause-few : goal.returns-clause-few
-returns-clause-few c =
-    let a = c.args.side.now.form.now in
-    let first = c.args.run.first in
-    let all = mul-le-mul_left (2 ^ 84) (signals_weigh_le (abstract_frame a) c.args.end first (c.loop-signal.signal - first)) in
-    omega (arith, c.loop-signal.invariant.within, all, mul-le-mul_left (2 ^ 84) (form_modest a).weight)
+pub returns : goal.returns
+returns c = record {
+  value = let side = c.args.side.now in
+      let f = abstract_frame side.form.now in
+      let lists = lists_of side.form.now in
+      c.loop-signal.invariant.sum_is ∙ ap (λ k. signals_pay f (lifted f lists side.one.now) (lifted f lists side.two.now) c.args.run.first
+      (k - c.args.run.first) c.args.end) (omega arith);
+  few = let a = c.args.side.now.form.now in
+      let first = c.args.run.first in
+      let all = mul-le-mul_left (2 ^ 84) (signals_weigh_le (abstract_frame a) c.args.end first (c.loop-signal.signal - first)) in
+      omega (arith, c.loop-signal.invariant.within, all, mul-le-mul_left (2 ^ 84) (form_modest a).weight);
+}
 
 pub loop-signal-init : goal.loop-signal-init
 loop-signal-init c =

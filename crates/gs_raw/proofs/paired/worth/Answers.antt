@@ -11,11 +11,6 @@ use Rattle.gs_tree.specs.declared.signals.Signals.{Signals}
 use Rattle.gs_raw.proofs.HandDeals.{no_weight}
 use Rattle.gs_raw.proofs.paired.worth.Goals as goal
 
-pub hand_weight-weight-requires-clause-signal : goal.hand_weight-weight-requires-clause-signal
-hand_weight-weight-requires-clause-signal c =
-    let held = c.signals-signals.ensures.held ∙ ap (λ (l : Lossless). l.signals.now) c.lossless.ensures in
-    subst (λ (s : Signals). c.args.signal < signal_count (frame_in s.game.now) 1) (sym held) c.requires
-
 pub paid_over-requires-clause-nothing : goal.paid_over-requires-clause-nothing
 paid_over-requires-clause-nothing c =
     let side = c.args.side.now in
@@ -54,5 +49,9 @@ pub paid_over-requires-clause-paid : goal.paid_over-requires-clause-paid
 paid_over-requires-clause-paid c = subst (λ (z : ℤ). unsigned_abs z < 2 ^ 127)
     (sym (to_z-of_z w128 c.all_gain-paid.result (record { sfits = c.all_gain-paid.type_inv }))) c.all_gain-paid.ensures.few
 
-pub hand_weight-weight-requires-clause-run : goal.hand_weight-weight-requires-clause-run
-hand_weight-weight-requires-clause-run c = c.descendants-run.ensures
+pub hand_weight-weight-requires : goal.hand_weight-weight-requires
+hand_weight-weight-requires c = record {
+  signal = let held = c.signals-signals.ensures.held ∙ ap (λ (l : Lossless). l.signals.now) c.lossless.ensures in
+      subst (λ (s : Signals). c.args.signal < signal_count (frame_in s.game.now) 1) (sym held) c.requires;
+  run = c.descendants-run.ensures;
+}
