@@ -10,13 +10,14 @@ use Rattle.gs_card.proofs.DeckLaws.{sound}
 use Rattle.gs_card.specs.{DeckFaults.{fault_of as deck_fault_of}, Decks.{IsDeck, deck_of_texts}}
 use Rattle.gs_model.specs.{Betting.{Bet}, Game.{Round as Rules, Ranking}, Outcome.{IsBonus, categories}}
 use Rattle.gs_file.specs.{Faults.{bad_version, range}, JsonLaws.{IsRoundTold, IsTold, TellsBonus}, JsonReading.{json_game_at, table_at}, Keys.{top}}
-use Rattle.gs_file.specs.Reading.{FileGame, Limit_of, Play, Round, Stated, Top, TopValues, Tree_text, bonus_at, bonus_numbers, bonus_value, copies_value}
+use Rattle.gs_file.specs.Reading.{FileGame, Limit_of, Play, Round, Stated, Top, TopValues, Tree_text, bonus_at, bonus_value, copies_value}
 use Rattle.gs_file.specs.Reading.{counted, deck_at, game_at, parsed_at, ranking_at, read_at, round_table_at, round_built, round_within, stated_fields_at}
 use Rattle.gs_file.specs.{Reading.{utf8_text, typed_at, values_at, version_at, version_of}, declared.version.Version.TheVariants.{One, Two}}
-use Rattle.gs_file.specs.{States.{OneByOne}, Tables.{each, only, required, tables_in, text, text_or_empty, whole_number, within}, Keys.{top_keys}}
+use Rattle.gs_file.specs.{States.{OneByOne}, Tables.{each, only, required, whole_number, within}, Keys.{top_keys}}
 use Rattle.gs_file.specs.{declared.form.Form.{Form}, declared.form.Form.TheVariants.{File, Json}, declared.version.Version.{Version}}
 use Rattle.gs_file.specs.declared.fault.Key.TheVariants as key
 use Rattle.gs_file.proofs.{States.{deck_ok, lawful_ok}, Stating.{after, each_ok, never, passing, same_ok, through, within_ok}}
+use Rattle.gs_file.proofs.StatedTop.{BonusTyped, typed_ok}
 use Rattle.gs_file.proofs.StatedRounds.{PlayIn, PlayMade, RoundIn, RoundMade, round_in_ok, round_made_ok}
 use Rattle.serde_json.specs.Data as json
 use Rattle.gs_game.proofs.Rules.{kept}
@@ -124,22 +125,8 @@ no_bonus table values e =
     let none : None ≡ bonus = same_ok None bonus (subst (λ v. bonus_value (Json One) v table ≡ Ok bonus) is_one eb) in
     subst (λ (w : TopValues). w.bonus ≡ None) (same_ok _ values e9) (sym none))))))))))
 
-typed_bonus : (values : TopValues) (fields : Top) → typed_at values ≡ Ok fields → bonus_numbers values.bonus ≡ Ok fields.bonus
-unfolding typed_at
-typed_bonus v t e =
-    passing (text (top key.Ranks) v.ranks) _ t e (λ ranks er e1.
-    passing (text (top key.Suits) v.suits) _ t e1 (λ suits es e2.
-    passing (text_or_empty (top key.Copies) v.copies) _ t e2 (λ copies ec e3.
-    passing (text (top key.Ranking) v.ranking) _ t e3 (λ ranking ek e4.
-    passing (bonus_numbers v.bonus) _ t e4 (λ bonus eb e5.
-    passing (whole_number (top key.Ante) v.ante) _ t e5 (λ ante ea e6.
-    passing (tables_in (top key.Round) v.rounds) _ t e6 (λ rounds en e7.
-    subst (λ (w : Top). bonus_numbers v.bonus ≡ Ok w.bonus) (same_ok _ t e7) eb)))))))
-
 fields_none : (values : TopValues) (fields : Top) → values.bonus ≡ None → typed_at values ≡ Ok fields → fields.bonus ≡ None
-fields_none values fields none e =
-    let known = subst (λ (o : Option Data). bonus_numbers o ≡ Ok fields.bonus) none (typed_bonus values fields e) in
-    sym (same_ok None fields.bonus known)
+fields_none values fields none e = subst (λ (o : Option Data). BonusTyped fields.bonus o) none (typed_ok values fields e).bonus
 
 tells : (form : Form) (version : Version) (table : Members) (values : TopValues) (fields : Top) (r : Ranking) (bonus : List ℕ) → FormTells form version
     → values_at form table ≡ Ok values → typed_at values ≡ Ok fields → bonus_at r fields.bonus ≡ Ok bonus → TellsBonus version bonus

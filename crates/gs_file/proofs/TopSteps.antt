@@ -1,6 +1,7 @@
 -- The steps of reading the top: a fault of one is the fault of all, where those before it give values.
 use Rattle.std.proofs.Common.{◌≡◌, ℕ, ℤ, List, Option, Result, Ok, Err, refl, sym, ap, ◌∙◌}
 use Rattle.toml.specs.Data.{Data, Members}
+use Rattle.gs_json.specs.Steps.{◌>>=◌}
 use Rattle.gs_file.specs.{Faults.{Fault}, Keys.{top, top_keys}, Tables.{only, required, tables_in, text, text_or_empty, whole_number}}
 use Rattle.gs_file.specs.Reading.{TopValues, bonus_numbers, bonus_value, copies_value, typed_at, values_at, version_at, version_of}
 use Rattle.gs_file.specs.{declared.fault.Place.{Place}, declared.form.Form.{Form}, declared.version.Version.{Version}}
@@ -56,19 +57,14 @@ module _ (form : Form) (table : Members) {version : Version} (version_is : versi
             values_stops_bonus f e = rw (version_is, keys_is, values_ranks_is, values_suits_is, copies_is, values_ranking_is, e) refl
 
             module _ {bonus : Option Data} (bonus_is : bonus_value form version table ≡ Ok bonus) where
-              pub values_stops_ante : {p : Place} → p ≡ top key.Ante → (f : Fault) → required form table p ≡ Err f → values_at form table ≡ Err f
+              behind_bonus : values_at form table
+                  ≡ (required form table (top key.Ante) >>= λ ante. required form table (top key.Round) >>= λ rounds.
+                  Ok (record { ranks = ranks; suits = suits; copies = copies; ranking = ranking; bonus = bonus; ante = ante; rounds = rounds }))
               unfolding values_at
-              values_stops_ante at f e =
-                  rw (
-                    version_is,
-                    keys_is,
-                    values_ranks_is,
-                    values_suits_is,
-                    copies_is,
-                    values_ranking_is,
-                    bonus_is,
-                    known (required form table) at e,
-                  ) refl
+              behind_bonus = rw (version_is, keys_is, values_ranks_is, values_suits_is, copies_is, values_ranking_is, bonus_is) refl
+
+              pub values_stops_ante : {p : Place} → p ≡ top key.Ante → (f : Fault) → required form table p ≡ Err f → values_at form table ≡ Err f
+              values_stops_ante at f e = rw (behind_bonus, known (required form table) at e) refl
 
               module _ {ante : Data} {p8 : Place} (at8 : p8 ≡ top key.Ante) (e8 : required form table p8 ≡ Ok ante) where
                 values_ante_is : required form table (top key.Ante) ≡ Ok ante
@@ -76,39 +72,11 @@ module _ (form : Form) (table : Members) {version : Version} (version_is : versi
 
                 pub values_stops_rounds : {p : Place} → p ≡ top key.Round → (f : Fault) → required form table p ≡ Err f
                     → values_at form table ≡ Err f
-                unfolding values_at
-                values_stops_rounds at f e =
-                    rw (
-                      version_is,
-                      keys_is,
-                      values_ranks_is,
-                      values_suits_is,
-                      copies_is,
-                      values_ranking_is,
-                      bonus_is,
-                      values_ante_is,
-                      known (required form table) at e,
-                    ) refl
+                values_stops_rounds at f e = rw (behind_bonus, values_ante_is, known (required form table) at e) refl
 
-                module _ {rounds : Data} {p9 : Place} (at9 : p9 ≡ top key.Round) (e9 : required form table p9 ≡ Ok rounds) where
-                  values_rounds_is : required form table (top key.Round) ≡ Ok rounds
-                  values_rounds_is = known (required form table) at9 e9
-
-                  pub values_give : values_at form table
-                      ≡ Ok (record { ranks = ranks; suits = suits; copies = copies; ranking = ranking; bonus = bonus; ante = ante; rounds = rounds })
-                  unfolding values_at
-                  values_give =
-                      rw (
-                        version_is,
-                        keys_is,
-                        values_ranks_is,
-                        values_suits_is,
-                        copies_is,
-                        values_ranking_is,
-                        bonus_is,
-                        values_ante_is,
-                        values_rounds_is,
-                      ) refl
+                pub values_give : {rounds : Data} {p : Place} → p ≡ top key.Round → required form table p ≡ Ok rounds → values_at form table
+                    ≡ Ok (record { ranks = ranks; suits = suits; copies = copies; ranking = ranking; bonus = bonus; ante = ante; rounds = rounds })
+                values_give at e = rw (behind_bonus, values_ante_is, known (required form table) at e) refl
 
 -- ---- the fields at the top
 
@@ -149,36 +117,24 @@ module _ (v : TopValues) {ranks : List ℕ} {p1 : Place} (at1 : p1 ≡ top key.R
         typed_stops_bonus f e = rw (typed_ranks_is, typed_suits_is, typed_copies_is, typed_ranking_is, e) refl
 
         module _ {bonus : Option (List ℤ)} (bonus_is : bonus_numbers v.bonus ≡ Ok bonus) where
-          pub typed_stops_ante : {p : Place} → p ≡ top key.Ante → (f : Fault) → whole_number p v.ante ≡ Err f → typed_at v ≡ Err f
+          typed_behind_bonus : typed_at v ≡ (whole_number (top key.Ante) v.ante >>= λ ante. tables_in (top key.Round) v.rounds >>= λ rounds.
+              Ok (record { ranks = ranks; suits = suits; copies = copies; ranking = ranking; bonus = bonus; ante = ante; rounds = rounds }))
           unfolding typed_at
-          typed_stops_ante at f e =
-              rw (typed_ranks_is, typed_suits_is, typed_copies_is, typed_ranking_is, bonus_is, known (λ p. whole_number p v.ante) at e) refl
+          typed_behind_bonus = rw (typed_ranks_is, typed_suits_is, typed_copies_is, typed_ranking_is, bonus_is) refl
+
+          pub typed_stops_ante : {p : Place} → p ≡ top key.Ante → (f : Fault) → whole_number p v.ante ≡ Err f → typed_at v ≡ Err f
+          typed_stops_ante at f e = rw (typed_behind_bonus, known (λ p. whole_number p v.ante) at e) refl
 
           module _ {ante : ℤ} {p6 : Place} (at6 : p6 ≡ top key.Ante) (e6 : whole_number p6 v.ante ≡ Ok ante) where
             typed_ante_is : whole_number (top key.Ante) v.ante ≡ Ok ante
             typed_ante_is = known (λ p. whole_number p v.ante) at6 e6
 
             pub typed_stops_rounds : {p : Place} → p ≡ top key.Round → (f : Fault) → tables_in p v.rounds ≡ Err f → typed_at v ≡ Err f
-            unfolding typed_at
-            typed_stops_rounds at f e =
-                rw (
-                  typed_ranks_is,
-                  typed_suits_is,
-                  typed_copies_is,
-                  typed_ranking_is,
-                  bonus_is,
-                  typed_ante_is,
-                  known (λ p. tables_in p v.rounds) at e,
-                ) refl
+            typed_stops_rounds at f e = rw (typed_behind_bonus, typed_ante_is, known (λ p. tables_in p v.rounds) at e) refl
 
-            module _ {rounds : List Members} {p7 : Place} (at7 : p7 ≡ top key.Round) (e7 : tables_in p7 v.rounds ≡ Ok rounds) where
-              typed_rounds_is : tables_in (top key.Round) v.rounds ≡ Ok rounds
-              typed_rounds_is = known (λ p. tables_in p v.rounds) at7 e7
-
-              pub typed_give : typed_at v
-                  ≡ Ok (record { ranks = ranks; suits = suits; copies = copies; ranking = ranking; bonus = bonus; ante = ante; rounds = rounds })
-              unfolding typed_at
-              typed_give = rw (typed_ranks_is, typed_suits_is, typed_copies_is, typed_ranking_is, bonus_is, typed_ante_is, typed_rounds_is) refl
+            pub typed_give : {rounds : List Members} {p : Place} → p ≡ top key.Round → tables_in p v.rounds ≡ Ok rounds → typed_at v
+                ≡ Ok (record { ranks = ranks; suits = suits; copies = copies; ranking = ranking; bonus = bonus; ante = ante; rounds = rounds })
+            typed_give at e = rw (typed_behind_bonus, typed_ante_is, known (λ p. tables_in p v.rounds) at e) refl
 
 -- ---- the version
 
