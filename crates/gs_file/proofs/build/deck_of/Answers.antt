@@ -3,7 +3,7 @@ use Rattle.std.specs.Prelude.{IfSome, IfNone}
 use Rattle.gs_card.specs.{Decks.{DeckValue, deck_of_texts}, DeckFaults.{fault_of}}
 use Rattle.gs_card.specs.{declared.faults.DeckError.{DeckError}, declared.faults.DeckFault.{DeckFault}}
 use Rattle.gs_card.specs.declared.faults.DeckError.TheVariants as errors
-use Rattle.gs_file.specs.{Reading.{deck_made}, Faults.{Fault, deck}}
+use Rattle.gs_file.specs.{Reading.{deck_made}, Faults.{deck}}
 use Rattle.gs_file.proofs.build.deck_of.Goals as goal
 
 pub returns-in-Ok : goal.returns-in-Ok
