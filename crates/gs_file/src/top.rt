@@ -88,21 +88,14 @@ pub fn values_of(form: Form, table: &Table) -> Result<TopValues<'_>, FileFault>
 {
     let version = version(form, table)?;
     check_top_keys(form, table, version)?;
-    let ranks = required_at(form, table, top(Key::Ranks))?;
-    let suits = required_at(form, table, top(Key::Suits))?;
-    let copies = copies_of(form, table)?;
-    let ranking = required_at(form, table, top(Key::Ranking))?;
-    let bonus = bonus_of(form, table, version)?;
-    let ante = required_at(form, table, top(Key::Ante))?;
-    let rounds = required_at(form, table, top(Key::Round))?;
     Ok(TopValues {
-        ranks,
-        suits,
-        copies,
-        ranking,
-        bonus,
-        ante,
-        rounds,
+        ranks: required_at(form, table, top(Key::Ranks))?,
+        suits: required_at(form, table, top(Key::Suits))?,
+        copies: copies_of(form, table)?,
+        ranking: required_at(form, table, top(Key::Ranking))?,
+        bonus: bonus_of(form, table, version)?,
+        ante: required_at(form, table, top(Key::Ante))?,
+        rounds: required_at(form, table, top(Key::Round))?,
     })
 }
 

@@ -14,51 +14,51 @@ returns-in_err-check_top_keys c =
     handed_on values_view _ _ _ _ c.from_residual-in_err-check_top_keys.ensures.1 c.in_err-check_top_keys.ensures
     (values_stops_keys c.args.form (table_view c.args.table.now) c.in_ok-version.ensures)
 
-pub returns-in_err-ranks : goal.returns-in_err-ranks
-returns-in_err-ranks c =
-    handed_on values_view _ _ _ _ c.from_residual-in_err-ranks.ensures.1 c.in_err-ranks.ensures
+pub returns-in_err-required_at : goal.returns-in_err-required_at
+returns-in_err-required_at c =
+    handed_on values_view _ _ _ _ c.from_residual-in_err-required_at.ensures.1 c.in_err-required_at.ensures
     (values_stops_ranks c.args.form (table_view c.args.table.now) c.in_ok-version.ensures c.in_ok-check_top_keys.ensures c.top.ensures)
 
-pub returns-in_err-suits : goal.returns-in_err-suits
-returns-in_err-suits c =
-    handed_on values_view _ _ _ _ c.from_residual-in_err-suits.ensures.1 c.in_err-suits.ensures
+pub returns-in_err-required_at-2 : goal.returns-in_err-required_at-2
+returns-in_err-required_at-2 c =
+    handed_on values_view _ _ _ _ c.from_residual-in_err-required_at-2.ensures.1 c.in_err-required_at-2.ensures
     (values_stops_suits c.args.form (table_view c.args.table.now) c.in_ok-version.ensures c.in_ok-check_top_keys.ensures c.top.ensures
-    c.in_ok-ranks.ensures c.top-2.ensures)
+    c.in_ok-required_at.ensures c.top-2.ensures)
 
-pub returns-in_err-copies : goal.returns-in_err-copies
-returns-in_err-copies c =
-    handed_on values_view _ _ _ _ c.from_residual-in_err-copies.ensures.1 c.in_err-copies.ensures
+pub returns-in_err-copies_of : goal.returns-in_err-copies_of
+returns-in_err-copies_of c =
+    handed_on values_view _ _ _ _ c.from_residual-in_err-copies_of.ensures.1 c.in_err-copies_of.ensures
     (values_stops_copies c.args.form (table_view c.args.table.now) c.in_ok-version.ensures c.in_ok-check_top_keys.ensures c.top.ensures
-    c.in_ok-ranks.ensures c.top-2.ensures c.in_ok-suits.ensures)
+    c.in_ok-required_at.ensures c.top-2.ensures c.in_ok-required_at-2.ensures)
 
-pub returns-in_err-ranking : goal.returns-in_err-ranking
-returns-in_err-ranking c =
-    handed_on values_view _ _ _ _ c.from_residual-in_err-ranking.ensures.1 c.in_err-ranking.ensures
+pub returns-in_err-required_at-3 : goal.returns-in_err-required_at-3
+returns-in_err-required_at-3 c =
+    handed_on values_view _ _ _ _ c.from_residual-in_err-required_at-3.ensures.1 c.in_err-required_at-3.ensures
     (values_stops_ranking c.args.form (table_view c.args.table.now) c.in_ok-version.ensures c.in_ok-check_top_keys.ensures c.top.ensures
-    c.in_ok-ranks.ensures c.top-2.ensures c.in_ok-suits.ensures c.in_ok-copies.ensures c.top-3.ensures)
+    c.in_ok-required_at.ensures c.top-2.ensures c.in_ok-required_at-2.ensures c.in_ok-copies_of.ensures c.top-3.ensures)
 
-pub returns-in_err-bonus : goal.returns-in_err-bonus
-returns-in_err-bonus c =
-    handed_on values_view _ _ _ _ c.from_residual-in_err-bonus.ensures.1 c.in_err-bonus.ensures
+pub returns-in_err-bonus_of : goal.returns-in_err-bonus_of
+returns-in_err-bonus_of c =
+    handed_on values_view _ _ _ _ c.from_residual-in_err-bonus_of.ensures.1 c.in_err-bonus_of.ensures
     (values_stops_bonus c.args.form (table_view c.args.table.now) c.in_ok-version.ensures c.in_ok-check_top_keys.ensures c.top.ensures
-    c.in_ok-ranks.ensures c.top-2.ensures c.in_ok-suits.ensures c.in_ok-copies.ensures c.top-3.ensures c.in_ok-ranking.ensures)
+    c.in_ok-required_at.ensures c.top-2.ensures c.in_ok-required_at-2.ensures c.in_ok-copies_of.ensures c.top-3.ensures c.in_ok-required_at-3.ensures)
 
-pub returns-in_err-ante : goal.returns-in_err-ante
-returns-in_err-ante c =
-    handed_on values_view _ _ _ _ c.from_residual-in_err-ante.ensures.1 c.in_err-ante.ensures
+pub returns-in_err-required_at-4 : goal.returns-in_err-required_at-4
+returns-in_err-required_at-4 c =
+    handed_on values_view _ _ _ _ c.from_residual-in_err-required_at-4.ensures.1 c.in_err-required_at-4.ensures
     (values_stops_ante c.args.form (table_view c.args.table.now) c.in_ok-version.ensures c.in_ok-check_top_keys.ensures c.top.ensures
-    c.in_ok-ranks.ensures c.top-2.ensures c.in_ok-suits.ensures c.in_ok-copies.ensures c.top-3.ensures c.in_ok-ranking.ensures
-    c.in_ok-bonus.ensures c.top-4.ensures)
+    c.in_ok-required_at.ensures c.top-2.ensures c.in_ok-required_at-2.ensures c.in_ok-copies_of.ensures c.top-3.ensures c.in_ok-required_at-3.ensures
+    c.in_ok-bonus_of.ensures c.top-4.ensures)
 
-pub returns-in_err-rounds : goal.returns-in_err-rounds
-returns-in_err-rounds c =
-    handed_on values_view _ _ _ _ c.from_residual-in_err-rounds.ensures.1 c.in_err-rounds.ensures
+pub returns-in_err-required_at-5 : goal.returns-in_err-required_at-5
+returns-in_err-required_at-5 c =
+    handed_on values_view _ _ _ _ c.from_residual-in_err-required_at-5.ensures.1 c.in_err-required_at-5.ensures
     (values_stops_rounds c.args.form (table_view c.args.table.now) c.in_ok-version.ensures c.in_ok-check_top_keys.ensures c.top.ensures
-    c.in_ok-ranks.ensures c.top-2.ensures c.in_ok-suits.ensures c.in_ok-copies.ensures c.top-3.ensures c.in_ok-ranking.ensures
-    c.in_ok-bonus.ensures c.top-4.ensures c.in_ok-ante.ensures c.top-5.ensures)
+    c.in_ok-required_at.ensures c.top-2.ensures c.in_ok-required_at-2.ensures c.in_ok-copies_of.ensures c.top-3.ensures c.in_ok-required_at-3.ensures
+    c.in_ok-bonus_of.ensures c.top-4.ensures c.in_ok-required_at-4.ensures c.top-5.ensures)
 
 pub returns : goal.returns
 returns c =
     values_give c.args.form (table_view c.args.table.now) c.in_ok-version.ensures c.in_ok-check_top_keys.ensures c.top.ensures
-    c.in_ok-ranks.ensures c.top-2.ensures c.in_ok-suits.ensures c.in_ok-copies.ensures c.top-3.ensures c.in_ok-ranking.ensures
-    c.in_ok-bonus.ensures c.top-4.ensures c.in_ok-ante.ensures c.top-5.ensures c.in_ok-rounds.ensures
+    c.in_ok-required_at.ensures c.top-2.ensures c.in_ok-required_at-2.ensures c.in_ok-copies_of.ensures c.top-3.ensures c.in_ok-required_at-3.ensures
+    c.in_ok-bonus_of.ensures c.top-4.ensures c.in_ok-required_at-4.ensures c.top-5.ensures c.in_ok-required_at-5.ensures
