@@ -6,7 +6,7 @@ ghost use Rattle.gs_file.specs.declared.fault.FileError.TheVariants.{Fault, Memo
 use gs_bet::TreeFault;
 use gs_card::DeckFault;
 use gs_game::GameFault;
-use std::alloc::{AllocError, AllocFailed};
+use std::alloc::AllocError;
 
 /// A key of the game file.
 #[derive(Clone, Copy)]
@@ -90,18 +90,10 @@ pub enum FileError {
     Fault(FileFault),
 }
 
-impl From<AllocError> for FileError {
+impl<E: Into<AllocError> + Drop> From<E> for FileError {
     ghost from_gives = { λ _ error. error ≡ Memory };
 
-    fn from(_: AllocError) -> FileError {
-        FileError::Memory
-    }
-}
-
-impl<T: Drop> From<AllocFailed<T>> for FileError {
-    ghost from_gives = { λ _ error. error ≡ Memory };
-
-    fn from(_: AllocFailed<T>) -> FileError {
+    fn from(_: E) -> FileError {
         FileError::Memory
     }
 }
