@@ -7,7 +7,7 @@ use Rattle.gs_game.proofs.{MoneyLaws.{tree_sound}, Rules.{kept}}
 use Rattle.gs_game.specs.{Games.{game_of, round_rules}, declared.game.Round.{Round}, declared.valid.ValidGame.{ValidGame}}
 use Rattle.gs_model.specs.{Classes.{ClassLists}, Game.{Round as Rules}}
 use Rattle.gs_seq.proofs.Points.{playable}
-use Rattle.gs_seq.specs.{Games.{frame_in}, Slots.{sequence_count}, Stops.{IsStopAt}, declared.stop.SeqStop.TheVariants.{TooManySequences}}
+use Rattle.gs_seq.specs.{Games.{frame_in}, Slots.{sequence_count}, Stops.{IsFaultAt}, declared.stop.SeqFault.TheVariants.{TooManySequences}}
 use Rattle.gs_raw.specs.{Answers.{raw_limits}, Cells.{raw_cell_count}}
 use Rattle.gs_raw.proofs.RawSequences.{sequences_within}
 
@@ -24,10 +24,10 @@ cells_over g player many = elim (cases_lt 16777216 (raw_cell_count (frame_in g))
 ]
 
 pub too_many_cells : (g : ValidGame) (lists : ClassLists) (player count : ℕ) → lists ≡ single_classes (frame_in g).parents
-    → IsStopAt raw_limits (frame_in g) lists (TooManySequences player count) → 16777216 < raw_cell_count (frame_in g)
+    → IsFaultAt raw_limits (frame_in g) lists (TooManySequences player count) → 16777216 < raw_cell_count (frame_in g)
 too_many_cells g lists player count singles h =
-    by (subst (λ (ls : ClassLists). IsStopAt raw_limits (frame_in g) ls (TooManySequences player count)) singles h)
+    by (subst (λ (ls : ClassLists). IsFaultAt raw_limits (frame_in g) ls (TooManySequences player count)) singles h)
   where
-    by : IsStopAt raw_limits (frame_in g) (single_classes (frame_in g).parents) (TooManySequences player count) → 16777216 < raw_cell_count (frame_in g)
+    by : IsFaultAt raw_limits (frame_in g) (single_classes (frame_in g).parents) (TooManySequences player count) → 16777216 < raw_cell_count (frame_in g)
     by (inl k) = cells_over g 1 (let e = k.1 in let o = k.2 in omega (arith, e, o))
     by (inr k) = cells_over g 2 (let e = k.1.1 in let o = k.1.2 in omega (arith, e, o))

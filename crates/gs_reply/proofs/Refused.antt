@@ -3,11 +3,12 @@ use Rattle.std.proofs.{Common.{◌≡◌, ℕ, Result, Ok, Err, Vec, IfErr, IsEr
 use Rattle.std.specs.declared.alloc.Global.{Global}
 use Rattle.gs_file.specs.{Answers.{Fails, fault_of}, Faults.{Fault}, Reading.{FileGame}, declared.fault.FileFault.{FileFault}}
 use Rattle.gs_model.specs.Classes.{ClassLists}
-use Rattle.gs_reply.specs.{Refusals.{Bad_game, Too_large}, Replies.{Answers, IsBadGame, OfReading, Reply, Prints, Refuses, StopsFor, Tells, of_seq_stop}}
+use Rattle.gs_reply.specs.{Refusals.{Bad_game, Too_large}, Replies.{Answers, IsBadGame, OfReading, Reply, Prints, Refuses, StopsFor, Tells, of_seq_error}}
 use Rattle.gs_reply.specs.{Troubles.{SaysLarge}, declared.refusals.Stop.{Stop}, declared.refusals.Limit.TheVariants.{Sequences, Cells}}
 use Rattle.gs_reply.specs.declared.refusals.Refusal.TheVariants as told
 use Rattle.gs_reply.specs.declared.refusals.Stop.TheVariants as stop
-use Rattle.gs_seq.specs.{Stops.{IsUsualStop}, declared.stop.SeqStop.{SeqStop}, declared.stop.SeqStop.TheVariants.{TooManySequences, TooManyCells, Memory}}
+use Rattle.gs_seq.specs.{Stops.{IsErrorAt, usual}, declared.stop.SeqError.{SeqError}, declared.stop.SeqError.TheVariants.{Fault as Over, Memory}}
+use Rattle.gs_seq.specs.declared.stop.SeqFault.TheVariants.{TooManySequences, TooManyCells}
 use Rattle.gs_strategy.specs.Values.{file_frame}
 
 -- what follows of each reply follows of each stop, and of what a command returns
@@ -33,9 +34,9 @@ pub not_stated : (says : FileGame → Reply → Type 0) (read : Result FileGame 
 not_stated says read = stops_more (IsBadGame read) (OfReading says read) (λ r bad. subst (λ x. OfReading says x r) (sym bad.1) bad.2)
 
 -- a game without a sequence form is too large
-pub too_large : (g : FileGame) (lists : ClassLists) (why : SeqStop) → IsUsualStop (file_frame g) lists why → StopsFor (SaysLarge g lists) (of_seq_stop why)
-too_large g lists (TooManySequences player count) h = (Too_large (Sequences player count), (Sequences player count, h, refl), refl)
-too_large g lists (TooManyCells count) h = (Too_large (Cells count), (Cells count, h, refl), refl)
+pub too_large : (g : FileGame) (lists : ClassLists) (why : SeqError) → IsErrorAt usual (file_frame g) lists why → StopsFor (SaysLarge g lists) (of_seq_error why)
+too_large g lists (Over (TooManySequences player count)) h = (Too_large (Sequences player count), (Sequences player count, h, refl), refl)
+too_large g lists (Over (TooManyCells count)) h = (Too_large (Cells count), (Cells count, h, refl), refl)
 too_large g lists Memory h = tt
 
 -- ---- the exit of a `?`

@@ -1,7 +1,8 @@
 -- What is printed for an input, or why it is refused.
 use Rattle.std.specs.{Prelude.{◌≡◌, ℕ, List, Result, Ok, Err, Vec, string_bytes}, declared.alloc.Global.{Global}}
 use Rattle.gs_file.specs.{Answers.{fault_of as game_fault_of}, Faults.{Fault}, Reading.{FileGame}}
-use Rattle.gs_seq.specs.{declared.stop.SeqStop.{SeqStop}, declared.stop.SeqStop.TheVariants.{TooManySequences, TooManyCells, Memory}}
+use Rattle.gs_seq.specs.{declared.stop.SeqError.{SeqError}, declared.stop.SeqError.TheVariants.{Fault as Over, Memory}}
+use Rattle.gs_seq.specs.declared.stop.SeqFault.TheVariants.{TooManySequences, TooManyCells}
 use Rattle.gs_strategy.specs.{Checks.{ReadResult, Reads}, Faults.{Fault as StrategyFault, fault_of as store_fault_of}, Values.{Strategy}, Views.{parts_of}}
 use Rattle.gs_reply.specs.Refusals.{Refusal, Bad_game, Unlike_pair, Overflows, Many_pivots, Too_large, Bad_strategy, Wrong_number, Bad_query, Other_game}
 use Rattle.gs_reply.specs.{Refusals.{Bad_certificate}, declared.refusals.Refusal.{Refusal as Told}, declared.refusals.Limit.TheVariants.{Sequences, Cells}}
@@ -72,7 +73,7 @@ Answers says (Ok text) = says (Prints text.items)
 Answers says (Err stop) = StopsFor says stop
 
 -- why a command stops where there is no game in sequence form
-abbrev pub of_seq_stop : SeqStop → Stop
-of_seq_stop (TooManySequences player count) = stop.Refused (told.TooLarge (Sequences player count))
-of_seq_stop (TooManyCells count) = stop.Refused (told.TooLarge (Cells count))
-of_seq_stop Memory = stop.Memory
+abbrev pub of_seq_error : SeqError → Stop
+of_seq_error Memory = stop.Memory
+of_seq_error (Over (TooManySequences player count)) = stop.Refused (told.TooLarge (Sequences player count))
+of_seq_error (Over (TooManyCells count)) = stop.Refused (told.TooLarge (Cells count))

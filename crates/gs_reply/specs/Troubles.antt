@@ -2,7 +2,7 @@
 use Rattle.std.specs.Prelude.{◌≡◌, ℕ, List}
 use Rattle.gs_file.specs.Reading.{FileGame, file_rules}
 use Rattle.gs_model.specs.{Classes.{ClassLists}, Lossless.{IsFirstUnlike, IsLossless}, Signals.{signal_at}}
-use Rattle.gs_seq.specs.{Stops.{IsUsualStop}, declared.stop.SeqStop.TheVariants.{TooManySequences, TooManyCells}}
+use Rattle.gs_seq.specs.{Stops.{IsFaultAt, usual}, declared.stop.SeqFault.TheVariants.{TooManySequences, TooManyCells}}
 use Rattle.gs_strategy.specs.Values.{file_frame}
 use Rattle.gs_tree.specs.Texts.{signal_text}
 use Rattle.gs_reply.specs.{Refusals.{Unlike_pair, Too_large}, Replies.{Reply, Refuses}, declared.refusals.Limit.{Limit}}
@@ -19,8 +19,8 @@ pub record IsUnlikePair (g : FileGame) (lists : ClassLists) (round : ℕ) (one t
 
 -- the limit is the first that the game in sequence form passes
 abbrev pub Passes : FileGame → ClassLists → Limit → Type 0
-Passes g lists (Sequences player count) = IsUsualStop (file_frame g) lists (TooManySequences player count)
-Passes g lists (Cells count) = IsUsualStop (file_frame g) lists (TooManyCells count)
+Passes g lists (Sequences player count) = IsFaultAt usual (file_frame g) lists (TooManySequences player count)
+Passes g lists (Cells count) = IsFaultAt usual (file_frame g) lists (TooManyCells count)
 Passes g lists (TableNumbers count) = ⊥
 Passes g lists (RawCells count) = ⊥
 

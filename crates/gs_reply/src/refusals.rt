@@ -6,7 +6,7 @@ ghost use Rattle.gs_reply.specs.declared.refusals.Stop.TheVariants.{Memory};
 use gs_file::FileFault;
 use gs_frac::Fraction;
 use gs_lift::QueryFault;
-use gs_seq::SeqStop;
+use gs_seq::{SeqError, SeqFault};
 use gs_strategy::StoreFault;
 use std::alloc::{AllocError, AllocFailed};
 use std::fmt;
@@ -112,21 +112,20 @@ impl<T: Drop> From<AllocFailed<T>> for Stop {
     }
 }
 
-impl From<SeqStop> for Stop {
-    ghost use Rattle.gs_reply.specs.Replies.{of_seq_stop};
+impl From<SeqError> for Stop {
+    ghost use Rattle.gs_reply.specs.Replies.{of_seq_error};
 
-    ghost from_gives = { λ why e. e ≡ of_seq_stop why };
+    ghost from_gives = { λ why e. e ≡ of_seq_error why };
 
-    fn from(stop: SeqStop) -> Stop {
-        match stop {
-            SeqStop::TooManySequences { player, count } => Stop::Refused(Refusal::TooLarge(
-                Limit::Sequences { player, count },
-            )),
-            SeqStop::TooManyCells { count } => Stop::Refused(Refusal::TooLarge(Limit::Cells {
-                count,
-            })),
-            SeqStop::Memory => Stop::Memory,
-        }
+    fn from(error: SeqError) -> Stop {
+        let limit = match error {
+            SeqError::Memory => return Stop::Memory,
+            SeqError::Fault(SeqFault::TooManySequences { player, count }) => {
+                Limit::Sequences { player, count }
+            }
+            SeqError::Fault(SeqFault::TooManyCells { count }) => Limit::Cells { count },
+        };
+        Stop::Refused(Refusal::TooLarge(limit))
     }
 }
 

@@ -17,7 +17,7 @@ use crate::plan::Plan;
 use crate::rows::{cells, rows_of, wholes_of};
 use crate::single::are_made;
 use crate::slots::{few_slots, offsets_of};
-use crate::stop::SeqStop;
+use crate::stop::{SeqError, SeqFault};
 use gs_boards::BoardOrder;
 use gs_filter::Classes;
 use gs_lossless::Lossless;
@@ -79,15 +79,15 @@ impl<'a> Abstract<'a> {
     ghost use Rattle.gs_model.specs.{Pairs.{class_number}, Positions.{at_end, at_point}};
     ghost use Rattle.gs_seq.specs.{Abstracts.{abstract_frame, lists_of}, AtEnds.{IsOfForm}, Cells.{IsPairAfter, MeetsNoneAfter}, Faults.{IsFaultOf}};
     ghost use Rattle.gs_seq.specs.{Plans.{IsPlanOf, class_plan}, Rows.{IsRow, IsSingleIn}, Singles.{HasSumsOf}};
-    ghost use Rattle.gs_seq.specs.{Slots.{IsPlan, sequence_count, slot_of}, Stops.{IsSmall, IsStopAt, IsUsualStop, IsWithin}};
+    ghost use Rattle.gs_seq.specs.{Slots.{IsPlan, sequence_count, slot_of}, Stops.{IsErrorAt, IsSmall, IsWithin, usual}};
     ghost use Rattle.gs_tree.specs.Trees.{rules_of};
 
     /// Returns the sequence form of a game with lossless classes, within the usual limits.
     /// Errors: the first limit that the game exceeds, or `Memory` if memory runs out.
-    pub fn of(alloc: Global, lossless: &'a Lossless<'a>) -> Result<Abstract<'a>, SeqStop>
+    pub fn of(alloc: Global, lossless: &'a Lossless<'a>) -> Result<Abstract<'a>, SeqError>
         ensures held { IfOk result (λ a. a.lossless.now ≡ lossless.entry.now) }
         ensures small { IfOk result (λ a. IsSmall (abstract_frame a) (lists_of a)) }
-        ensures refused { IfErr result (IsUsualStop (frame_in lossless.entry.now.signals.now.game.now) lossless.entry.now.classes.now.lists) }
+        ensures refused { IfErr result (IsErrorAt usual (frame_in lossless.entry.now.signals.now.game.now) lossless.entry.now.classes.now.lists) }
     {
         Abstract::within(alloc, lossless, USUAL)
     }
@@ -98,11 +98,11 @@ impl<'a> Abstract<'a> {
         alloc: Global,
         lossless: &'a Lossless<'a>,
         most: Limits,
-    ) -> Result<Abstract<'a>, SeqStop>
+    ) -> Result<Abstract<'a>, SeqError>
         requires { most.sequences ≤ 2 ^ 30 }
         ensures held { IfOk result (λ a. a.lossless.now ≡ lossless.entry.now) }
         ensures small { IfOk result (λ a. IsWithin most (abstract_frame a) (lists_of a)) }
-        ensures refused { IfErr result (IsStopAt most (frame_in lossless.entry.now.signals.now.game.now) lossless.entry.now.classes.now.lists) }
+        ensures refused { IfErr result (IsErrorAt most (frame_in lossless.entry.now.signals.now.game.now) lossless.entry.now.classes.now.lists) }
     {
         let signals = lossless.signals();
         let classes = lossless.classes();
@@ -114,7 +114,7 @@ impl<'a> Abstract<'a> {
         let wholes = wholes_of(alloc, &rows)?;
         let count = cells(alloc, game, classes, &rows)?;
         if count > most.cells {
-            return Err(SeqStop::TooManyCells { count });
+            return Err(SeqError::Fault(SeqFault::TooManyCells { count }));
         }
         Ok(Abstract {
             lossless,

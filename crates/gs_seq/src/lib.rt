@@ -32,4 +32,4 @@ pub use pair::Pair;
 pub use pairs::Pairs;
 pub use plan::Plan;
 pub use rows::cell_total;
-pub use stop::SeqStop;
+pub use stop::{SeqError, SeqFault};

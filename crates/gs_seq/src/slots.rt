@@ -5,7 +5,7 @@ ghost use Rattle.gs_model.specs.Frame.{point_count};
 ghost use Rattle.gs_seq.specs.{Games.{frame_in}, Slots.{AreOffsets, sequence_count, slot_count as slots_in, slots_at as slots_here, slots_before}};
 ghost use Rattle.gs_seq.specs.Stops.{HasOver, HasSequencesWithin, IsTooLong};
 
-use crate::stop::SeqStop;
+use crate::stop::SeqFault;
 use gs_filter::Classes;
 use gs_game::ValidGame;
 use std::alloc::{AllocError, Global};
@@ -65,7 +65,7 @@ pub(crate) fn few_slots(
     game: &ValidGame,
     classes: &Classes,
     most: u32,
-) -> Result<(u32, u32), SeqStop>
+) -> Result<(u32, u32), SeqFault>
     requires { classes.now.parents ≡ (frame_in game.now).parents }
     ensures one { IfOk result (λ n. n.0 ≡ slots_in (frame_in game.now) classes.now.lists 1) }
     ensures two { IfOk result (λ n. n.1 ≡ slots_in (frame_in game.now) classes.now.lists 2) }
@@ -78,7 +78,7 @@ pub(crate) fn few_slots(
 }
 
 /// Returns the number of slots of a player. Fails if the player has more than `most` sequences.
-fn few_slots_of(game: &ValidGame, classes: &Classes, player: u8, most: u32) -> Result<u32, SeqStop>
+fn few_slots_of(game: &ValidGame, classes: &Classes, player: u8, most: u32) -> Result<u32, SeqFault>
     requires { classes.now.parents ≡ (frame_in game.now).parents }
     ensures value { IfOk result (λ n. n ≡ slots_in (frame_in game.now) classes.now.lists player) }
     ensures few { OnOk result (sequence_count (frame_in game.now) classes.now.lists player ≤ most) }
@@ -86,7 +86,7 @@ fn few_slots_of(game: &ValidGame, classes: &Classes, player: u8, most: u32) -> R
 {
     let count = slot_count(game, classes, player) + 1;
     if count > u64::from(most) {
-        return Err(SeqStop::TooManySequences { player, count });
+        return Err(SeqFault::TooManySequences { player, count });
     }
     Ok(count as u32 - 1)
 }

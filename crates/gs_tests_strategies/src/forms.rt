@@ -5,7 +5,7 @@ ghost use Rattle.std.specs.Prelude.{◌<◌};
 use crate::rows::{agree, not_lossless, over_game};
 use gs_lossless::{Lossless, check};
 use gs_samples::classes_of;
-use gs_seq::{Abstract, Pair, SeqStop};
+use gs_seq::{Abstract, Pair};
 use gs_tree::Signals;
 use std::alloc::Global;
 use std::test::Fail;
@@ -41,8 +41,8 @@ fn answers(form: &Abstract<'_>, queries: &[Query]) -> bool {
 /// The expected numbers of sequences of both players, and the queries with their answers.
 type Want<'a> = ((u32, u32), &'a [Query]);
 
-/// Returns whether the sequence form has the expected numbers of sequences and answers, or why there is no form.
-fn formed(alloc: Global, lossless: &Lossless<'_>, want: Want<'_>) -> Result<bool, SeqStop> {
+/// Returns whether the sequence form has the expected numbers of sequences and answers.
+fn formed(alloc: Global, lossless: &Lossless<'_>, want: Want<'_>) -> Result<bool, Fail> {
     let form = Abstract::of(alloc, lossless)?;
     let counts = (form.sequences(1), form.sequences(2));
     Ok(counts == want.0 && answers(&form, want.1))
@@ -54,19 +54,14 @@ fn over_signals(
     signals: &Signals<'_>,
     classes: &str,
     want: Want<'_>,
-) -> Result<Result<bool, SeqStop>, Fail> {
+) -> Result<bool, Fail> {
     let classes = classes_of(alloc, signals, classes)?;
     let lossless = check(alloc, signals, &classes).map_err(not_lossless)?;
-    Ok(formed(alloc, &lossless, want))
+    formed(alloc, &lossless, want)
 }
 
 /// Returns what `formed` returns for the sequence form of a game over classes.
-fn outcome(
-    alloc: Global,
-    game: &str,
-    classes: &str,
-    want: Want<'_>,
-) -> Result<Result<bool, SeqStop>, Fail> {
+fn outcome(alloc: Global, game: &str, classes: &str, want: Want<'_>) -> Result<bool, Fail> {
     over_game(alloc, game, |signals| {
         over_signals(alloc, signals, classes, want)
     })
@@ -95,27 +90,21 @@ const OF_LEDUC: &[Query] = &[
     (2, 2, 8, None),
 ];
 
-/// Games and classes, the numbers of sequences of both players, pairs of classes, and the expected result.
-const CASES: &[(&str, &str, Want<'static>, Result<bool, SeqStop>)] = &[
-    (
-        "JQK, s, high 1 2 1, 1 0 kuhn",
-        "",
-        ((13, 13), OF_KUHN),
-        Ok(true),
-    ),
+/// Games and classes, the numbers of sequences of both players, and pairs of classes.
+const CASES: &[(&str, &str, Want<'static>)] = &[
+    ("JQK, s, high 1 2 1, 1 0 kuhn", "", ((13, 13), OF_KUHN)),
     (
         "JQK, sh, pair 1 2 1, 1 0 1[k:2[k:=]], 0 1 kuhn",
         "ranks",
         ((40, 40), OF_LEDUC),
-        Ok(true),
     ),
 ];
 
 #[test]
 fn forms_of_whole_games(rt: HostRuntime) -> Result<(), Fail> {
     let alloc = rt.alloc();
-    for &(game, classes, want, said) in CASES {
-        agree(alloc, outcome(alloc, game, classes, want)?, said, game)?;
+    for &(game, classes, want) in CASES {
+        agree(alloc, outcome(alloc, game, classes, want)?, true, game)?;
     }
     Ok(())
 }

@@ -5,15 +5,14 @@ use Rattle.gs_game.specs.declared.valid.ValidGame.{ValidGame}
 use Rattle.gs_model.specs.{Classes.{ClassLists}, Frame.{Frame}}
 use Rattle.gs_tree.specs.declared.signals.Signals.{Signals}
 use Rattle.gs_seq.specs.{Cells.{cell_count}, Games.{frame_in}, Rows.{AreRows, AreWholes, IsSlim}, Slots.{AreOffsets, slot_count}}
-use Rattle.gs_seq.specs.{Stops.{HasSequencesWithin, IsStopAt, IsTooLong}, declared.stop.SeqStop.TheVariants.{TooManySequences, TooManyCells, Memory}}
-use Rattle.gs_seq.specs.{declared.limits.Limits.{Limits}, declared.pair.Pair.{Pair}, declared.stop.SeqStop.{SeqStop}}
+use Rattle.gs_seq.specs.{Stops.{HasSequencesWithin, IsErrorAt, IsFaultAt, IsTooLong}, declared.stop.SeqFault.TheVariants.{TooManySequences, TooManyCells}}
+use Rattle.gs_seq.specs.{declared.limits.Limits.{Limits}, declared.pair.Pair.{Pair}, declared.stop.SeqFault.{SeqFault}}
 use Rattle.gs_seq.proofs.{Carried.{carried}, Wholed.{rows_slim}, form.Abstract.within.Goals.{After-game-game, In_ok-count}}
 use Rattle.gs_seq.proofs.form.Abstract.within.Goals as goal
 
-too_long : (most : Limits) (f : Frame) (lists : ClassLists) (e : SeqStop) → IsTooLong most.sequences f lists e → IsStopAt most f lists e
+too_long : (most : Limits) (f : Frame) (lists : ClassLists) (e : SeqFault) → IsTooLong most.sequences f lists e → IsFaultAt most f lists e
 too_long most f lists (TooManySequences player count) h = h
 too_long most f lists (TooManyCells count) h = ⊎_elim (λ one. absurd one) (λ two. absurd two.1) h
-too_long most f lists Memory h = tt
 
 fewer : (n most top : ℕ) → n ≤ most → most ≤ top → n ≤ top
 fewer n most top l m = omega (arith, l, m)
@@ -44,8 +43,8 @@ returns-in_err-one-clause-refused c =
     let long = moved (goal.at.returns-in_err-one-clause-refused c).After-game-game (λ f lists. IsTooLong c.args.most.sequences f lists c.in_err-one.field-0.0)
     c.in_err-one.ensures.refused in
     let e = err_from_is_err_and c.from_residual.result c.from_residual.ensures.1 in
-    subst (λ r. IfErr r (IsStopAt c.args.most f lists)) (sym e.1)
-    (subst (IsStopAt c.args.most f lists) (sym e.2) (too_long c.args.most f lists c.in_err-one.field-0.0 long))
+    subst (λ r. IfErr r (IsErrorAt c.args.most f lists)) (sym e.1)
+    (subst (IsErrorAt c.args.most f lists) (sym e.2) (too_long c.args.most f lists c.in_err-one.field-0.0 long))
 
 -- what holds if there is a value holds if there is one
 where_some : {X : Type 0} (o : Option X) (P : Type 0) → ((x : X) → o ≡ Some x → P) → is_some o ≡ true → P
