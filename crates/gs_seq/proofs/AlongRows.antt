@@ -1,12 +1,12 @@
 -- Sums along a row, each pair times the number of its class: that they are small, and what an end pays there.
-use Rattle.std.proofs.Common.{◌≡◌, ℕ, ℤ, pos, ◌+◌, ◌-◌, ◌*◌, ◌<◌, ◌≤◌, ◌^◌, List, length, get_or, ap, sym, ◌∙◌, arith, take, of_z, to_z, to_z-of_z}
+use Rattle.std.proofs.Common.{◌≡◌, ℕ, ℤ, pos, ◌+◌, ◌-◌, ◌*◌, ◌<◌, ◌≤◌, ◌^◌, List, length, get_or, ap, refl, sym, ◌∙◌, arith, take, of_z, to_z, to_z-of_z}
 use Rattle.std.proofs.{Math.Nat.{mul-le-mul_left}, Math.IntN.{*ℤ_comm}, lemmas.Int.{fits_signed_from_abs, unsigned_abs-mul}}
 use Rattle.std.proofs.{lemmas.List.Elements.{All-take}, lemmas.List.Sums.{get_or-le-sum_by, sum_by-take-le}}
 use Rattle.std.specs.{Int.{w64}, Prelude.{◌+ℤ◌, ◌*ℤ◌, All, unsigned_abs}}
 use borrow.Author.Differences.{abs_is}
-use Rattle.gs_model.specs.{Frame.{end_at, round_of}, FrameFacts.{IsWalked}, Positions.{at_end}, Sums.{sum_z}}
-use Rattle.gs_model.proofs.{Best.{nat_scale}, Sparse.{sum_z-more}, Tables.{is_table}, Total.{sum_z-mul, sum_z-same}}
-use Rattle.gs_seq.specs.{Abstracts.{abstract_frame, lists_of}, Payoffs.{AreFew, HasNumbers, end_classes, number_sum, row_pays}, Rows.{IsSlim}}
+use Rattle.gs_model.specs.{Frame.{end_at, round_of}, FrameFacts.{IsWalked}, Positions.{End, EndKind, Folded1, Folded2, Show, at_end}, Sums.{sum_z}}
+use Rattle.gs_model.proofs.{Sparse.{sum_z-more}, Tables.{is_table}, Total.{mul_assoc_z, sum_z-mul, sum_z-same}}
+use Rattle.gs_seq.specs.{Abstracts.{abstract_frame, lists_of}, Payoffs.{AreFew, HasNumbers, chips_of, end_classes, number_sum, pair_pays, row_pays, weight_of}, Rows.{IsSlim}}
 use Rattle.gs_seq.specs.{declared.form.Abstract.{Abstract}, declared.pair.Pair.{Pair}}
 use Rattle.gs_seq.proofs.{EndSums.{row_sum, scaled_few, signed_few}, Forms.{AreGiven, given_in, one_or_two}, RowFacts.{abs_all, row_class, sum-times}}
 use Rattle.gs_seq.proofs.{Turns.{IsAlong}, Wholes.{whole_few}}
@@ -31,6 +31,11 @@ module _ (row : List Pair) (numbers : List ℕ) (v : Pair → ℤ) (slim : IsSli
         get_or-le-sum_by (λ (q : Pair). q.weight) row i d l,
         slim.few,
       )
+
+  -- the weight at a pair fits 64 bits
+  pub weight_kept : (i : ℕ) (d : Pair) → i < length row → (z : ℤ) → z ≡ v (get_or row i d) → to_z w64 (of_z w64 z) ≡ v (get_or row i d)
+  weight_kept i d l z is = ap (λ y. to_z w64 (of_z w64 y)) is ∙ to_z-of_z {w = w64} {z = v (get_or row i d)} (fits_signed_from_abs w64 (v (get_or row i d))
+      (omega (arith, moderate i d l, get_or-le-sum_by (λ (q : Pair). q.weight) row i d l, slim.few)))
 
   each_small : All (λ p. unsigned_abs (term p) ≤ (36864 * 2 ^ 36) * p.weight) row
   each_small j d l =
@@ -63,41 +68,40 @@ module _ (row : List Pair) (numbers : List ℕ) (v : Pair → ℤ) (slim : IsSli
       → unsigned_abs (sum +ℤ part) < 2 ^ 127
   more_small i d l sum part h e = omega (arith, along_small (i + 1), ap unsigned_abs (along_more i d l sum part h e))
 
--- weights and signed weights of a row fit 64 bits
-pub signed_kept : (row : List Pair) → IsSlim row → (i : ℕ) (d : Pair) → i < length row → to_z w64 (of_z w64 (get_or row i d).signed) ≡ (get_or row i d).signed
-signed_kept row slim i d l = to_z-of_z {w = w64} {z = (get_or row i d).signed} (fits_signed_from_abs w64 (get_or row i d).signed
-    (omega (arith, slim.moderate i d l, get_or-le-sum_by (λ (q : Pair). q.weight) row i d l, slim.few)))
+-- the weight that counts at an end is small where the signed weight is
+pub weight_small : (k : EndKind) (p : Pair) → unsigned_abs p.signed ≤ 9 * p.weight → unsigned_abs (weight_of k p) ≤ 9 * p.weight
+weight_small Folded1 p h = omega (arith, abs_is (pos p.weight))
+weight_small Folded2 p h = omega (arith, abs_is (pos p.weight))
+weight_small Show p h = h
 
-pub weight_kept : (row : List Pair) → IsSlim row → (i : ℕ) (d : Pair) → i < length row → (z : ℤ) → z ≡ pos (get_or row i d).weight
-    → to_z w64 (of_z w64 z) ≡ pos (get_or row i d).weight
-weight_kept row slim i d l z is = ap (λ y. to_z w64 (of_z w64 y)) is ∙ to_z-of_z {w = w64} {z = pos (get_or row i d).weight}
-    (fits_signed_from_abs w64 (pos (get_or row i d).weight)
-    (omega (arith, abs_is (pos (get_or row i d).weight), get_or-le-sum_by (λ (q : Pair). q.weight) row i d l, slim.few)))
-
-pub weights_moderate : (row : List Pair) → All (λ p. unsigned_abs (pos p.weight) ≤ 128 * p.weight) row
-weights_moderate row i d l = omega (arith, abs_is (pos (get_or row i d).weight))
+-- each weight that counts at an end is at most 128 times the weight in size
+pub weights_moderate : (k : EndKind) (row : List Pair) → IsSlim row → All (λ p. unsigned_abs (weight_of k p) ≤ 128 * p.weight) row
+weights_moderate Folded1 row slim i d l = omega (arith, abs_is (pos (get_or row i d).weight))
+weights_moderate Folded2 row slim i d l = omega (arith, abs_is (pos (get_or row i d).weight))
+weights_moderate Show row slim i d l = slim.moderate i d l
 
 -- ---- what an end pays along a row
 
-times_number : (n w : ℕ) (z : ℤ) → pos n *ℤ (z *ℤ pos w) ≡ z *ℤ (pos n *ℤ pos w)
-times_number n w z = ap (λ v. pos n *ℤ v) (*ℤ_comm z (pos w)) ∙ nat_scale n w z ∙ *ℤ_comm (pos (n * w)) z
+-- what an end pays in the deals of a pair: the chips times the weight that counts
+pub pays_as : (player : ℕ) (z : End) (p : Pair) → pair_pays player z p ≡ chips_of player z.kind z.put *ℤ weight_of z.kind p
+pays_as player z p = by z.kind refl
+  where
+    by : (k : EndKind) → z.kind ≡ k → pair_pays player z p ≡ chips_of player z.kind z.put *ℤ weight_of z.kind p
+    by Folded1 k = rw k refl
+    by Folded2 k = rw k refl
+    by Show k = rw k refl
 
-pub pays_folded : (stake : ℤ) (numbers : List ℕ) (row : List Pair) → sum_z (λ (p : Pair). pos (number_to numbers p) *ℤ (stake *ℤ pos p.weight)) row
-    ≡ stake *ℤ sum_z (λ (p : Pair). pos (number_to numbers p) *ℤ pos p.weight) row
-pays_folded stake numbers row =
-    sum_z-same (λ (p : Pair). pos (number_to numbers p) *ℤ (stake *ℤ pos p.weight)) (λ p. stake *ℤ (pos (number_to numbers p) *ℤ pos p.weight))
-    (λ p. times_number (number_to numbers p) p.weight stake) row
-    ∙ sum_z-mul stake (λ (p : Pair). pos (number_to numbers p) *ℤ pos p.weight) row
+swapped : (n : ℕ) (c w : ℤ) → pos n *ℤ (c *ℤ w) ≡ c *ℤ (pos n *ℤ w)
+swapped n c w = sym (mul_assoc_z (pos n) c w) ∙ ap (λ v. v *ℤ w) (*ℤ_comm (pos n) c) ∙ mul_assoc_z c (pos n) w
 
-swapped : (n m : ℕ) (z : ℤ) → pos n *ℤ (pos m *ℤ z) ≡ pos m *ℤ (pos n *ℤ z)
-swapped n m z = nat_scale n m z ∙ ap (λ k. pos k *ℤ z) (omega arith) ∙ sym (nat_scale m n z)
-
-pub pays_shown : (put : ℕ) (numbers : List ℕ) (row : List Pair) → sum_z (λ (p : Pair). pos (number_to numbers p) *ℤ (pos put *ℤ p.signed)) row
-    ≡ pos put *ℤ sum_z (λ (p : Pair). pos (number_to numbers p) *ℤ p.signed) row
-pays_shown put numbers row =
-    sum_z-same (λ (p : Pair). pos (number_to numbers p) *ℤ (pos put *ℤ p.signed)) (λ p. pos put *ℤ (pos (number_to numbers p) *ℤ p.signed))
-    (λ p. swapped (number_to numbers p) put p.signed) row
-    ∙ sum_z-mul (pos put) (λ (p : Pair). pos (number_to numbers p) *ℤ p.signed) row
+pub pays_along : (player : ℕ) (z : End) (numbers : List ℕ) (row : List Pair)
+    → row_pays player z numbers row ≡ chips_of player z.kind z.put *ℤ sum_z (λ (p : Pair). pos (number_to numbers p) *ℤ weight_of z.kind p) row
+pays_along player z numbers row =
+    let chips = chips_of player z.kind z.put in
+    let term : Pair → ℤ = λ p. pos (number_to numbers p) *ℤ weight_of z.kind p in
+    sum_z-same (λ (p : Pair). pos (number_to numbers p) *ℤ pair_pays player z p) (λ p. chips *ℤ term p)
+    (λ p. ap (λ v. pos (number_to numbers p) *ℤ v) (pays_as player z p) ∙ swapped (number_to numbers p) chips (weight_of z.kind p)) row
+    ∙ sum_z-mul chips term row
 
 -- ---- the row of a class at an end
 

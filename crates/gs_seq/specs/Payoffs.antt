@@ -38,6 +38,18 @@ pair_pays player z p = pays z.kind
     pays Folded2 = stake player 2 z.put *ℤ pos p.weight
     pays Show = pos z.put *ℤ p.signed
 
+-- the chips that an end pays a player for a unit of the weight that counts there: at a fold the stake, at a showdown the chips put in
+abbrev pub chips_of : ℕ → EndKind → ℕ → ℤ
+chips_of player Folded1 put = stake player 1 put
+chips_of player Folded2 put = stake player 2 put
+chips_of player Show put = pos put
+
+-- the weight of a pair that counts at an end: at a fold the weight, at a showdown the signed weight
+abbrev pub weight_of : EndKind → Pair → ℤ
+weight_of Folded1 p = pos p.weight
+weight_of Folded2 p = pos p.weight
+weight_of Show p = p.signed
+
 -- each of the first n numbers of a list is at most 2^36, the greatest total of a plan
 abbrev pub AreFew : ℕ → List ℕ → Type 0
 AreFew n numbers = (k : ℕ) → k < n → slice_index numbers k ≤ 2 ^ 36

@@ -9,22 +9,8 @@ use crate::numbers::{PlanAtEnd, plus, scaled};
 use crate::pair::Pair;
 use crate::pairs::Pairs;
 use crate::plan::Plan;
-use crate::weighing::{chips_times, stake_of};
-use gs_game::{End, EndKind};
-
-/// Returns what an end pays a player in the deals of a pair.
-fn pays(player: u8, end: End, pair: Pair) -> i128
-    requires few { pair.weight ≤ 67108864 }
-    requires moderate { unsigned_abs pair.signed ≤ 9 * pair.weight }
-    ensures { result ≡ pair_pays player (end_of end) pair }
-{
-    let weight = i128::from(pair.weight);
-    match end.kind {
-        EndKind::Folded1 => chips_times(stake_of(player, 1, end.put), weight),
-        EndKind::Folded2 => chips_times(stake_of(player, 2, end.put), weight),
-        EndKind::Show => chips_times(i128::from(end.put), i128::from(pair.signed)),
-    }
-}
+use crate::weighing::{chips_at, chips_times, weight_at};
+use gs_game::End;
 
 /// Returns `number` times what an end pays a player in the deals of a pair.
 pub(crate) fn times_pays(number: u64, player: u8, end: End, pair: Pair) -> i128
@@ -33,7 +19,8 @@ pub(crate) fn times_pays(number: u64, player: u8, end: End, pair: Pair) -> i128
     requires number { number ≤ 2 ^ 36 }
     ensures { result ≡ pos number *ℤ pair_pays player (end_of end) pair }
 {
-    scaled(number, pays(player, end, pair))
+    let weight = i128::from(weight_at(end, pair));
+    scaled(number, chips_times(chips_at(player, end), weight))
 }
 
 /// Returns `sum` plus `number` times what an end pays a player in the deals of a pair.

@@ -1,9 +1,9 @@
 //! What an end pays along a listed row, from the other player's numbers there.
 
 ghost use Rattle.std.specs.Prelude.{◌≡◌, ◌-◌, ◌*◌, ◌<◌, ◌≤◌, ◌^◌, ◌*ℤ◌, length, pos, slice_index, unsigned_abs};
-ghost use Rattle.gs_game.specs.Seen.{end_of};
+ghost use Rattle.gs_game.specs.Seen.{end_kind_of, end_of};
 ghost use Rattle.gs_model.specs.Sums.{sum_z};
-ghost use Rattle.gs_seq.specs.{Payoffs.{HasNumbers, row_pays, stake}, Rows.{IsSlim}};
+ghost use Rattle.gs_seq.specs.{Payoffs.{HasNumbers, chips_of, row_pays, stake, weight_of}, Rows.{IsSlim}};
 
 use crate::numbers::plus;
 use crate::pair::Pair;
@@ -27,43 +27,50 @@ fn times(number: u64, weight: i64) -> i128
     i128::from(number as i64) * i128::from(weight)
 }
 
-/// Returns the sum of the weights of a row, each times the number of its class.
-fn weights_along(row: &[Pair], numbers: &[u64]) -> i128
-    requires slim { IsSlim row.now }
-    requires numbers { HasNumbers numbers.now row.now }
-    ensures value { result ≡ sum_z (λ p. pos (slice_index numbers.now (p.two - 1)) *ℤ pos p.weight) row.now }
-    ensures small { unsigned_abs result < 2 ^ 90 }
+/// Returns the weight of a pair that counts at an end: at a fold the weight, at a showdown the signed weight.
+pub(crate) fn weight_at(end: End, pair: Pair) -> i64
+    ensures { result ≡ weight_of (end_kind_of end.kind) pair }
 {
-    let mut sum = 0i128;
-    for pair in row {
-        let number = number_of(numbers, pair.two);
-        sum = plus(sum, times(number, i64::from(pair.weight)));
+    match end.kind {
+        EndKind::Folded1 | EndKind::Folded2 => i64::from(pair.weight),
+        EndKind::Show => pair.signed,
     }
-    sum
 }
 
-/// Returns the sum of the signed weights of a row, each times the number of its class.
-fn signed_along(row: &[Pair], numbers: &[u64]) -> i128
+/// Returns the sum of the weights of a row that count at an end, each times the number of its class.
+fn weights_along(end: End, row: &[Pair], numbers: &[u64]) -> i128
     requires slim { IsSlim row.now }
     requires numbers { HasNumbers numbers.now row.now }
-    ensures value { result ≡ sum_z (λ p. pos (slice_index numbers.now (p.two - 1)) *ℤ p.signed) row.now }
+    ensures value { result ≡ sum_z (λ p. pos (slice_index numbers.now (p.two - 1)) *ℤ weight_of (end_kind_of end.kind) p) row.now }
     ensures small { unsigned_abs result < 2 ^ 90 }
 {
     let mut sum = 0i128;
     for pair in row {
         let number = number_of(numbers, pair.two);
-        sum = plus(sum, times(number, pair.signed));
+        sum = plus(sum, times(number, weight_at(end, *pair)));
     }
     sum
 }
 
 /// Returns what a fold pays a player in chips: the player who folds loses what was put in, and the other wins it.
-pub(crate) fn stake_of(player: u8, folder: u8, put: u16) -> i128
+fn stake_of(player: u8, folder: u8, put: u16) -> i128
     ensures value { result ≡ stake player folder put }
     ensures small { unsigned_abs result ≤ 65535 }
 {
     let chips = i128::from(put);
     if player == folder { -chips } else { chips }
+}
+
+/// Returns the chips that an end pays a player for a unit of the weight that counts there: at a fold the stake, at a showdown the chips put in.
+pub(crate) fn chips_at(player: u8, end: End) -> i128
+    ensures value { result ≡ chips_of player (end_kind_of end.kind) end.put }
+    ensures small { unsigned_abs result ≤ 65535 }
+{
+    match end.kind {
+        EndKind::Folded1 => stake_of(player, 1, end.put),
+        EndKind::Folded2 => stake_of(player, 2, end.put),
+        EndKind::Show => i128::from(end.put),
+    }
 }
 
 /// Returns chips times a weight, or times a sum of weights.
@@ -81,9 +88,5 @@ pub(crate) fn row_paid(player: u8, end: End, row: &[Pair], numbers: &[u64]) -> i
     requires numbers { HasNumbers numbers.now row.now }
     ensures { result ≡ row_pays player (end_of end) numbers.now row.now }
 {
-    match end.kind {
-        EndKind::Folded1 => chips_times(stake_of(player, 1, end.put), weights_along(row, numbers)),
-        EndKind::Folded2 => chips_times(stake_of(player, 2, end.put), weights_along(row, numbers)),
-        EndKind::Show => chips_times(i128::from(end.put), signed_along(row, numbers)),
-    }
+    chips_times(chips_at(player, end), weights_along(end, row, numbers))
 }
