@@ -24,21 +24,7 @@ fn classes_below(alloc: Global, classes: &Classes, round: u8) -> Result<Vec<Vec<
     Ok(below)
 }
 
-/// Returns a pair of the next round as a part: its weight counts at the class from which player 2's class descends.
-fn part_above(classes: &Classes, round: u8, pair: Pair) -> Part
-    requires some { 0 < round }
-    requires before_last { round < length classes.now.lists }
-    requires class { IsClass classes.now.lists (round + 1) pair.two }
-    ensures { result ≡ part_up classes.now round pair }
-{
-    Part {
-        class: classes.parent_class(round + 1, pair.two),
-        outcome: 0,
-        weight: pair.weight,
-    }
-}
-
-/// Adds the pairs of a row of the next round to `parts`.
+/// Adds the pairs of a row of the next round to `parts`: the weight of each counts at the class from which player 2's class descends.
 fn push_above(
     classes: &Classes,
     round: u8,
@@ -51,7 +37,11 @@ fn push_above(
     ensures { OnOk result (parts.new.items ≡ parts.old.items ++ map (part_up classes.now round) row.now) }
 {
     for pair in row {
-        parts.push(part_above(classes, round, *pair))?;
+        parts.push(Part {
+            class: classes.parent_class(round + 1, pair.two),
+            outcome: 0,
+            weight: pair.weight,
+        })?;
     }
     Ok(())
 }

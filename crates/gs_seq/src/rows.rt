@@ -116,36 +116,30 @@ fn class_row(alloc: Global, deals: &AspectKeys<'_>, class: u32) -> Result<Vec<Pa
     row_of(alloc, &sums, u64::from(members))
 }
 
-/// Returns the rows of all classes of a round.
-fn class_rows(alloc: Global, deals: &AspectKeys<'_>) -> Result<Vec<Vec<Pair>>, AllocError>
-    requires aspect { deals.now.aspect ≡ aspects.Deals }
-    requires lossless { IsLossless (frame_in deals.now.signals.now.game.now) deals.now.classes.now.lists }
-    ensures { IfOk result (λ v. AreRowsIn (frame_in deals.now.signals.now.game.now) deals.now.classes.now.lists deals.now.round v.items) }
-{
-    let count = deals.classes.classes(deals.round);
-    let mut rows = Vec::with_capacity(alloc, count as usize)?;
-    for before in 0..count {
-        let row = class_row(alloc, deals, before + 1)?;
-        rows.push(row)?;
-    }
-    Ok(rows)
-}
-
 /// Returns the rows of a round, from all deals.
 pub(crate) fn rows_in(
     alloc: Global,
-    signals: &Signals,
-    classes: &Classes,
+    lossless: &Lossless,
     round: u8,
 ) -> Result<Vec<Vec<Pair>>, AllocError>
-    requires parents { classes.now.parents ≡ (frame_in signals.now.game.now).parents }
-    requires lossless { IsLossless (frame_in signals.now.game.now) classes.now.lists }
     requires some { 0 < round }
-    requires top { round ≤ last_round (frame_in signals.now.game.now) }
-    ensures { IfOk result (λ v. AreRowsIn (frame_in signals.now.game.now) classes.now.lists round v.items) }
+    requires top { round ≤ last_round (frame_in lossless.now.signals.now.game.now) }
+    ensures { IfOk result (λ v. AreRowsIn (frame_in lossless.now.signals.now.game.now) lossless.now.classes.now.lists round v.items) }
 {
-    let deals = AspectKeys::of(alloc, signals, classes, Aspect::Deals, round)?;
-    class_rows(alloc, &deals)
+    let deals = AspectKeys::of(
+        alloc,
+        lossless.signals,
+        lossless.classes,
+        Aspect::Deals,
+        round,
+    )?;
+    let count = deals.classes.classes(deals.round);
+    let mut rows = Vec::with_capacity(alloc, count as usize)?;
+    for before in 0..count {
+        let row = class_row(alloc, &deals, before + 1)?;
+        rows.push(row)?;
+    }
+    Ok(rows)
 }
 
 /// Returns all pairs of a row as one.
@@ -196,9 +190,8 @@ fn rows_listed(alloc: Global, lossless: &Lossless) -> Result<Vec<Vec<Vec<Pair>>>
     ensures rows { IfOk result (λ v. AreRows (frame_in lossless.now.signals.now.game.now) lossless.now.classes.now.lists v.items) }
     ensures all { IfOk result (λ v. length v.items ≡ last_round (frame_in lossless.now.signals.now.game.now)) }
 {
-    let signals = lossless.signals();
-    let last = signals.rounds();
-    let of_last = rows_in(alloc, signals, lossless.classes(), last)?;
+    let last = lossless.signals.rounds();
+    let of_last = rows_in(alloc, lossless, last)?;
     let mut rows = vec![in alloc; of_last]?;
     for round in (1..last).rev() {
         let above = rows_above(alloc, lossless, round, &rows[0])?;

@@ -10,7 +10,7 @@ use Rattle.gs_tree.specs.Trees.{rules_of}
 use Rattle.gs_seq.specs.{Games.{frame_in}, Rows.{IsRow, gathered}}
 use Rattle.gs_seq.proofs.before.row_by.Goals as goal
 
-top : (c : Start) → c.args.at.now.round ≤ round_count (rules_of c.args.at.now.signals.now)
+top : (c : Start) → c.args.at.now.round ≤ round_count (rules_of c.args.at.now.lossless.now.signals.now)
 top c = omega (arith, c.args.at.now.before_last)
 
 -- the sums of the first member
@@ -25,25 +25,25 @@ amounts c =
 pub sums-requires : goal.sums-requires
 sums-requires c =
     let few = top (goal.at.sums-requires c).Start in
-    let same = ap length (same_signals c.args.at.now.signals.now.game.now c.args.at.now.stopped.now.game.now c.args.at.now.round c.args.at.now.some few
+    let same = ap length (same_signals c.args.at.now.lossless.now.signals.now.game.now c.args.at.now.stopped.now.game.now c.args.at.now.round c.args.at.now.some few
     c.args.at.now.stops) in
     as_asked (λ s k a m. c.first-first.result < length (signals (rules_of s) m)) (sym c.requires.signals) (sym c.requires.classes)
     (sym c.requires.aspect.0, sym c.requires.aspect.1) (omega (
       arith,
       c.first-first.ensures.within,
-      list_long (rules_of c.args.at.now.signals.now) c.args.at.now.classes.now c.args.at.now.parents
+      list_long (rules_of c.args.at.now.lossless.now.signals.now) c.args.at.now.lossless.now.classes.now c.args.at.now.lossless.now.parents
           c.args.at.now.round c.args.at.now.some few,
       same,
     ))
 
 pub overflow_mul-from : goal.overflow_mul-from
 overflow_mul-from c =
-    let g = c.args.at.now.signals.now.game.now in
+    let g = c.args.at.now.lossless.now.signals.now.game.now in
     let round = c.args.at.now.round in
     let within = top (goal.at.overflow_mul-from c).Start in
     let few = ways_few g c.args.at.now.stopped.now.game.now round c.args.at.now.some within c.args.at.now.stops in
-    let long = list_long (rules_of c.args.at.now.signals.now) c.args.at.now.classes.now c.args.at.now.parents round c.args.at.now.some within in
-    let most = count_by-le-length (λ x. x == c.args.class) (list_of c.args.at.now.classes.now.lists round) in
+    let long = list_long (rules_of c.args.at.now.lossless.now.signals.now) c.args.at.now.lossless.now.classes.now c.args.at.now.lossless.now.parents round c.args.at.now.some within in
+    let most = count_by-le-length (λ x. x == c.args.class) (list_of c.args.at.now.lossless.now.classes.now.lists round) in
     let size : c.from.result ≤ 200000 = omega (arith, c.from.ensures, c.size.ensures, most, long, g.limits.signals_in round within) in
     omega (arith, mul-le-mul_right c.args.ways size, few, c.requires.ways)
 
@@ -51,9 +51,9 @@ pub row_of-requires : goal.row_of-requires
 row_of-requires c =
     let at = goal.at.row_of-requires c in
     let sums = c.deref.result.now in
-    let fits = row_fits c.args.at.now.signals.now.game.now c.args.at.now.stopped.now.game.now c.args.at.now.round c.args.at.now.some
-    (top at.Start) c.args.at.now.stops c.args.at.now.before_last c.args.at.now.classes.now c.args.at.now.parents
-    c.args.at.now.lossless c.args.at.now.seen.now.lists c.args.at.now.same c.args.class c.first-first.result c.from.result
+    let fits = row_fits c.args.at.now.lossless.now.signals.now.game.now c.args.at.now.stopped.now.game.now c.args.at.now.round c.args.at.now.some
+    (top at.Start) c.args.at.now.stops c.args.at.now.before_last c.args.at.now.lossless.now.classes.now c.args.at.now.lossless.now.parents
+    c.args.at.now.lossless.now.lossless c.args.at.now.seen.now.lists c.args.at.now.same c.args.class c.first-first.result c.from.result
     (c.from.ensures ∙ c.size.ensures) sums (amounts at.After-deref) c.first-first.ensures.within
     c.first-first.ensures.member in
     omega (arith, fits, ap (λ n. (c.from.result * n) * sum_by (λ (p : Part). p.weight) sums) c.requires.ways)
@@ -61,12 +61,12 @@ row_of-requires c =
 pub returns : goal.returns
 returns c =
     let at = goal.at.returns c in
-    let f = frame_in c.args.at.now.signals.now.game.now in
-    let lists = c.args.at.now.classes.now.lists in
+    let f = frame_in c.args.at.now.lossless.now.signals.now.game.now in
+    let lists = c.args.at.now.lossless.now.classes.now.lists in
     let sums = c.deref.result.now in
-    let row = row_is c.args.at.now.signals.now.game.now c.args.at.now.stopped.now.game.now c.args.at.now.round c.args.at.now.some
-    (top at.Start) c.args.at.now.stops c.args.at.now.before_last c.args.at.now.classes.now c.args.at.now.parents
-    c.args.at.now.lossless c.args.at.now.seen.now.lists c.args.at.now.same c.args.class c.first-first.result c.from.result
+    let row = row_is c.args.at.now.lossless.now.signals.now.game.now c.args.at.now.stopped.now.game.now c.args.at.now.round c.args.at.now.some
+    (top at.Start) c.args.at.now.stops c.args.at.now.before_last c.args.at.now.lossless.now.classes.now c.args.at.now.lossless.now.parents
+    c.args.at.now.lossless.now.lossless c.args.at.now.seen.now.lists c.args.at.now.same c.args.class c.first-first.result c.from.result
     (c.from.ensures ∙ c.size.ensures) sums (amounts at.After-deref) c.first-first.ensures.within
     c.first-first.ensures.member in
     let here = subst (λ n. IsRow f lists c.args.at.now.round c.args.class (gathered (c.from.result * n) sums)) (sym c.requires.ways) row in
@@ -78,8 +78,8 @@ size-requires-clause-top c =
     omega (
       arith,
       c.args.at.now.before_last,
-      last_round_of (rules_of c.args.at.now.signals.now),
-      (over (frame_in c.args.at.now.signals.now.game.now) c.args.at.now.classes.now c.args.at.now.parents).rounds,
+      last_round_of (rules_of c.args.at.now.lossless.now.signals.now),
+      (over (frame_in c.args.at.now.lossless.now.signals.now.game.now) c.args.at.now.lossless.now.classes.now c.args.at.now.lossless.now.parents).rounds,
     )
 
 pub first-first-requires-clause-top : goal.first-first-requires-clause-top
@@ -87,8 +87,8 @@ first-first-requires-clause-top c =
     omega (
       arith,
       c.args.at.now.before_last,
-      last_round_of (rules_of c.args.at.now.signals.now),
-      (over (frame_in c.args.at.now.signals.now.game.now) c.args.at.now.classes.now c.args.at.now.parents).rounds,
+      last_round_of (rules_of c.args.at.now.lossless.now.signals.now),
+      (over (frame_in c.args.at.now.lossless.now.signals.now.game.now) c.args.at.now.lossless.now.classes.now c.args.at.now.lossless.now.parents).rounds,
     )
 
 pub size-requires-clause-some : goal.size-requires-clause-some

@@ -1,37 +1,25 @@
-use Rattle.gs_filter.specs.Filter.{Filter}
 use Rattle.std.proofs.{Common.{◌≡◌, ◌+◌, ◌∙◌, ap, Vec, Global, length, sym, arith}, lemmas.List.{length_push}}
-use Rattle.gs_model.specs.{Frame.{last_round}, Lossless.{IsLossless}}
+use Rattle.gs_model.specs.Frame.{last_round}
 use Rattle.gs_model.proofs.Walked.{last_round_of}
-use Rattle.gs_tree.specs.{Trees.{rules_of}, declared.signals.Signals.{Signals}}
-use Rattle.gs_seq.specs.{Games.{frame_in}, Rows.{AreRowsIn}, declared.pair.Pair.{Pair}}
-use Rattle.gs_seq.proofs.{Carried.{held_by, read_of}, CellLaws.{AreRowsOf, pushed_to}}
+use Rattle.gs_tree.specs.Trees.{rules_of}
+use Rattle.gs_seq.specs.{Games.{frame_in}, declared.pair.Pair.{Pair}}
+use Rattle.gs_seq.proofs.CellLaws.{AreRowsOf, pushed_to}
 use Rattle.gs_seq.proofs.before.rows_before.Goals as goal
-
-pub rows_at-requires-clause-lossless : goal.rows_at-requires-clause-lossless
-rows_at-requires-clause-lossless c = read_of c.args.lossless.now c.signals-signals.result.now c.classes.result.now IsLossless c.signals-signals.ensures.held
-    c.classes.ensures.held c.classes.ensures.lossless
 
 pub loop-before-preserved : goal.loop-before-preserved
 loop-before-preserved c =
     let rows = c.loop-before.rows in
     let x = c.in_ok-at.at in
-    let here = held_by c.args.lossless.now c.signals-signals.result.now c.classes.result.now (λ f lists. AreRowsIn f lists (c.loop-before.before + 1) x.items)
-    c.signals-signals.ensures.held c.classes.ensures.held c.in_ok-at.ensures in
     record {
       long = ap length c.in_ok-push.ensures.items ∙ length_push rows.items x ∙ ap (λ n. n + 1) c.loop-before.invariant.long;
       rows = pushed_to (λ j (v : Vec (Vec Pair Global) Global). AreRowsOf c.args.lossless.now (j + 1) v.items) rows.items _ x c.loop-before.before
-          c.in_ok-push.ensures.items c.loop-before.invariant.long c.loop-before.invariant.rows here;
+          c.in_ok-push.ensures.items c.loop-before.invariant.long c.loop-before.invariant.rows c.in_ok-at.ensures;
     }
-
-pub rows_at-requires-clause-parents : goal.rows_at-requires-clause-parents
-rows_at-requires-clause-parents c = ap (λ (k : Filter). k.parents) c.classes.ensures.held ∙ c.args.lossless.now.parents
-    ∙ ap (λ (x : Signals). (frame_in x.game.now).parents) (sym c.signals-signals.ensures.held)
 
 pub returns : goal.returns
 returns c = record {
   long = let last : c.rounds-count.result ≡ last_round (frame_in c.args.lossless.now.signals.now.game.now) =
-      c.rounds-count.ensures.value ∙ sym (last_round_of (rules_of c.signals-signals.result.now))
-      ∙ ap (λ (x : Signals). last_round (frame_in x.game.now)) c.signals-signals.ensures.held in
+      c.rounds-count.ensures.value ∙ sym (last_round_of (rules_of c.args.lossless.now.signals.now)) in
       omega (arith, c.loop-before.invariant.long, last, c.rounds-count.ensures.some, c.loop-before-test.false, c.loop-before.auto.before-end);
   rows = omega arith;
 }

@@ -7,9 +7,6 @@ use Rattle.gs_seq.proofs.before.rows_from.Goals as goal
 pub invariant_of-stopped : goal.invariant_of-stopped
 invariant_of-stopped c = record { sound = c.in_ok-stopped.stopped.sound }
 
-pub rows_over-requires-clause-lossless : goal.rows_over-requires-clause-lossless
-rows_over-requires-clause-lossless c = c.requires.lossless
-
 -- the game that is looked at stops after the round
 pub rows_over-requires-clause-stops : goal.rows_over-requires-clause-stops
 rows_over-requires-clause-stops c =
@@ -20,9 +17,6 @@ rows_over-requires-clause-stops c =
 
 pub rows_over-requires-clause-before_last : goal.rows_over-requires-clause-before_last
 rows_over-requires-clause-before_last c = omega arith
-
-pub rows_over-requires-clause-parents : goal.rows_over-requires-clause-parents
-rows_over-requires-clause-parents c = grind arith
 
 pub returns : goal.returns
 returns c = c.rows_over.ensures

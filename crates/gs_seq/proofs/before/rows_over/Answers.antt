@@ -10,8 +10,8 @@ stopped_classes-requires-clause-top c =
     omega (
       arith,
       c.requires.before_last,
-      last_round_of (rules_of c.args.signals.now),
-      (over (frame_in c.args.signals.now.game.now) c.args.classes.now c.requires.parents).rounds,
+      last_round_of (rules_of c.args.lossless.now.signals.now),
+      (over (frame_in c.args.lossless.now.signals.now.game.now) c.args.lossless.now.classes.now c.args.lossless.now.parents).rounds,
     )
 
 pub invariant_of-at : goal.invariant_of-at

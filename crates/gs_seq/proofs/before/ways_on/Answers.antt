@@ -14,10 +14,10 @@ nonzero_div-result c =
 
 pub returns : goal.returns
 returns c =
-    let all : c.weight.result ≡ total_weight (frame_in c.args.at.now.signals.now.game.now) = c.weight.ensures
+    let all : c.weight.result ≡ total_weight (frame_in c.args.at.now.lossless.now.signals.now.game.now) = c.weight.ensures
     ∙ ap (λ (g : ValidGame). total_weight (frame_in g)) c.game.ensures in
     let same : c.weight-2.result ≡ total_weight (frame_in c.args.at.now.stopped.now.game.now) = c.weight-2.ensures
     ∙ ap (λ (g : ValidGame). total_weight (frame_in g)) c.game-2.ensures in
-    ap (λ n. n / c.weight-2.result) all ∙ ap (λ n. total_weight (frame_in c.args.at.now.signals.now.game.now) / n) same
-    ∙ quotient c.args.at.now.signals.now.game.now c.args.at.now.stopped.now.game.now c.args.at.now.round c.args.at.now.some
+    ap (λ n. n / c.weight-2.result) all ∙ ap (λ n. total_weight (frame_in c.args.at.now.lossless.now.signals.now.game.now) / n) same
+    ∙ quotient c.args.at.now.lossless.now.signals.now.game.now c.args.at.now.stopped.now.game.now c.args.at.now.round c.args.at.now.some
     (omega (arith, c.args.at.now.before_last)) c.args.at.now.stops

@@ -1,4 +1,4 @@
-use Rattle.std.proofs.{Common.{arith, rules}, lemmas.Grind.{common_steps}}
+use Rattle.std.proofs.{Common.{arith}, lemmas.Grind.{common_steps}}
 use Rattle.gs_seq.proofs.rows.joined.Goals as goal
 
 pub returns : goal.returns

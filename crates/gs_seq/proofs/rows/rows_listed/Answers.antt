@@ -1,19 +1,14 @@
 use Rattle.std.proofs.lemmas.Grind.{common_steps}
 use Rattle.std.proofs.Common.{◌≡◌, ◌+◌, ◌-◌, ◌∷◌, [], ℕ, List, Vec, Global, ap, get_or, length, sym, ◌∙◌, subst, arith}
-use Rattle.gs_filter.specs.Filter.{Filter}
-use Rattle.gs_model.specs.{Frame.{last_round}, Lossless.{IsLossless}}
+use Rattle.gs_model.specs.Frame.{last_round}
 use Rattle.gs_model.proofs.Walked.{last_round_of}
-use Rattle.gs_tree.specs.{Trees.{rules_of}, declared.signals.Signals.{Signals}}
-use Rattle.gs_seq.specs.{Games.{frame_in}, Rows.{AreRowsIn}, declared.pair.Pair.{Pair}}
-use Rattle.gs_seq.proofs.{Carried.{held_by, read_of}, CellLaws.{AreRowsOf, put_before}}
+use Rattle.gs_tree.specs.Trees.{rules_of}
+use Rattle.gs_seq.specs.{Games.{frame_in}, declared.pair.Pair.{Pair}}
+use Rattle.gs_seq.proofs.CellLaws.{AreRowsOf, put_before}
 use Rattle.gs_seq.proofs.rows.rows_listed.Goals as goal
 
-pub rows_in-requires-clause-lossless : goal.rows_in-requires-clause-lossless
-rows_in-requires-clause-lossless c = read_of c.args.lossless.now c.signals-signals.result.now c.classes.result.now IsLossless c.signals-signals.ensures.held
-    c.classes.ensures.held c.classes.ensures.lossless
-
 pub rows_in-requires-clause-top : goal.rows_in-requires-clause-top
-rows_in-requires-clause-top c = omega (arith, c.rounds-last.ensures.value, last_round_of (rules_of c.signals-signals.result.now))
+rows_in-requires-clause-top c = omega (arith, c.rounds-last.ensures.value, last_round_of (rules_of c.args.lossless.now.signals.now))
 
 pub loop-round-init : goal.loop-round-init
 loop-round-init c =
@@ -21,17 +16,14 @@ loop-round-init c =
     let first = c.in_ok-of_last.of_last in
     let round : ℕ = c.rounds-last.result in
     let last : round ≡ last_round (frame_in s.signals.now.game.now) =
-    c.rounds-last.ensures.value ∙ sym (last_round_of (rules_of c.signals-signals.result.now))
-    ∙ ap (λ (x : Signals). last_round (frame_in x.game.now)) c.signals-signals.ensures.held in
+    c.rounds-last.ensures.value ∙ sym (last_round_of (rules_of s.signals.now)) in
     let items : c.in_ok-rows.rows.items ≡ first ∷ [] = c.in_ok-rows.ensures.items in
-    let here = held_by s c.signals-signals.result.now c.classes.result.now (λ f lists. AreRowsIn f lists round first.items) c.signals-signals.ensures.held
-    c.classes.ensures.held c.in_ok-of_last.ensures in
     record {
       some = c.rounds-last.ensures.some;
       within = omega (arith, last);
       long = omega (arith, ap (λ (xs : List (Vec (Vec Pair Global) Global)). length xs) items, last);
       each = put_before (λ j (v : Vec (Vec Pair Global) Global). AreRowsOf s j v.items) [] c.in_ok-rows.rows.items first round items
-          (λ k d l. absurd (omega arith)) here;
+          (λ k d l. absurd (omega arith)) c.in_ok-of_last.ensures;
     }
 
 pub index-requires : goal.index-requires
@@ -85,11 +77,6 @@ returns-clause-rows c =
           (let at : c.loop-round.round + (round - 1) ≡ round = omega (arith, some, i.some, c.loop-round-test.false) in
           subst (λ j. AreRowsOf s j (get_or rows (round - 1) d).items) at (i.each (round - 1) d (omega (arith, some, within))));
     }
-
-pub rows_in-requires-clause-parents : goal.rows_in-requires-clause-parents
-rows_in-requires-clause-parents c =
-    ap (λ (x : Filter). x.parents) c.classes.ensures.held ∙ c.args.lossless.now.parents
-    ∙ ap (λ (x : Signals). (frame_in x.game.now).parents) (sym c.signals-signals.ensures.held)
 
 pub rows_above-requires-clause-some : goal.rows_above-requires-clause-some
 rows_above-requires-clause-some c = grind arith
