@@ -1,5 +1,5 @@
 -- What an end pays in the deals of pairs of classes.
-use Rattle.std.specs.Prelude.{All, ℕ, length, ◌-◌, ◌<◌, ◌≤◌, ◌≡◌, ◌==◌, ◌^◌, List, ℤ, pos, neg_ℤ, ◌*ℤ◌, if◌then◌else◌, slice_index}
+use Rattle.std.specs.Prelude.{All, ℕ, get_or, length, ◌-◌, ◌<◌, ◌≤◌, ◌≡◌, ◌==◌, ◌^◌, List, ℤ, pos, neg_ℤ, ◌*ℤ◌, if◌then◌else◌, slice_index}
 use Rattle.gs_model.specs.{Classes.{ClassLists, IsClass, class_count, classes_in}, Frame.{Frame, other_player, payoff_to, round_of}}
 use Rattle.gs_model.specs.{Pairs.{class_number, pair_sum}, Plans.{Plan}, Positions.{End, EndKind, Folded1, Folded2, Show, at_end}, Sums.{sum_z}}
 use Rattle.gs_seq.specs.{Rows.{AreWholesIn}, declared.pair.Pair.{Pair}}
@@ -59,6 +59,11 @@ abbrev pub number_sum : Frame → ClassLists → ℕ → List ℕ → ℕ → �
 number_sum f lists player numbers z c =
     let round = round_of f (at_end z) in
     sum_z (λ e. pos (slice_index numbers (e - 1)) *ℤ pair_sum f lists lists round (payoff_to f player z) c e) (classes_in lists round)
+
+-- the sums have `number_sum` at each class, and behind the classes what they had before
+pub record ArePaid (f : Frame) (lists : ClassLists) (player : ℕ) (numbers : List ℕ) (z : ℕ) (old new : List ℤ) : Type 0 where
+  pub here : (c : ℕ) → IsClass lists (round_of f (at_end z)) c → get_or new (c - 1) (pos 0) ≡ number_sum f lists player numbers z c
+  pub behind : (i : ℕ) → end_classes f lists z ≤ i → get_or new i (pos 0) ≡ get_or old i (pos 0)
 
 -- each pair of a row has a number in the list, of at most 2^36
 abbrev pub HasNumbers : List ℕ → List Pair → Type 0

@@ -28,6 +28,9 @@ returns-in-None-clause-here c =
     λ k h. c.pay_all.ensures.here k h ∙ by_numbers (abstract_frame a) (lists_of a) c.args.player (class_plan (abstract_frame a) (lists_of a) c.args.other.now)
     c.args.end c.read_numbers.new.numbers (returns-in-None-clause-numbers c) k
 
+pub invariant_of-paying : goal.invariant_of-paying
+invariant_of-paying c = grind (arith, common_steps)
+
 pub pay_along-requires : goal.pay_along-requires
 pay_along-requires c = grind (arith, common_steps)
 

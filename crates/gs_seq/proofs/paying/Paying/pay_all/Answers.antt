@@ -4,16 +4,16 @@ use Rattle.std.proofs.lemmas.List.{get_or-set_other, get_or-set_same}
 use Rattle.std.specs.Int.{w128}
 use Rattle.gs_seq.specs.{Abstracts.{abstract_frame, lists_of}, Payoffs.{number_sum}}
 use Rattle.gs_seq.proofs.Signed.{read_back}
-use Rattle.gs_seq.proofs.form.Abstract.pay_all.Goals as goal
+use Rattle.gs_seq.proofs.paying.Paying.pay_all.Goals as goal
 
 pub loop-before-preserved : goal.loop-before-preserved
 loop-before-preserved c =
-    let f = abstract_frame c.args.self.now in
-    let lists = lists_of c.args.self.now in
+    let o = c.args.self.now in
     let sums = c.loop-before.sums in
     let n = c.loop-before.before in
     let put = to_z w128 (of_z w128 c.paid.result) in
-    let paid : put ≡ number_sum f lists c.args.player c.args.numbers.now c.args.end (n + 1) = read_back c.paid.result _ (record { sfits = c.paid.type_inv }) c.paid.ensures in
+    let paid : put ≡ number_sum (abstract_frame o.form.now) (lists_of o.form.now) o.player o.numbers.now o.end (n + 1) =
+    read_back c.paid.result _ (record { sfits = c.paid.type_inv }) c.paid.ensures in
     let within : n < length sums = omega (
       arith,
       c.loop-before-test.true,

@@ -3,13 +3,13 @@ use Rattle.std.specs.declared.alloc.Global.{Global}
 use Rattle.gs_model.specs.{Frame.{round_of}, Positions.{at_end}}
 use Rattle.gs_seq.specs.{Abstracts.{abstract_frame, lists_of}, Rows.{AreWholesIn}, declared.pair.Pair.{Pair}}
 use Rattle.gs_seq.proofs.Wholed.{wholes_in_round, wholes_long}
-use Rattle.gs_seq.proofs.form.Abstract.wholes_for.Goals as goal
+use Rattle.gs_seq.proofs.paying.Paying.wholes.Goals as goal
 
 pub returns : goal.returns
 returns c =
-    let a = c.args.self.now in
+    let a = c.args.self.now.form.now in
     let f = abstract_frame a in
-    let round = round_of f (at_end c.args.end) in
+    let round = round_of f (at_end c.args.self.now.end) in
     let read : Vec Pair Global = c.index.result.now in
     let place : c.from-round.result - 1 ≡ round - 1 = omega (arith, c.from-round.ensures, c.end_in.ensures.round) in
     let is : read ≡ get_or a.wholes.items (round - 1) read = c.index.ensures ∙ ap (λ k. get_or a.wholes.items k read) place in
@@ -22,8 +22,8 @@ returns c =
 
 pub index-requires : goal.index-requires
 index-requires c =
-    let a = c.args.self.now in
-    omega (arith, wholes_long a.rows.items a.wholes.items a.wholed, c.from-round.ensures, c.end_in.ensures.round, c.requires.listed)
+    let a = c.args.self.now.form.now in
+    omega (arith, wholes_long a.rows.items a.wholes.items a.wholed, c.from-round.ensures, c.end_in.ensures.round, c.requires)
 
 pub overflow_sub-round : goal.overflow_sub-round
 overflow_sub-round c = omega arith

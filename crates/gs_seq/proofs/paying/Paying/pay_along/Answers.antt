@@ -8,18 +8,18 @@ use Rattle.gs_model.specs.{Classes.{class_count}, Deals.{Deal}, Frame.{end_at}}
 use Rattle.gs_tree.specs.Walk.{last_count}
 use Rattle.gs_seq.specs.{Abstracts.{abstract_frame, lists_of}, Payoffs.{pair_pays}, Singles.{deal_pair}}
 use Rattle.gs_seq.proofs.{AlongBoards.{by_deals, single_count}, Forms.{given_in, one_or_two}}
-use Rattle.gs_seq.proofs.form.Abstract.pay_along.Goals as goal
+use Rattle.gs_seq.proofs.paying.Paying.pay_along.Goals as goal
 
 pub deal_sums-requires-clause-numbers : goal.deal_sums-requires-clause-numbers
 deal_sums-requires-clause-numbers c =
-    let a = c.args.self.now in
+    let a = c.args.self.now.form.now in
     let h = a.lossless.now.parents in
     let count = single_count a.lossless.now.signals.now.game.now a.lossless.now.classes.now h c.requires.single in
-    omega (arith, c.requires.order.count, count, ap (class_count (lists_of a)) c.requires.last, c.requires.wide)
+    omega (arith, c.requires.order.count, count, ap (class_count (lists_of a)) c.requires.last, c.args.self.now.wide)
 
 pub deal_sums-requires-clause-sums : goal.deal_sums-requires-clause-sums
 deal_sums-requires-clause-sums c =
-    let a = c.args.self.now in
+    let a = c.args.self.now.form.now in
     let h = a.lossless.now.parents in
     let count = single_count a.lossless.now.signals.now.game.now a.lossless.now.classes.now h c.requires.single in
     let here = mid_len 0 c.end_class_total-stop.result c.args.sums.now (omega (arith, c.end_class_total-stop.ensures, c.requires.room)) in
@@ -28,10 +28,10 @@ deal_sums-requires-clause-sums c =
 pub returns : goal.returns
 returns c = record {
   here = λ k class. (
-      let a = c.args.self.now in
+      let a = c.args.self.now.form.now in
       let g = a.lossless.now.signals.now.game.now in
       let cls = a.lossless.now.classes.now in
-      let z = c.args.end in
+      let z = c.args.self.now.end in
       let s = k - 1 in
       let sums = c.args.sums.now in
       let new : List ℤ = c.deal_sums.new.sums in
@@ -44,16 +44,16 @@ returns c = record {
       let within : s < last_count (game_of g.game) = omega (arith, class.0, class.1, count, last) in
       let front = length-take-le 0 sums (omega arith) in
       let w = given_in a in
-      let same : (d : Deal) → pos d.weight *ℤ paid c.pays_at-pays.result d.outcome ≡ pair_pays c.args.player (end_at (abstract_frame a) z) (deal_pair d) =
-      λ d. c.pays_at-pays.ensures d ∙ ap (λ e. pair_pays c.args.player e (deal_pair d)) c.end_in.ensures.value in
+      let same : (d : Deal) → pos d.weight *ℤ paid c.pays_at-pays.result d.outcome ≡ pair_pays c.args.self.now.player (end_at (abstract_frame a) z) (deal_pair d) =
+      λ d. c.pays_at-pays.ensures d ∙ ap (λ e. pair_pays c.args.self.now.player e (deal_pair d)) c.end_in.ensures.value in
       (let at : s ≡ 0 + s = omega arith in ap (λ i. get_or (take 0 sums ++ (new ++ after)) i (pos 0)) at)
       ∙ get_or-append_right (take 0 sums) (new ++ after) 0 (0 + s) (pos 0) front (omega arith)
       ∙ ap (λ i. get_or (new ++ after) i (pos 0)) (omega arith)
       ∙ get_or_append_left new after (pos 0) s (omega (arith, long, within))
       ∙ c.deal_sums.ensures s (omega (arith, within, c.requires.order.count))
-      ∙ c.requires.order.sums c.args.numbers.now (paid c.pays_at-pays.result) s
-      ∙ by_deals g cls h c.requires.single c.args.player z c.pays_at-pays.result c.args.numbers.now (one_or_two c.args.player c.requires.some c.requires.two)
-      (w.walked c.args.player c.requires.some c.requires.two) c.requires.end c.requires.last w.in_range w.classes same k class.0);
+      ∙ c.requires.order.sums c.args.self.now.numbers.now (paid c.pays_at-pays.result) s
+      ∙ by_deals g cls h c.requires.single c.args.self.now.player z c.pays_at-pays.result c.args.self.now.numbers.now (one_or_two c.args.self.now.player c.args.self.now.some c.args.self.now.two)
+      (w.walked c.args.self.now.player c.args.self.now.some c.args.self.now.two) c.args.self.now.inside c.requires.last w.in_range w.classes same k class.0);
   behind = λ i l. (
       let sums = c.args.sums.now in
       let new : List ℤ = c.deal_sums.new.sums in
