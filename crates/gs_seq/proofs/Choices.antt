@@ -12,7 +12,7 @@ use Rattle.gs_seq.specs.Games.{frame_in}
 abbrev pub none_there : Point
 none_there = record { player = 0; round = 1; one = None; two = None; moves = [] }
 
-abbrev HasMove : Point → Type 0
+abbrev pub HasMove : Point → Type 0
 HasMove p = 0 < length p.moves
 
 arrows_some : (ms : Moves) → has_move ms ≡ true → (go_on : Place → Walked) (player point choice : ℕ) (p : Place)
@@ -21,7 +21,7 @@ arrows_some none h g player point choice p = absurd cc
 arrows_some (move letter chips next ms) h g player point choice p = omega arith
 
 mutual
-  tree-moves : (t : Bet) (left : ℕ) → is_sound left t ≡ true → (go_on : Place → Walked) → ((p : Place) → AllByRecursion HasMove (go_on p).points)
+  pub tree-moves : (t : Bet) (left : ℕ) → is_sound left t ≡ true → (go_on : Place → Walked) → ((p : Place) → AllByRecursion HasMove (go_on p).points)
       → (p : Place) → AllByRecursion HasMove (walk_tree go_on t p).points
   tree-moves (act player ms) left s g h p =
       let a = sound_act left player ms s in (

@@ -8,7 +8,7 @@ use Rattle.gs_model.specs.{FrameFacts.{InRange, IsWalked}, Pairs.{class_number, 
 use Rattle.gs_model.specs.{Positions.{EndKind, Folded1, Folded2, Show, at_end}, Sums.{sum_z}}
 use Rattle.gs_model.proofs.{Exchange.{raw_payoff_is_gain}, Gather.{grouping_from, known_from}, Payoff.{gain_by_pairs}, Sparse.{abs_sum, range_append}}
 use Rattle.gs_model.proofs.{Tables.{is_table}, Total.{sum_z-append}}
-use Rattle.gs_seq.specs.Payoffs.{end_sum, payoff_at}
+use Rattle.gs_seq.specs.Payoffs.{end_classes, end_sum, payoff_at}
 use Rattle.gs_seq.proofs.{Ends.{number_few}, EndSums.{folded, folded_other, scaled_few, shown, stake_size}, Forms.{AreGiven}}
 use Rattle.gs_seq.proofs.{RowFacts.{beside_weigh, both_weight, class_weight, classes_weigh, pair_few, sum-times}, Sizes.{AreModest}}
 
@@ -22,6 +22,11 @@ pub payoff_is : (f : Frame) (lists : ClassLists) (x y : Plan) → InRange f → 
 payoff_is f lists x y r w k =
     sym (raw_payoff_is_gain f (lift f lists x) (lift f lists y)
     ∙ gain_by_pairs f (is_table f r) (grouping_from f lists k) (grouping_from f lists k) 1 (known_from f 1 r w) w.past_end_own x y)
+
+-- what is added up over all classes of player 1 is what the plans pay at the end
+pub end_put : (f : Frame) (lists : ClassLists) (x y : Plan) (z n : ℕ) (sum : ℤ) → n ≡ end_classes f lists z
+    → sum ≡ sum_z (class_term f lists x y z) (range_with_len 1 n) → sum ≡ payoff_at f lists x y z
+end_put f lists x y z n sum all is = is ∙ ap (λ m. sum_z (class_term f lists x y z) (range_with_len 1 m)) all
 
 -- one more number of a range
 pub range_more : (v : ℕ → ℤ) (b n : ℕ) → sum_z v (range_with_len b (n + 1)) ≡ sum_z v (range_with_len b n) +ℤ v (b + n)

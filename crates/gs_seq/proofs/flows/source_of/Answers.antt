@@ -1,4 +1,4 @@
-use Rattle.std.proofs.Common.{◌≡◌, ◌<◌, Some, get_or, length, ap, sym, refl, ◌∙◌, subst, arith}
+use Rattle.std.proofs.Common.{◌≡◌, ◌<◌, Some, get_or, ap, sym, refl, ◌∙◌, subst, arith}
 use Rattle.gs_game.specs.{Seen.{step_of}, declared.positions.Point.{Point}}
 use Rattle.gs_model.specs.{Frame.{last_step}, Positions.{at_point}}
 use Rattle.gs_seq.specs.{Games.{frame_in}, Sources.{MatchSource}}

@@ -1,9 +1,9 @@
 use Rattle.std.proofs.lemmas.Grind.{common_steps}
-use Rattle.std.proofs.Common.{◌≡◌, ◌+◌, ◌∙◌, ap, arith, of_z, subst, to_z}
-use Rattle.std.specs.{Int.{w128}, List.{range_with_len}}
-use Rattle.gs_model.specs.{Pairs.{class_number}, Sums.{sum_z}}
-use Rattle.gs_seq.specs.{Abstracts.{abstract_frame, lists_of}, Payoffs.{end_classes}, Plans.{class_plan}}
-use Rattle.gs_seq.proofs.{EndTotals.{IsNext, class_term, next_fits, next_put, next_within}, Forms.{given_in}, Signed.{read_back}}
+use Rattle.std.proofs.Common.{◌≡◌, ◌+◌, ◌∙◌, arith, of_z, subst, to_z}
+use Rattle.std.specs.Int.{w128}
+use Rattle.gs_model.specs.Pairs.{class_number}
+use Rattle.gs_seq.specs.{Abstracts.{abstract_frame, lists_of}, Plans.{class_plan}}
+use Rattle.gs_seq.proofs.{EndTotals.{IsNext, end_put, next_fits, next_put, next_within}, Forms.{given_in}, Signed.{read_back}}
 use Rattle.gs_seq.proofs.form.Abstract.payoff_at.Goals.{After-end_sum-worth}
 use Rattle.gs_seq.proofs.form.Abstract.payoff_at.Goals as goal
 
@@ -48,14 +48,8 @@ pub returns : goal.returns
 returns c =
     let f = abstract_frame c.args.self.now in
     let ls = lists_of c.args.self.now in
-    let all : c.loop-before.before ≡ end_classes f ls c.args.end = omega (
-      arith,
-      c.loop-before-test.false,
-      c.loop-before.auto,
-      c.end_class_total-before-end.ensures,
-    ) in
-    c.loop-before.invariant
-    ∙ ap (λ n. sum_z (class_term f ls (class_plan f ls c.args.x.now) (class_plan f ls c.args.y.now) c.args.end) (range_with_len 1 n)) all
+    end_put f ls (class_plan f ls c.args.x.now) (class_plan f ls c.args.y.now) c.args.end c.loop-before.before _
+    (omega (arith, c.loop-before-test.false, c.loop-before.auto, c.end_class_total-before-end.ensures)) c.loop-before.invariant
 
 pub number_at_end-number-requires-clause-plan : goal.number_at_end-number-requires-clause-plan
 number_at_end-number-requires-clause-plan c = grind arith

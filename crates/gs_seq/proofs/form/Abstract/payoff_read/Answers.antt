@@ -1,9 +1,9 @@
 use Rattle.std.proofs.lemmas.Grind.{common_steps}
 use Rattle.std.proofs.Common.{rules, ◌≡◌, ◌+◌, ◌-◌, ℕ, List, ap, ◌∙◌, arith, get_or, pos, FitsSigned, of_z, subst, sym, to_z}
-use Rattle.std.specs.{Int.{w128}, List.{range_with_len}, Prelude.{ℤ}}
-use Rattle.gs_model.specs.{Classes.{IsClass}, Frame.{round_of}, Pairs.{class_number}, Positions.{at_end}, Sums.{sum_z}}
-use Rattle.gs_seq.specs.{Abstracts.{abstract_frame, lists_of}, Payoffs.{end_classes}, Plans.{class_plan}, declared.plan.Plan.{Plan}}
-use Rattle.gs_seq.proofs.{EndTotals.{IsNext, class_term, next_fits, next_put, next_within}, Forms.{given_in}, Signed.{read_back}}
+use Rattle.std.specs.{Int.{w128}, Prelude.{ℤ}}
+use Rattle.gs_model.specs.{Classes.{IsClass}, Frame.{round_of}, Pairs.{class_number}, Positions.{at_end}}
+use Rattle.gs_seq.specs.{Abstracts.{abstract_frame, lists_of}, Plans.{class_plan}, declared.plan.Plan.{Plan}}
+use Rattle.gs_seq.proofs.{EndTotals.{IsNext, end_put, next_fits, next_put, next_within}, Forms.{given_in}, Signed.{read_back}}
 use Rattle.gs_seq.proofs.form.Abstract.payoff_read.Goals.{After-number_at-number}
 use Rattle.gs_seq.proofs.form.Abstract.payoff_read.Goals as goal
 
@@ -61,14 +61,8 @@ pub returns : goal.returns
 returns c =
     let f = abstract_frame c.args.self.now in
     let ls = lists_of c.args.self.now in
-    let all : c.loop-before.before ≡ end_classes f ls c.args.end = omega (
-      arith,
-      c.loop-before-test.false,
-      c.loop-before.auto,
-      c.end_class_total-before-end.ensures,
-    ) in
-    c.loop-before.invariant
-    ∙ ap (λ n. sum_z (class_term f ls (class_plan f ls c.args.x.now) (class_plan f ls c.args.y.now) c.args.end) (range_with_len 1 n)) all
+    end_put f ls (class_plan f ls c.args.x.now) (class_plan f ls c.args.y.now) c.args.end c.loop-before.before _
+    (omega (arith, c.loop-before-test.false, c.loop-before.auto, c.end_class_total-before-end.ensures)) c.loop-before.invariant
 
 pub plan_at-own-requires : goal.plan_at-own-requires
 plan_at-own-requires c = grind (arith, common_steps)
