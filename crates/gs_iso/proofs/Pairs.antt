@@ -9,6 +9,7 @@ use Rattle.std.proofs.lemmas.Map.Keys.{IsDistinct-IsPermutation, IsDistinct-from
 use Rattle.std.specs.List.{All, range_with_len, list_any}
 use Rattle.gs_model.specs.{Isomorphism.{Matched}, Matching.{AllDiffer, Edges, IsPerfect}}
 use Rattle.gs_model.proofs.{Bijections.{AllZip-from_get_or, AllZip-permuted, AllZip-permuted'}, Graph.{places_in_order}, Order.{lifts}}
+use Rattle.gs_match.specs.{declared.graph.NoMatch.{NoMatch}, declared.graph.NoMatch.TheVariants.{Hall, Sides}, Refusal.{IsRefusalOf}}
 use Rattle.gs_iso.specs.Pairings.{AreEqualEdges, IsEqualGraph, IsPairingOf, JoinsEqual, joins}
 
 both : (p q : Bool) → cond p q false ≡ true → (p ≡ true) × (q ≡ true)
@@ -72,6 +73,11 @@ module _ {X : Type 0} (eq : X → X → Bool) (xs ys : List X) where
         let d = some xs a la in
         h.edges.all a (get_or to a 0) d la r (p.related a d la);
   }
+
+  -- where there is no perfect matching of sides of one size, there is no such pairing
+  pub unpaired : (g : Edges) (why : NoMatch) (to : List ℕ) → IsEqualGraph eq xs ys g → IsRefusalOf g why → IsPairingOf (λ x y. eq x y ≡ true) xs ys to → ⊥
+  unpaired g (Sides left right) to h r p = r.2 (r.0 ∙ h.left ∙ sym p.as_many ∙ sym h.right ∙ sym r.1)
+  unpaired g (Hall set) to h r p = r.2 to (perfect_from_pairing g to h p)
 
   -- the edges of a row so far: those of the members of the first list before `left`, and of that one with the first members of the second list
   pub record AreRowEdges (left done : ℕ) (edges : List (ℕ × ℕ)) : Type 0 where

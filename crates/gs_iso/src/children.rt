@@ -90,31 +90,6 @@ fn sign_children(
     Ok(())
 }
 
-/// Returns a number for each signal of a round before the last, from the marks of the next round's signals. `seen` must be empty.
-fn number_each(
-    alloc: Global,
-    seen: &mut IndexSet<Vec<u32>>,
-    signature: &mut Vec<u32>,
-    signals: &Signals,
-    round: u8,
-    marks: &[u32],
-) -> Result<Vec<u32>, AllocError>
-    requires some { 0 < round }
-    requires before_last { round < round_count (rules_of signals.now) }
-    requires marks { (below : List ℕ) × IsNumbering (rules_of signals.now) (round + 1) below × AreMarks (rules_of signals.now) (round + 1) below marks.now }
-    requires unseen { seen.old.keys ≡ [] }
-    ensures { IfOk result (λ v. IsNumbering (rules_of signals.now) round v.items) }
-{
-    let count = signals.count(round);
-    let mut numbers = Vec::with_capacity(alloc, count as usize)?;
-    for signal in 0..count {
-        sign_children(signature, signals, round, signal, marks)?;
-        let number = number_of_list(alloc, seen, signature)?;
-        numbers.push(number)?;
-    }
-    Ok(numbers)
-}
-
 /// Returns a number for each signal of a round before the last, from the marks of the next round's signals.
 fn numbers_by_marks(
     alloc: Global,
@@ -127,9 +102,16 @@ fn numbers_by_marks(
     requires marks { (below : List ℕ) × IsNumbering (rules_of signals.now) (round + 1) below × AreMarks (rules_of signals.now) (round + 1) below marks.now }
     ensures { IfOk result (λ v. IsNumbering (rules_of signals.now) round v.items) }
 {
+    let count = signals.count(round);
     let mut seen = IndexSet::new(alloc);
     let mut signature = Vec::new(alloc);
-    number_each(alloc, &mut seen, &mut signature, signals, round, marks)
+    let mut numbers = Vec::with_capacity(alloc, count as usize)?;
+    for signal in 0..count {
+        sign_children(&mut signature, signals, round, signal, marks)?;
+        let number = number_of_list(alloc, &mut seen, &signature)?;
+        numbers.push(number)?;
+    }
+    Ok(numbers)
 }
 
 /// Returns a number for each signal of a round before the last: equal exactly where the signals are isomorphic.

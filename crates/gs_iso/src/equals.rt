@@ -3,7 +3,7 @@
 ghost use Rattle.std.specs.Prelude.{◌+◌, ◌<◌, ◌^◌, IfOk, OnOk, length};
 ghost use Rattle.gs_iso.specs.Pairings.{AreEqualEdges, IsEqualGraph, IsPairingAnswer};
 
-use gs_match::{Graph, Match, NoMatch, perfect};
+use gs_match::{Graph, Match, MatchError, perfect};
 use std::alloc::{AllocError, Global};
 
 /// Adds the edges from the place `left` of `ones` to all places of `twos` with an equal part.
@@ -57,8 +57,7 @@ pub(crate) fn match_equals<P: Eq>(
     let graph = equal_graph(alloc, ones, twos)?;
     match perfect(alloc, &graph) {
         Ok(found) => Ok(Some(found)),
-        Err(NoMatch::Sides { .. }) => Ok(None),
-        Err(NoMatch::Hall { .. }) => Ok(None),
-        Err(NoMatch::Memory) => Err(AllocError),
+        Err(MatchError::Memory) => Err(AllocError),
+        Err(MatchError::Fault(_)) => Ok(None),
     }
 }

@@ -1,6 +1,6 @@
 -- One more visit.
 use Rattle.std.proofs.Common.{◌≡◌, ◌≢◌, ◌+◌, ◌<◌, ◌≤◌, ◌++◌, ℕ, Bool, true, false, Option, Some, None, List, [], ◌∷◌, length, set, sym, ◌∙◌, ap, subst, arith}
-use Rattle.std.proofs.{Common.{cond, count_by, ⊎_elim, refl, true≢false}, lemmas.Bool.{cases_eq, cases_lt}, lemmas.List.Sums.{sum_by-set, count_by-le-length}}
+use Rattle.std.proofs.{Common.{cond, count_by, ⊎_elim, refl, true≢false}, lemmas.Bool.{cases_eq, cases_lt}, lemmas.List.Sums.{sum_by-set}}
 use Rattle.std.proofs.lemmas.List.{get_or_append_left, get_or_push, get_or_past, get_or-set_same, get_or-set_other, length-set, length_push}
 use Rattle.gs_match.specs.{declared.search.Visit.{Visit}, Adjacency.{Near}}
 use Rattle.gs_match.specs.Search.{holder, IsMatching, visit, is_reached, IsLinked, IsTree, Extends, AreExplored}

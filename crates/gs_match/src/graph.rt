@@ -1,7 +1,7 @@
 //! Bipartite graphs, matchings, and why a graph has no perfect matching.
 
 ghost use Rattle.std.specs.Prelude.{◌≡◌};
-ghost use Rattle.gs_match.specs.declared.graph.NoMatch.TheVariants.{Memory};
+ghost use Rattle.gs_match.specs.declared.graph.MatchError.TheVariants.{Memory};
 
 use std::alloc::AllocError;
 use std::marker::Model;
@@ -46,15 +46,19 @@ pub enum NoMatch {
     /// A Hall violator: these left nodes, in ascending order, have fewer neighbours than members.
     #[error("too few neighbours of left nodes {set:?}")]
     Hall { set: Vec<u32> },
-    /// Out of memory.
-    #[error("out of memory")]
-    Memory,
 }
 
-impl From<AllocError> for NoMatch {
+/// Why no matching is returned: memory ran out, or there is no perfect one.
+#[derive(Drop)]
+pub enum MatchError {
+    Memory,
+    Fault(NoMatch),
+}
+
+impl From<AllocError> for MatchError {
     ghost from_gives = { λ _ e. e ≡ Memory };
 
-    fn from(_error: AllocError) -> NoMatch {
-        NoMatch::Memory
+    fn from(_e: AllocError) -> MatchError {
+        MatchError::Memory
     }
 }

@@ -7,5 +7,5 @@ mod graph;
 mod matching;
 mod search;
 
-pub use graph::{Graph, Match, NoMatch};
+pub use graph::{Graph, Match, MatchError, NoMatch};
 pub use matching::perfect;

@@ -6,7 +6,7 @@ ghost use Rattle.gs_match.specs.{Adjacency.{AreEdgesInRange}, Search.{holder, le
 
 use crate::adjacency::adjacency;
 use crate::augment::augment;
-use crate::graph::{Graph, Match, NoMatch};
+use crate::graph::{Graph, Match, MatchError, NoMatch};
 use crate::search::Visit;
 use std::alloc::{AllocError, Global};
 
@@ -41,23 +41,23 @@ fn visited(alloc: Global, visits: &[Visit]) -> Result<Vec<u32>, AllocError>
 /// Errors: `Sides` if the two sides differ in size, `Hall` with left nodes that have too few neighbours, `Memory` if memory runs out.
 ///
 /// Source: the augmenting paths of Kuhn (1955) and Hall (1935).
-pub fn perfect(alloc: Global, graph: &Graph) -> Result<Match, NoMatch>
+pub fn perfect(alloc: Global, graph: &Graph) -> Result<Match, MatchError>
     requires { AreEdgesInRange graph.now }
     ensures { IsMatchAnswer graph.now result }
 {
     if graph.left != graph.right {
-        return Err(NoMatch::Sides {
+        return Err(MatchError::Fault(NoMatch::Sides {
             left: graph.left,
             right: graph.right,
-        });
+        }));
     }
     let adjacent = adjacency(alloc, graph)?;
     let mut holders: Vec<Option<u32>> = vec![in alloc; None; graph.right as usize]?;
     for root in 0..graph.left {
         if let Some(visits) = augment(alloc, &adjacent, &mut holders, root)? {
-            return Err(NoMatch::Hall {
+            return Err(MatchError::Fault(NoMatch::Hall {
                 set: visited(alloc, &visits)?,
-            });
+            }));
         }
     }
     Ok(Match {

@@ -3,7 +3,7 @@
 ghost use Rattle.std.specs.Prelude.{◌↔◌, ◌<◌, All, IsTrue};
 ghost use Rattle.gs_match.specs.Adjacency.{AreEdgesInRange};
 
-use gs_match::{Graph, perfect};
+use gs_match::{Graph, MatchError, perfect};
 use std::alloc::{AllocError, Global};
 use std::test::Fail;
 
@@ -20,7 +20,8 @@ fn answer_of(alloc: Global, graph: &Graph) -> Result<String, AllocError>
 {
     match perfect(alloc, graph) {
         Ok(matching) => format!(in alloc; "{:?}", matching.to),
-        Err(fault) => format!(in alloc; "{fault}"),
+        Err(MatchError::Memory) => Err(AllocError),
+        Err(MatchError::Fault(why)) => format!(in alloc; "{why}"),
     }
 }
 

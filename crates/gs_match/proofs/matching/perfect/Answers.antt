@@ -4,8 +4,8 @@ use Rattle.std.proofs.lemmas.List.{get_or-replicate, get_or_past, length-map, le
 use Rattle.std.specs.Result.{IsErrAnd}
 use Rattle.gs_model.specs.{Matching.{Edges, IsHall}, Rows.{rows}}
 use Rattle.gs_model.proofs.Graph.{hall_excludes}
-use Rattle.gs_match.specs.{Adjacency.{AreNeighboursBelow}, Refusal.{IsMatchAnswer, IsRefusalOf, NoneExists}, declared.graph.NoMatch.{NoMatch}}
-use Rattle.gs_match.specs.declared.graph.NoMatch.TheVariants.{Memory}
+use Rattle.gs_match.specs.{Adjacency.{AreNeighboursBelow}, Refusal.{IsMatchAnswer, IsMatchError}, declared.graph.MatchError.{MatchError}}
+use Rattle.gs_match.specs.declared.graph.MatchError.TheVariants.{Memory}
 use Rattle.gs_match.specs.{declared.search.Visit.{Visit}, Search.{IsMatching, HasClosed, holder, lefts}}
 use Rattle.gs_match.proofs.{SearchLaws.{held_not_last}, HallLaws.{hall_from}, PerfectLaws.{matching_none, perfect_from}}
 use Rattle.gs_match.proofs.matching.perfect.Goals as goal
@@ -18,9 +18,9 @@ none_held n b = ⊎_elim
     (cases_lt b n)
 
 -- out of memory says nothing of the graph
-out_of_memory : (g : Edges) (r : Result (List ℕ) NoMatch) → IsErrAnd r (λ e. e ≡ Memory) → IsMatchAnswer g r
+out_of_memory : (g : Edges) (r : Result (List ℕ) MatchError) → IsErrAnd r (λ e. e ≡ Memory) → IsMatchAnswer g r
 out_of_memory g (Ok x) is = absurd is
-out_of_memory g (Err e) is = record { equal = tt; matched = tt; refused = subst (IsRefusalOf g) (sym is) tt; none = subst (NoneExists g) (sym is) tt }
+out_of_memory g (Err e) is = record { equal = tt; matched = tt; refused = subst (IsMatchError g) (sym is) tt }
 
 module _ (c : goal.After-drop-adjacent-in-Some) where
   stuck : (c.args.graph.now.left ≡ c.args.graph.now.right) × IsHall c.args.graph.now c.in_ok-visited.field-0.items
@@ -45,8 +45,7 @@ pub returns-in-Some : goal.returns-in-Some
 returns-in-Some c = record {
   equal = tt;
   matched = tt;
-  refused = stuck c;
-  none = λ to p. hall_excludes c.args.graph.now c.in_ok-visited.field-0.items to (stuck c).1 p;
+  refused = ((stuck c).0, (stuck c).1, λ to p. hall_excludes c.args.graph.now c.in_ok-visited.field-0.items to (stuck c).1 p);
 }
 
 pub by_left-requires-clause-within : goal.by_left-requires-clause-within
@@ -79,11 +78,10 @@ returns c =
           (subst (λ (hs : List (Option ℕ)). (b a : ℕ) → holder hs b ≡ Some a → get_or c.in_ok-by_left.field-0.items a 0 ≡ b) c.deref-2.ensures.value
           c.in_ok-by_left.ensures.each);
       refused = tt;
-      none = tt;
     }
 
 pub returns-then-graph : goal.returns-then-graph
-returns-then-graph c = record { equal = tt; matched = tt; refused = search rules; none = tt }
+returns-then-graph c = record { equal = tt; matched = tt; refused = search rules }
 
 pub augment-requires-clause-root : goal.augment-requires-clause-root
 augment-requires-clause-root c =

@@ -4,7 +4,7 @@ use Rattle.gs_model.specs.{Isomorphism.{Isomorphic}, Signals.{signal_at, signals
 use Rattle.gs_tree.specs.Trees.{rules_of}
 use Rattle.gs_iso.specs.{Numbers.{marks_under}, Orders.{mark_lt}}
 use Rattle.gs_iso.proofs.{Numbered.{numbered_more, numbered_none, numbers_are}, Below.{mark_law_at}}
-use Rattle.gs_iso.proofs.children.number_each.Goals as goal
+use Rattle.gs_iso.proofs.children.numbers_by_marks.Goals as goal
 
 pub sign_children-requires-clause-marks : goal.sign_children-requires-clause-marks
 sign_children-requires-clause-marks c = c.requires.marks.2.long
@@ -12,7 +12,7 @@ sign_children-requires-clause-marks c = c.requires.marks.2.long
 pub loop-signal-init : goal.loop-signal-init
 loop-signal-init c =
     let sign : ℕ → List ℕ → Type 0 = λ i a. IsSignature mark_lt (marks_under (rules_of c.args.signals.now) c.args.round c.args.marks.now i) a in
-    numbered_none nat_eq Decides-eqb sign _ _ c.requires.unseen c.in_ok-numbers.ensures.items
+    numbered_none nat_eq Decides-eqb sign _ _ c.new-seen.ensures.empty c.in_ok-numbers.ensures.items
 
 pub loop-signal-preserved : goal.loop-signal-preserved
 loop-signal-preserved c =

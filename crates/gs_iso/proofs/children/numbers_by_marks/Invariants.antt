@@ -4,7 +4,7 @@ use Rattle.gs_model.specs.Signatures.{IsSignature}
 use Rattle.gs_iso.proofs.Numbered.{AreNumbered}
 use Rattle.gs_tree.specs.Trees.{rules_of}
 use Rattle.gs_iso.specs.{Numbers.{marks_under}, Orders.{mark_lt}}
-use Rattle.gs_iso.proofs.children.number_each.Given as goal
+use Rattle.gs_iso.proofs.children.numbers_by_marks.Given as goal
 
 abbrev pub invariant-loop-signal : goal.invariant-loop-signal
 invariant-loop-signal l =
