@@ -11,7 +11,8 @@ use Rattle.gs_converge.specs.BestTurns.{IsBestAnswer, AreBestTurns}
 use Rattle.gs_converge.proofs.Answered.{first_paid, second_paid}
 use Rattle.gs_converge.proofs.{Numbers.{ends_within, ends_add}, Payoffs.{ends, first_same, second_same, first_adds, second_adds, pays_at_most, pays_at_least, stakes}}
 use Rattle.gs_converge.proofs.Pure.{HasMoves, pure, pure_count, number_of, number_in, pure_is_raw, pure_is_one, pure_ends}
-use Rattle.gs_robinson.proofs.Extended.{columns_after, rows_after, row_after, column_after, columns_kept, rows_kept, columns_new, rows_new, one_more_turn}
+use Rattle.gs_robinson.proofs.Extended.{columns_after, rows_after, row_after, column_after, columns_kept, rows_kept, columns_new, rows_new}
+use Rattle.gs_robinson.proofs.Extended.{no_turns, one_more_turn}
 use Rattle.gs_robinson.specs.Matrix.{AreTurns, IsMatrix, IsWithin}
 
 one_of : (n : ℕ) (z : ℤ) → n ≡ 1 → pos n *ℤ z ≡ z
@@ -110,14 +111,8 @@ module _ (f : Frame) (lists : ClassLists) (r : InRange f) (w1 : IsWalked f 1) (w
       V = λ t i. raw_payoff f (first_pure i) (lift f lists y);
       row = λ t. 0;
       column = λ t. 0;
-      turns = record {
-        row_in = λ t l. absurd (omega arith);
-        column_in = λ t l. absurd (omega arith);
-        row_best = λ t i l li. absurd (omega arith);
-        column_best = λ t j l lj. absurd (omega arith);
-        columns_grow = λ t j l lj. absurd (omega arith);
-        rows_grow = λ t i l li. absurd (omega arith);
-      };
+      turns = no_turns count count entry (λ t j. raw_payoff f (lift f lists x) (second_pure j)) (λ t i. raw_payoff f (first_pure i) (lift f lists y))
+          (λ t. 0) (λ t. 0);
       start = λ i j li lj.
           let ri = pure_is_raw f lists 1 r w1 k h1 i in let rj = pure_is_raw f lists 2 r w2 k h2 j in
           let a = raw_at_most (first_pure i) (lift f lists y) ri (lifted 2 w2 y h.1) in

@@ -1,7 +1,7 @@
 -- From any totals there are turns of any number: some row and some column is always best.
 use Rattle.std.proofs.{Common.{◌≡◌, ℕ, zero, suc, ◌<◌, refl, ◌∙◌, arith, ⊎_elim}, lemmas.Int.{ints}}
 use Rattle.std.specs.Prelude.{ℤ, neg_ℤ, ◌≤ℤ◌}
-use Rattle.gs_robinson.proofs.Extended.{columns_after, rows_after, row_after, column_after, columns_kept, rows_kept, one_more_turn}
+use Rattle.gs_robinson.proofs.Extended.{columns_after, rows_after, row_after, column_after, columns_kept, rows_kept, no_turns, one_more_turn}
 use Rattle.gs_robinson.proofs.Integers.{one_more, order_of}
 use Rattle.gs_robinson.specs.{Laws.{TurnsExist}, Matrix.{AreTurns}}
 
@@ -25,14 +25,7 @@ exist m n A u v zero = (
   λ t i. v i,
   λ t. 0,
   λ t. 0,
-  record {
-    row_in = λ t l. absurd (omega arith);
-    column_in = λ t l. absurd (omega arith);
-    row_best = λ t i l li. absurd (omega arith);
-    column_best = λ t j l lj. absurd (omega arith);
-    columns_grow = λ t j l lj. absurd (omega arith);
-    rows_grow = λ t i l li. absurd (omega arith);
-  },
+  no_turns (suc m) (suc n) A (λ t j. u j) (λ t i. v i) (λ t. 0) (λ t. 0),
   λ j. refl,
   λ i. refl,
 )

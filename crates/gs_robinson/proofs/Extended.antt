@@ -1,9 +1,19 @@
--- Turns, and one more.
+-- No turns, and one more.
 use Rattle.std.proofs.{Common.{◌≡◌, ℕ, suc, ◌<◌, ◌≤◌, ap, arith, cond}, lemmas.Int.{ints}}
 use Rattle.std.proofs.{lemmas.Bool.{lt-ltb, le-ltb}, Math.Dec.{ltb}}
 use Rattle.std.specs.Prelude.{ℤ, ◌+ℤ◌, ◌≤ℤ◌}
 use Rattle.gs_robinson.proofs.Integers.{one_more}
 use Rattle.gs_robinson.specs.Matrix.{AreTurns}
+
+pub no_turns : (m n : ℕ) (A U V : ℕ → ℕ → ℤ) (row column : ℕ → ℕ) → AreTurns m n 0 A U V row column
+no_turns m n A U V row column = record {
+  row_in = λ t l. absurd (omega arith);
+  column_in = λ t l. absurd (omega arith);
+  row_best = λ t i l li. absurd (omega arith);
+  column_best = λ t j l lj. absurd (omega arith);
+  columns_grow = λ t j l lj. absurd (omega arith);
+  rows_grow = λ t i l li. absurd (omega arith);
+}
 
 module _ (m n turns : ℕ) (A U V : ℕ → ℕ → ℤ) (row column : ℕ → ℕ) (p : AreTurns m n turns A U V row column) (r c : ℕ) where
   abbrev pub columns_after : ℕ → ℕ → ℤ
