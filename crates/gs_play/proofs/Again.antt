@@ -19,10 +19,10 @@ AreRightTo f lists q n taken move = (e : ℕ) → IsClass lists (round_of f (at_
 -- what is taken at another class of a point changes, which is said
 pub turned_more : (f : Frame) (lists : ClassLists) (q n : ℕ) (start now next : Answer) → IsTurnedAt f lists q start now → IsElsewhere f lists q n now next
     → get_or next.turned.items q false ≡ true → IsTurnedAt f lists q start next
-turned_more f lists q n start now next turned elsewhere told = record {
+turned_more f lists q n start now next turned elsewhere noted = record {
   taken = λ p e lp le other. elsewhere.taken p e lp le (λ same _. other same) ∙ turned.taken p e lp le other;
   turned = λ p other. elsewhere.turned p other ∙ turned.turned p other;
-  still = λ no_one. absurd (let t : false ≡ true = sym no_one ∙ told in cc);
+  still = λ no_one. absurd (let t : false ≡ true = sym no_one ∙ noted in cc);
 }
 
 -- the points before one are right, or as they were if they are not said to have been changed; the others are as they were

@@ -8,7 +8,7 @@ use Rattle.gs_seq.specs.{Abstracts.{abstract_frame, lists_of}, Payoffs.{end_sum}
 use Rattle.gs_seq.proofs.Forms.{form_classes, form_in_range, form_moves, form_walked}
 use Rattle.gs_best.specs.{ClassTotals.{earlier_class, total_worth}, Tables.{moves_of, start_of}}
 use Rattle.gs_play.specs.{Answers.{AreRight, HasAnswer, answer_plan}, Lines.{line_at, wrapped}, Plots.{cell_place, worth_place}, Seats.{IsAtStart}}
-use Rattle.gs_play.specs.{Tallies.{HasTallyRoom, IsBlank, IsTally, at_part, part_table, slope_part}, declared.answers.Answer.{Answer}}
+use Rattle.gs_play.specs.{Tallies.{IsBlank, IsTally, KeepsChoices, at_part, part_table, slope_part}, declared.answers.Answer.{Answer}}
 use Rattle.gs_play.specs.{declared.line.Line.{Line}, declared.tally.Tally.{Tally}}
 use Rattle.gs_play.proofs.{Alike.{tally_same}, Played.{end_alike}, PlansAlike.{firsts_same, puts_firsts}, Taken.{taken_puts}, Wrapped.{unwrapped}}
 
@@ -65,27 +65,26 @@ module _ (a : Abstract) (player : ℕ) (some : 0 < player) (two : player ≤ 2) 
         (taken_puts F L player (moves_of F L answer.taken.items) (λ q c. 0) (λ q lq. let m = (form_moves a q lq).few in omega (arith, m)) right)
 
     -- with class totals that were 0 and then got what a first plan of the other's pays in each turn
-    pub at_start : HasAnswer F L player 0 answer → (clear told : Tally) → IsBlank clear → HasTallyRoom F L told → told.picks ≡ clear.picks
-        → told.moved ≡ clear.moved
+    pub at_start : HasAnswer F L player 0 answer → (clear start : Tally) → IsBlank clear → KeepsChoices F L clear start
         → (plan : Plan) → IsFirstMoves F L (other_player player) plan
-        → (IsTally F L player (λ z c. pos 0) (λ z c. pos 0) 0 clear → IsTally F L player (λ z c. pos 0) (end_sum F L player plan) 0 told)
-        → IsAtStart F L player (record { answer = answer; tally = told })
-    at_start has clear told none room picks moved plan first begun = record {
+        → (IsTally F L player (λ z c. pos 0) (λ z c. pos 0) 0 clear → IsTally F L player (λ z c. pos 0) (end_sum F L player plan) 0 start)
+        → IsAtStart F L player (record { answer = answer; tally = start })
+    at_start has clear start none kept plan first begun = record {
       seat = record {
         answer = has;
-        room = room;
+        room = kept.room;
         plan = answer_first.plan;
         right = λ q c lq mine lc. (let r = right q c lq mine lc in let e = pick q c in record { on = λ reached. r.on reached ∙ sym e; off = r.off });
-        still = λ q lq h. none.still q (subst (λ v. get_or v.items q false ≡ true) moved h);
+        still = λ q lq h. none.still q (subst (λ v. get_or v.items q false ≡ true) kept.moved h);
       };
       first = answer_first;
       faces = λ y h. tally_same F L player own (λ z c. pos 0) (end_sum F L player plan) (λ z c. pos 0) (end_sum F L player y) 0 0
-          (λ z c lz lc. let e = pays y h z c lz in omega (arith, ints, e)) (λ z c lz lc. pays y h z c lz) told (omega arith)
+          (λ z c lz lc. let e = pays y h z c lz in omega (arith, ints, e)) (λ z c lz lc. pays y h z c lz) start (omega arith)
           (begun (clear_tally F L player clear none));
     }
       where
-        pick : (q c : ℕ) → moves_of F L told.picks.items q c ≡ 0
-        pick q c = ap (λ (v : Vec ℕ Global). slice_index v.items (start_of F L q + (c - 1))) picks ∙ none.picks (start_of F L q + (c - 1))
+        pick : (q c : ℕ) → moves_of F L start.picks.items q c ≡ 0
+        pick q c = ap (λ (v : Vec ℕ Global). slice_index v.items (start_of F L q + (c - 1))) kept.picks ∙ none.picks (start_of F L q + (c - 1))
 
         pays : (y : Plan) → IsFirstMoves F L (other_player player) y → (z c : ℕ) → z < end_count F → end_sum F L player y z c ≡ end_sum F L player plan z c
         pays y h z c lz = end_alike F (form_in_range a) L (form_classes a) player own other y plan

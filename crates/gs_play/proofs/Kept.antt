@@ -13,9 +13,6 @@ use Rattle.gs_play.proofs.Settling.{settled_step}
 module _ (f : Frame) (lists : ClassLists) (player : ℕ) (walked : IsWalked f player) (pays rise : ℕ → ℕ → ℤ) (now last : ℕ) (order : now < last)
     (old mid : Tally) (room : HasTallyRoom f lists old) (h : IsTally f lists player pays rise now old) (q c : ℕ) (lq : q < point_count f)
     (lc : IsClass lists (round_of f (at_point q)) c) (found : IsFoundFor f lists player q c now last old mid) where
-  abbrev cell : ℕ
-  cell = cell_place f lists q c
-
   abbrev Z : Tally → Values
   Z t = zeros_of f lists pays rise now t.totals.items
 
@@ -95,8 +92,8 @@ module _ (f : Frame) (lists : ClassLists) (player : ℕ) (walked : IsWalked f pl
 
     -- where a move leads there, what it is worth changes as much
     pub kept_fed : (o m : ℕ) → o < point_count f → m < move_count f o → leads_to f o m ≡ at_point q → (more : Line)
-        → wrapped more.at ≡ wrapped ((line_at mid.totals.items cell).at -ℤ (line_at old.totals.items cell).at)
-        → wrapped more.slope ≡ wrapped ((line_at mid.totals.items cell).slope -ℤ (line_at old.totals.items cell).slope)
+        → wrapped more.at ≡ wrapped ((line_at mid.totals.items (cell_place f lists q c)).at -ℤ (line_at old.totals.items (cell_place f lists q c)).at)
+        → wrapped more.slope ≡ wrapped ((line_at mid.totals.items (cell_place f lists q c)).slope -ℤ (line_at old.totals.items (cell_place f lists q c)).slope)
         → let up = earlier_class f lists (round_of f (at_point q)) (round_of f (at_point o)) c in IsClass lists (round_of f (at_point o)) up
         → (new : Tally) → IsFed (worth_place f lists o up m) (cell_place f lists o up) more mid new → IsTally f lists player pays rise now new
     kept_fed o m lo lm leads more by_zero by_slope lup new fed =
@@ -142,7 +139,7 @@ module _ (f : Frame) (lists : ClassLists) (player : ℕ) (walked : IsWalked f pl
       where
         mid_long : length mid.dues.turns.items ≡ start_of f lists (point_count f)
         mid_long = ⊎_elim
-            (λ (own : player_at f q ≡ player). ap (λ (xs : List ℕ). length xs) (found.own own).dues ∙ length-set old.dues.turns.items cell _ ∙ room.turns)
-            (λ (other : player_at f q ≡ player → ⊥). ap (λ (xs : List ℕ). length xs) (found.others other).dues ∙ length-set old.dues.turns.items cell _
+            (λ (own : player_at f q ≡ player). ap (λ (xs : List ℕ). length xs) (found.own own).dues ∙ length-set old.dues.turns.items _ _ ∙ room.turns)
+            (λ (other : player_at f q ≡ player → ⊥). ap (λ (xs : List ℕ). length xs) (found.others other).dues ∙ length-set old.dues.turns.items _ _
             ∙ room.turns)
             (cases_eq (player_at f q) player)

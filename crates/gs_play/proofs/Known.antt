@@ -57,9 +57,9 @@ module _ (f : Frame) (lists : ClassLists) (player : ℕ) (pays rise : ℕ → �
     pub zero_few : (m c : ℕ) → m < move_count f q → IsClass lists (round_of f (at_point q)) c → unsigned_abs (total_worth f lists Z q m c) ≤ 2 ^ 59
     zero_few m c lm lc =
         let v = few.values.worths T pick (q + 1) ends_now values_from q m c lq (omega arith) lm lc in
-        let told : unsigned_abs (line (total_worth f lists Z q m c) (total_worth f lists S q m c) now) ≤ 2 ^ 58 =
+        let value : unsigned_abs (line (total_worth f lists Z q m c) (total_worth f lists S q m c) now) ≤ 2 ^ 58 =
         subst (λ x. unsigned_abs x ≤ 2 ^ 58) (worth_line f lists Z S now q m c) v in
-        line_few (total_worth f lists Z q m c) (total_worth f lists S q m c) now (slope_few m c lm lc) told soon
+        line_few (total_worth f lists Z q m c) (total_worth f lists S q m c) now (slope_few m c lm lc) value soon
 
     module _ (walked : IsWalked f player) (other : player_at f q ≢ player) (c : ℕ) (lc : IsClass lists (round_of f (at_point q)) c) where
       abbrev all_of : Values → ℤ

@@ -133,13 +133,13 @@ module _ (f : Frame) (q m : ℕ) (s : StoredStep) (lq : q < point_count f) (lm :
   -- one more move
   pub ways_more : AreMovesNoted f q (m + 1) new_points new_ends
   ways_more = record {
-    sound = λ t u e. ⊎_elim
+    leads = λ t u e. ⊎_elim
         (λ (same : t ≡ leads_to f q m).
         let here = laid_here s (leads_to f q m) points ends new_points new_ends laid room in
         let noted = some_is s u (sym here ∙ ap (way_to new_points new_ends) (sym same) ∙ e) in
         let step : record { point = q; choice = m } ≡ step_of u = sym is ∙ ap step_of noted in
         subst (IsMoveTo f t) step (record { inside = lq; choice = lm; leads = sym same }))
-        (λ (apart : t ≡ leads_to f q m → ⊥). ways.sound t u (sym (laid_other s (leads_to f q m) t points ends new_points new_ends laid apart) ∙ e))
+        (λ (apart : t ≡ leads_to f q m → ⊥). ways.leads t u (sym (laid_other s (leads_to f q m) t points ends new_points new_ends laid apart) ∙ e))
         (same_target t (leads_to f q m));
     before = λ p l lp ll. stays (leads_to f p l) (ways.before p l lp ll);
     here = λ l ll. ⊎_elim
@@ -153,7 +153,7 @@ module _ (f : Frame) (q m : ℕ) (s : StoredStep) (lq : q < point_count f) (lm :
 pub ways_next : (f : Frame) (q n : ℕ) (points ends : List (Option StoredStep)) → move_count f q ≤ n → AreMovesNoted f q n points ends
     → AreMovesNoted f (q + 1) 0 points ends
 ways_next f q n points ends all ways = record {
-  sound = ways.sound;
+  leads = ways.leads;
   before = λ p l lp ll. ⊎_elim
       (λ (e : p ≡ q). subst (λ i. way_to points ends (leads_to f i l) ≡ None → ⊥) (sym e)
       (ways.here l (let k : move_count f p ≡ move_count f q = ap (move_count f) e in omega (arith, ll, k, all))))
@@ -168,7 +168,7 @@ unset = None
 
 pub ways_none : (f : Frame) (n k : ℕ) → AreMovesNoted f 0 0 (replicate n unset) (replicate k unset)
 ways_none f n k = record {
-  sound = λ t u e. absurd (not_none (way_to (replicate n unset) (replicate k unset) t) u e (none t));
+  leads = λ t u e. absurd (not_none (way_to (replicate n unset) (replicate k unset) t) u e (none t));
   before = λ p l lp. absurd (omega (arith, lp));
   here = λ l ll. absurd (omega (arith, ll));
 }
@@ -181,7 +181,7 @@ ways_none f n k = record {
 pub ways_match : (f : Frame) (n : ℕ) (points ends : List (Option StoredStep)) → point_count f ≤ n → AreMovesNoted f n 0 points ends → (t : Target)
     → MatchMove f t (way_to points ends t)
 ways_match f n points ends all ways t = record {
-  some = λ s is. ways.sound t s is;
+  some = λ s is. ways.leads t s is;
   none = λ is q m lq lm leads. ways.before q m (omega (arith, lq, all)) lm (ap (way_to points ends) leads ∙ is);
 }
 

@@ -11,19 +11,19 @@ use Rattle.gs_model.proofs.{Sparse.{sum_none}, Total.{sum_z-IsPermutation, sum_z
 use Rattle.gs_seq.specs.{Abstracts.{game_in}, Payoffs.{pair_pays}, Rows.{IsRow}, declared.pair.Pair.{Pair}}
 use Rattle.gs_seq.proofs.{EndSums.{row_sum}, Forms.{form_walked, given_in, one_or_two}}
 use Rattle.gs_seq.proofs.Turns.{IsKnown, IsTurn, begun, known, none_passed, passed, sum_ended, sum_turned, turn}
-use Rattle.gs_play.specs.{Pushes.{with_sign}, Sides.{side_frame, side_lists}, Tallies.{IsTally, risen, risen_at}, declared.side.Side.{Side}}
+use Rattle.gs_play.specs.{Pushes.{with_sign}, Sides.{side_frame, side_lists}, Tallies.{IsTally, risen, risen_at}, declared.role.Role.{Role}}
 use Rattle.gs_play.specs.declared.tally.Tally.{Tally}
 use Rattle.gs_play.proofs.Risen.{risen_alike, risen_by_none, risen_same, risen_twice}
 
 -- ---- the players of a side
 
-pub walked : (s : Side) → IsWalked (side_frame s) s.player
+pub walked : (s : Role) → IsWalked (side_frame s) s.player
 walked s = form_walked s.form.now s.player s.some s.two
 
-pub other_walked : (s : Side) → IsWalked (side_frame s) (other_player s.player)
+pub other_walked : (s : Role) → IsWalked (side_frame s) (other_player s.player)
 other_walked s = form_walked s.form.now (other_player s.player) (let t = s.two in omega arith) (let l = s.some in omega arith)
 
-turned_frame : (s : Side) → IsExchanged (side_frame s) s.player
+turned_frame : (s : Role) → IsExchanged (side_frame s) s.player
 turned_frame s = ⊎_elim
     (λ (one : s.player ≡ 1). subst (IsExchanged (side_frame s)) (sym one) (exchanged_one (game_of (game_in s.form.now).game)))
     (λ (two : s.player ≡ 2). subst (IsExchanged (side_frame s)) (sym two) (exchanged_two (game_of (game_in s.form.now).game)))
@@ -112,7 +112,7 @@ abbrev pub passed_adds : ℕ → End → Bool → List Pair → List Pair → �
 passed_adds other at on row left c = sum_z (pair_adds other at on c) (take (passed row left) row)
 
 -- the walk over the pairs of class `k` at an end has come so far, and each turn adds what the pairs that are passed bring
-pub record IsPushedBy (s : Side) (z k : ℕ) (on : Bool) (now : ℕ) (left : List Pair) (old new : Tally) : Type 0 where
+pub record IsPushedBy (s : Role) (z k : ℕ) (on : Bool) (now : ℕ) (left : List Pair) (old new : Tally) : Type 0 where
   pub row : List Pair
   pub is_row : IsRow (side_frame s) (side_lists s) (round_of (side_frame s) (at_end z)) k row
   pub on_row : left ≡ drop (passed row left) row
@@ -120,7 +120,7 @@ pub record IsPushedBy (s : Side) (z k : ℕ) (on : Bool) (now : ℕ) (left : Lis
       → IsTally (side_frame s) (side_lists s) s.player pays
       (risen_at rise z (passed_adds (other_player s.player) (end_at (side_frame s) z) on row left)) now new
 
-module _ (s : Side) (z k : ℕ) (lz : z < end_count (side_frame s)) (on : Bool) (now : ℕ) where
+module _ (s : Role) (z k : ℕ) (lz : z < end_count (side_frame s)) (on : Bool) (now : ℕ) where
   abbrev f : Frame
   f = side_frame s
 

@@ -1,11 +1,11 @@
 -- An answer found again at a point, class by class: the plan so far stays, and the other player's class totals are told.
-use Rattle.std.proofs.Common.{◌≡◌, ℕ, ◌+◌, ◌<◌, false, true, get_or, refl, ◌∙◌, arith}
+use Rattle.std.proofs.Common.{◌≡◌, ℕ, ◌+◌, ◌<◌, false, true, get_or, refl, arith}
 use Rattle.gs_model.specs.{Classes.{ClassLists, IsClass, IsClasses}, Frame.{Frame, last_step, player_at, point_count, round_of}}
 use Rattle.gs_model.specs.{FrameFacts.{InRange, IsWalked}, Positions.{at_point}}
 use Rattle.gs_best.specs.Tables.{moves_of}
 use Rattle.gs_play.specs.{Answers.{HasAnswer, IsElsewhere, IsRenewed, IsRightMove, IsTurnedAt, plan_after}, Tallies.{HasTallyRoom}}
 use Rattle.gs_play.specs.{declared.answers.Answer.{Answer}, declared.tally.Tally.{Tally}}
-use Rattle.gs_play.proofs.{Again.{AreRightTo, rights_more, turned_more}, PlansAlike.{alike_on}}
+use Rattle.gs_play.proofs.{Again.{AreRightTo, rights_more, turned_more}, PlansAlike.{alike_on}, Tells.{choices_kept, choices_next}}
 
 -- what holds before a class of a point: `start` and `before` are the answer and the other player's class totals as they were, `a` and `t` as they are
 pub record IsRenewing (f : Frame) (lists : ClassLists) (player q n now : ℕ) (move : ℕ → ℕ → ℕ) (start a : Answer) (before t : Tally) : Type 0 where
@@ -19,10 +19,8 @@ pub renewed_none : (f : Frame) (lists : ClassLists) (player now : ℕ) (a : Answ
 renewed_none f lists player now a t has room = record {
   answer = has;
   plan = record { total = refl; numbers = λ p e m lp own le lm. refl };
-  room = room;
-  moved = refl;
-  picks = refl;
-  told = λ pays h. h;
+  kept = choices_kept room;
+  passed_on = λ pays h. h;
 }
 
 -- and more is
@@ -31,10 +29,8 @@ pub renewed_on : (f : Frame) (lists : ClassLists) (player now : ℕ) (start a b 
 renewed_on f lists player now start a b before t u h k = record {
   answer = k.answer;
   plan = alike_on f lists player (plan_after f lists b now) (plan_after f lists a now) (plan_after f lists start now) k.plan h.plan;
-  room = k.room;
-  moved = k.moved ∙ h.moved;
-  picks = k.picks ∙ h.picks;
-  told = λ pays told. k.told pays (h.told pays told);
+  kept = choices_next h.kept k.kept;
+  passed_on = λ pays was. k.passed_on pays (h.passed_on pays was);
 }
 
 pub renewing_none : (f : Frame) (lists : ClassLists) (player q now : ℕ) (move : ℕ → ℕ → ℕ) (a : Answer) (t : Tally) → HasAnswer f lists player now a

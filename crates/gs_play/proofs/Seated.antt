@@ -11,7 +11,7 @@ use Rattle.gs_best.specs.Tables.{AreInMoves, moves_of}
 use Rattle.gs_play.specs.{PlanSums.{ArePlansAlike}, declared.answers.Answer.{Answer}, declared.seat.Seat.{Seat}, declared.tally.Tally.{Tally}}
 use Rattle.gs_play.proofs.{Jumps.{AnswerStays, jump}, Few.{few_lines}, PlansAlike.{alike_on, firsts_alike, played_alike, puts_plan}, SumLaws.{plus_times}}
 use Rattle.gs_play.specs.{Answers.{AreRight, IsRight, IsRenewed, IsSameTally, answer_plan, plan_after, taken_plan}, DueTurns.{IsNoneDue}}
-use Rattle.gs_play.specs.{Seats.{ArePlaying, IsAtStart, IsNextDue, IsSeat}, Tallies.{AreSmallAtEnds, HasMoved, HasTallyRoom, IsTally, TellsMoves}}
+use Rattle.gs_play.specs.{Seats.{ArePlaying, IsAtStart, IsNextDue, IsSeat}, Tallies.{AreSmallAtEnds, HasMoved, HasTallyRoom, IsSwept, IsTally, TellsMoves}}
 use Rattle.gs_play.proofs.{Played.{answer_stays, faces_first, faces_later, picks_inside, plan_first, plan_later, stays_on}, Taken.{taken_puts}}
 
 -- ---- one player
@@ -240,11 +240,6 @@ module _ (a : Abstract) where
 
   -- ---- a turn
 
-  -- what a sweep keeps of a player's class totals
-  abbrev Keeps : ℕ → ℕ → Tally → Tally → Type 0
-  Keeps player now old new = (pays rise : ℕ → ℕ → ℤ) → AreSmallAtEnds F L player pays rise → IsTally F L player pays rise now old
-      → IsTally F L player pays rise now new
-
   -- so far no cell is due
   abbrev HasNone : ℕ → Tally → Type 0
   HasNone now t = IsNoneDue t.dues.turns.items 0 (length t.dues.turns.items) now
@@ -267,12 +262,13 @@ module _ (a : Abstract) where
         one two p
 
     -- player 1 sweeps
-    module _ (first : Tally) (room : HasTallyRoom F L first) (none : HasNone now first) (kept : Keeps 1 now one.tally first) where
+    module _ (first : Tally) (none : HasNone now first) (swept : IsSwept F L 1 now one.tally first) where
       faces_one : IsTally F L 1 (end_sum F L 1 y) (end_sum F L 1 b) now first
-      faces_one = kept (end_sum F L 1 y) (end_sum F L 1 b) (seat_few 1 (omega arith) (omega arith) y b now soon plans.1 p.seat_two.plan refl refl) p.faces_one
+      faces_one = swept.kept (end_sum F L 1 y) (end_sum F L 1 b) (seat_few 1 (omega arith) (omega arith) y b now soon plans.1 p.seat_two.plan refl refl)
+          p.faces_one
 
       pub inside_one : AreInMoves F L 1 (moves_of F L first.picks.items)
-      inside_one = choices_inside 1 (omega arith) (omega arith) y b now first room none faces_one
+      inside_one = choices_inside 1 (omega arith) (omega arith) y b now first swept.room none faces_one
 
       -- and finds an answer
       module _ (new_one : Answer) (own_one : Tally) (same_one : IsSameTally first own_one)
@@ -284,20 +280,21 @@ module _ (a : Abstract) where
         right_first = subst (λ (v : Vec ℕ Global). AreRight F L 1 (moves_of F L new_one.taken.items) (moves_of F L v.items)) same_one.picks right_one
 
         plan_one : IsClassPlan F L 1 b_one
-        plan_one = taken_is_plan 1 (omega arith) (omega arith) y b now first room none faces_one (moves_of F L new_one.taken.items) right_first
+        plan_one = taken_is_plan 1 (omega arith) (omega arith) y b now first swept.room none faces_one (moves_of F L new_one.taken.items) right_first
 
         once_one : AnswerStays F L 1 y b b_one 1
-        once_one = taken_once 1 (omega arith) (omega arith) y b now first room none faces_one (moves_of F L new_one.taken.items) right_first
+        once_one = taken_once 1 (omega arith) (omega arith) y b now first swept.room none faces_one (moves_of F L new_one.taken.items) right_first
 
         -- player 2 is told, and sweeps
         module _ (told_two second : Tally) (renewed_one : IsRenewed F L 1 now one.answer new_one two.tally told_two)
-            (room_two : HasTallyRoom F L second) (none_two : HasNone now second) (kept_two : Keeps 2 now told_two second) where
+            (none_two : HasNone now second) (swept_two : IsSwept F L 2 now told_two second) where
           faces_two : IsTally F L 2 (end_sum F L 2 x) (end_sum F L 2 b_one) now second
-          faces_two = kept_two (end_sum F L 2 x) (end_sum F L 2 b_one) (seat_few 2 (omega arith) (omega arith) x b_one now soon plans.0 plan_one refl refl)
-              (renewed_one.told (end_sum F L 2 x) p.faces_two)
+          faces_two = swept_two.kept (end_sum F L 2 x) (end_sum F L 2 b_one)
+              (seat_few 2 (omega arith) (omega arith) x b_one now soon plans.0 plan_one refl refl)
+              (renewed_one.passed_on (end_sum F L 2 x) p.faces_two)
 
           pub inside_two : AreInMoves F L 2 (moves_of F L second.picks.items)
-          inside_two = choices_inside 2 (omega arith) (omega arith) x b_one now second room_two none_two faces_two
+          inside_two = choices_inside 2 (omega arith) (omega arith) x b_one now second swept_two.room none_two faces_two
 
           -- and finds an answer
           module _ (new_two : Answer) (own_two : Tally) (same_two : IsSameTally second own_two)
@@ -309,29 +306,31 @@ module _ (a : Abstract) where
             right_second = subst (λ (v : Vec ℕ Global). AreRight F L 2 (moves_of F L new_two.taken.items) (moves_of F L v.items)) same_two.picks right_two
 
             plan_two : IsClassPlan F L 2 b_two
-            plan_two = taken_is_plan 2 (omega arith) (omega arith) x b_one now second room_two none_two faces_two
+            plan_two = taken_is_plan 2 (omega arith) (omega arith) x b_one now second swept_two.room none_two faces_two
                 (moves_of F L new_two.taken.items) right_second
 
             once_two : AnswerStays F L 2 x b_one b_two 1
-            once_two = taken_once 2 (omega arith) (omega arith) x b_one now second room_two none_two faces_two (moves_of F L new_two.taken.items) right_second
+            once_two = taken_once 2 (omega arith) (omega arith) x b_one now second swept_two.room none_two faces_two
+                (moves_of F L new_two.taken.items) right_second
 
             -- player 1 is told
             module _ (told_one : Tally) (renewed_two : IsRenewed F L 2 now two.answer new_two own_one told_one) where
               known_one : IsTally F L 1 (end_sum F L 1 y) (end_sum F L 1 b_two) now told_one
-              known_one = renewed_two.told (end_sum F L 1 y) (tally_kept F L 1 (end_sum F L 1 y) (end_sum F L 1 b) now first own_one same_one faces_one)
+              known_one = renewed_two.passed_on (end_sum F L 1 y) (tally_kept F L 1 (end_sum F L 1 y) (end_sum F L 1 b) now first own_one same_one faces_one)
 
               known_two : IsTally F L 2 (end_sum F L 2 x) (end_sum F L 2 b_one) now own_two
               known_two = tally_kept F L 2 (end_sum F L 2 x) (end_sum F L 2 b_one) now second own_two same_two faces_two
 
               right_told : AreRight F L 1 (moves_of F L new_one.taken.items) (moves_of F L told_one.picks.items)
-              right_told = subst (λ (v : Vec ℕ Global). AreRight F L 1 (moves_of F L new_one.taken.items) (moves_of F L v.items)) (sym renewed_two.picks) right_one
+              right_told = subst (λ (v : Vec ℕ Global). AreRight F L 1 (moves_of F L new_one.taken.items) (moves_of F L v.items))
+                  (sym renewed_two.kept.picks) right_one
 
               -- the next turn
               module _ (next : ℕ) (later : now < next) (due_one : IsNextDue told_one.dues.turns.items now next)
                   (due_two : IsNextDue own_two.dues.turns.items now next)
                   (room_last : HasTallyRoom F L own_two) where
                 stays_one : AnswerStays F L 1 y b_two b_one (next - now)
-                stays_one = taken_on 1 (omega arith) (omega arith) y b b_two now next later told_one renewed_two.room known_one due_one
+                stays_one = taken_on 1 (omega arith) (omega arith) y b b_two now next later told_one renewed_two.kept.room known_one due_one
                     (moves_of F L new_one.taken.items)
                     right_told once_one
 
@@ -346,6 +345,6 @@ module _ (a : Abstract) where
                     next_playing F (form_in_range a) L (form_classes a) (form_walked a 1 (omega arith) (omega arith))
                     (form_walked a 2 (omega arith) (omega arith))
                     now next p.some later one.answer two.answer (record { answer = new_one; tally = told_one }) (record { answer = new_two; tally = own_two })
-                    (record { answer = renewed_one.answer; room = renewed_two.room; plan = plan_one; right = right_told; still = still_one })
+                    (record { answer = renewed_one.answer; room = renewed_two.kept.room; plan = plan_one; right = right_told; still = still_one })
                     (record { answer = renewed_two.answer; room = room_last; plan = plan_two; right = right_two; still = still_two })
                     renewed_one.plan renewed_two.plan p.played known_one known_two stays_one stays_two

@@ -1,5 +1,5 @@
 -- One cell of a sweep: what its function says, from what was found and fed.
-use Rattle.std.proofs.Common.{◌≡◌, ℕ, ◌+◌, ◌^◌, ◌<◌, ◌≤◌, length, set, sym, ap, ◌∙◌, subst, arith, ⊎_elim, get_or-set_other, get_or-set_same}
+use Rattle.std.proofs.Common.{◌≡◌, ℕ, ◌+◌, ◌<◌, ◌≤◌, length, set, sym, ap, ◌∙◌, subst, arith, ⊎_elim, get_or-set_other, get_or-set_same}
 use Rattle.std.specs.Prelude.{ℤ, ◌-ℤ◌, slice_index}
 use Rattle.std.proofs.{lemmas.Bool.{cases_eq}, lemmas.List.{set-get_or}}
 use Rattle.gs_model.specs.{Classes.{ClassLists, IsClass}, Frame.{Frame, player_at, point_count, round_of}, FrameFacts.{IsFrom, IsWalked}, Positions.{at_point}}
@@ -11,8 +11,8 @@ use Rattle.gs_play.specs.{declared.plot.PointRow.{PointRow}, declared.plot.Way.{
 use Rattle.gs_play.proofs.{Chosen.{IsFoundAgain, IsFoundFor, found_again, found_for}, Feeds.{feeds_at, up_from, up_in}, Lists.{cell_inside}}
 use Rattle.gs_play.proofs.{Kept.{kept_fed, kept_nowhere, kept_same}, PlotRows.{cell_within, class_here, class_in, place_here}}
 
-module _ (f : Frame) (lists : ClassLists) (player : ℕ) (walked : IsWalked f player) (now last : ℕ) (order : now < last) (turns : last ≤ 2 ^ 20) (cell : ℕ)
-    (r : PointRow) (row : IsRowIn f lists r) (is : IsCellOf f lists r.point cell) (old mid : Tally) (room : HasTallyRoom f lists old)
+module _ {f : Frame} {lists : ClassLists} {player : ℕ} (walked : IsWalked f player) {now last : ℕ} (order : now < last) (turns : last ≤ 1000001) {cell : ℕ}
+    {r : PointRow} (row : IsRowIn f lists r) (is : IsCellOf f lists r.point cell) {old mid : Tally} (room : HasTallyRoom f lists old)
     (found : IsLineFound player r cell now last old mid) where
   abbrev class : ℕ
   class = class_here f lists r row cell
@@ -94,7 +94,7 @@ module _ (f : Frame) (lists : ClassLists) (player : ℕ) (walked : IsWalked f pl
       by x e = ap (λ xs. slice_index xs k) e
           ∙ get_or-set_other old.dues.turns.items (cell_place f lists r.point class) k x 0 (λ same. omega (arith, l, same, at_cell))
 
-  module _ (w : Way) (to : LeadsTo f lists (at_point r.point) w) (lup : IsClass lists w.row.round (up_of f lists w class)) (more : Line) (new : Tally)
+  module _ {w : Way} (to : LeadsTo f lists (at_point r.point) w) (lup : IsClass lists w.row.round (up_of f lists w class)) {more : Line} {new : Tally}
       (feeds : FeedsAbove f lists w class more mid new) where
     pub fed_kept : wrapped more.at ≡ wrapped ((line_at mid.totals.items cell).at -ℤ (line_at old.totals.items cell).at)
         → wrapped more.slope ≡ wrapped ((line_at mid.totals.items cell).slope -ℤ (line_at old.totals.items cell).slope) → IsKept new

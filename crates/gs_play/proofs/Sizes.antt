@@ -1,4 +1,4 @@
--- What is told of lines of 64 bits is small.
+-- What lines of 64 bits come to in a turn is small.
 use Rattle.std.proofs.{Common.{ℕ, ◌*◌, ◌^◌, ◌<◌, ◌≤◌, arith}, Math.Nat.{mul-le-mul_left}, lemmas.Int.{ints, unsigned_abs-mul}}
 use Rattle.std.specs.{Prelude.{ℤ, pos, ◌-ℤ◌, ◌*ℤ◌, unsigned_abs}, Int.RustNames.{FitsSigned}}
 use borrow.Author.Differences.{abs_is}

@@ -1,10 +1,17 @@
--- What is said of moved choices, where a choice is written and over several steps.
-use Rattle.std.proofs.{Common.{◌≡◌, ℕ, Bool, false, List, get_or, set, sym, ap, ◌∙◌, ⊎_elim, Vec}, lemmas.Bool.{cases_eq}, lemmas.List.{set-get_or}}
+-- What is said of choices, where none is written, where one is, and over several steps.
+use Rattle.std.proofs.{Common.{◌≡◌, ℕ, Bool, false, List, get_or, refl, set, sym, ap, ◌∙◌, ⊎_elim, Vec}, lemmas.Bool.{cases_eq}, lemmas.List.{set-get_or}}
 use Rattle.std.specs.declared.alloc.Global.{Global}
 use Rattle.gs_model.specs.{Classes.{ClassLists, IsClass}, Frame.{Frame, round_of}, Positions.{at_point}}
 use Rattle.gs_best.specs.Tables.{moves_of}
-use Rattle.gs_play.specs.{Plots.{cell_place}, Tallies.{IsPicked, TellsMoves}, declared.tally.Tally.{Tally}}
+use Rattle.gs_play.specs.{Plots.{cell_place}, Tallies.{HasTallyRoom, IsPicked, IsSwept, KeepsChoices, TellsMoves}, declared.tally.Tally.{Tally}}
 use Rattle.gs_play.proofs.Lists.{other_cell}
+
+module _ {f : Frame} {lists : ClassLists} where
+  pub choices_kept : {t : Tally} → HasTallyRoom f lists t → KeepsChoices f lists t t
+  choices_kept room = record { room = room; moved = refl; picks = refl }
+
+  pub choices_next : {old mid new : Tally} → KeepsChoices f lists old mid → KeepsChoices f lists mid new → KeepsChoices f lists old new
+  choices_next first second = record { room = second.room; moved = second.moved ∙ first.moved; picks = second.picks ∙ first.picks }
 
 module _ (f : Frame) (lists : ClassLists) where
   -- where no choice is written
@@ -19,6 +26,19 @@ module _ (f : Frame) (lists : ClassLists) where
       let b = second p lp still in
       let a = first p lp b.0 in
       (a.0, λ c lc. b.1 c lc ∙ a.1 c lc)
+
+  -- no class total is found again
+  pub swept_none : (player now : ℕ) (t : Tally) → HasTallyRoom f lists t → IsSwept f lists player now t t
+  swept_none player now t room = record { room = room; tells = tells_same t t refl refl; kept = λ pays rise few h. h }
+
+  -- and more are
+  pub swept_next : (player now : ℕ) (old mid new : Tally) → IsSwept f lists player now old mid → IsSwept f lists player now mid new
+      → IsSwept f lists player now old new
+  swept_next player now old mid new first second = record {
+    room = second.room;
+    tells = tells_next old mid new first.tells second.tells;
+    kept = λ pays rise few h. second.kept pays rise few (first.kept pays rise few h);
+  }
 
   -- where one is
   pub tells_picked : (q c best : ℕ) (old new : Tally) → IsClass lists (round_of f (at_point q)) c → IsPicked q (cell_place f lists q c) best old new

@@ -5,7 +5,8 @@ use Rattle.gs_model.specs.{Classes.{ClassLists, IsClass}, Frame.{Frame, last_ste
 use Rattle.gs_model.specs.Positions.{Step, at_point}
 use Rattle.gs_seq.specs.{Payoffs.{end_sum}, Slots.{slot_count, slot_of}}
 use Rattle.gs_best.specs.{Tables.{AreInMoves, moves_of, start_of}, ClassTotals.{earlier_class}}
-use Rattle.gs_play.specs.{PlanSums.{ArePlansAlike}, Tallies.{HasTallyRoom, IsTally}, declared.answers.Answer.{Answer}, declared.tally.Tally.{Tally}}
+use Rattle.gs_play.specs.{PlanSums.{ArePlansAlike}, Tallies.{HasTallyRoom, IsTally, KeepsChoices}}
+use Rattle.gs_play.specs.{declared.answers.Answer.{Answer}, declared.tally.Tally.{Tally}}
 
 -- the answer takes its player's last step before a point, at the class above a class of the point; it comes there, too, if there is no such step
 abbrev pub IsReached : Frame → ClassLists → (ℕ → ℕ → ℕ) → Option Step → ℕ → ℕ → Type 0
@@ -73,10 +74,8 @@ pub record IsRenewable (f : Frame) (lists : ClassLists) (player now : ℕ) (pick
 pub record IsRenewed (f : Frame) (lists : ClassLists) (player now : ℕ) (start a : Answer) (before t : Tally) : Type 0 where
   pub answer : HasAnswer f lists player now a
   pub plan : ArePlansAlike f lists player (plan_after f lists a now) (plan_after f lists start now)
-  pub room : HasTallyRoom f lists t
-  pub moved : t.moved ≡ before.moved
-  pub picks : t.picks ≡ before.picks
-  pub told : IsPassedOn f lists (other_player player) now (moves_of f lists start.taken.items) (moves_of f lists a.taken.items) before t
+  pub kept : KeepsChoices f lists before t
+  pub passed_on : IsPassedOn f lists (other_player player) now (moves_of f lists start.taken.items) (moves_of f lists a.taken.items) before t
 
 -- two tallies have the same lines, dues and choices
 pub record IsSameTally (old new : Tally) : Type 0 where

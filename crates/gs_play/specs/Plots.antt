@@ -141,7 +141,7 @@ IsMoveNoted s (at_end z) to_points to_ends new_points new_ends = (new_points ≡
 
 -- what is noted is a move that leads there, and all moves before one are noted
 pub record AreMovesNoted (f : Frame) (point choice : ℕ) (to_points to_ends : List (Option StoredStep)) : Type 0 where
-  pub sound : (t : Target) (s : StoredStep) → way_to to_points to_ends t ≡ Some s → IsMoveTo f t (step_of s)
+  pub leads : (t : Target) (s : StoredStep) → way_to to_points to_ends t ≡ Some s → IsMoveTo f t (step_of s)
   pub before : (q m : ℕ) → q < point → m < move_count f q → way_to to_points to_ends (leads_to f q m) ≢ None
   pub here : (m : ℕ) → m < choice → way_to to_points to_ends (leads_to f point m) ≢ None
 

@@ -44,6 +44,12 @@ pub record HasTallyRoom (f : Frame) (lists : ClassLists) (t : Tally) : Type 0 wh
   pub blocks : length t.dues.soonest.items ≡ div_ceil (start_of f lists (point_count f)) 64
   pub moved : length t.moved.items ≡ point_count f
 
+-- there is room for a player's class totals, and no choice is another one than before, nor said to be
+pub record KeepsChoices (f : Frame) (lists : ClassLists) (old new : Tally) : Type 0 where
+  pub room : HasTallyRoom f lists new
+  pub moved : new.moved ≡ old.moved
+  pub picks : new.picks ≡ old.picks
+
 -- The class totals of a player in the turn `now`: the ends pay `pays` then, and each turn adds `rise`. The worths are those of the totals, and what is due
 -- later is settled until then
 pub record IsTally (f : Frame) (lists : ClassLists) (player : ℕ) (pays rise : ℕ → ℕ → ℤ) (now : ℕ) (t : Tally) : Type 0 where
@@ -76,6 +82,13 @@ pub record AreSmallAt (f : Frame) (lists : ClassLists) (player : ℕ) (ends : �
 pub record AreSmallAtEnds (f : Frame) (lists : ClassLists) (player : ℕ) (pays rise : ℕ → ℕ → ℤ) : Type 0 where
   pub values : AreSmallAt f lists player pays (2 ^ 58)
   pub slopes : AreSmallAt f lists player rise (2 ^ 38)
+
+-- class totals are found again: what is kept of the player is right in the turn `now`, and points where a choice changes are noted
+pub record IsSwept (f : Frame) (lists : ClassLists) (player now : ℕ) (old new : Tally) : Type 0 where
+  pub room : HasTallyRoom f lists new
+  pub tells : TellsMoves f lists old new
+  pub kept : (pays rise : ℕ → ℕ → ℤ) → AreSmallAtEnds f lists player pays rise → IsTally f lists player pays rise now old
+      → IsTally f lists player pays rise now new
 
 -- ---- of private functions
 
@@ -148,3 +161,8 @@ risen_at rise z more y c = rise y c +ℤ (if y == z then more c else pos 0)
 -- numbers at ends, with more at one class of one end
 abbrev pub risen : (ℕ → ℕ → ℤ) → ℕ → ℕ → ℤ → ℕ → ℕ → ℤ
 risen rise z k more = risen_at rise z (λ c. if k == c then more else pos 0)
+
+-- each turn adds more to what an end pays the classes of a player
+abbrev pub HasRisen : Frame → ClassLists → ℕ → ℕ → (ℕ → ℤ) → ℕ → Tally → Tally → Type 0
+HasRisen f lists player end more now old new =
+    (pays rise : ℕ → ℕ → ℤ) → IsTally f lists player pays rise now old → IsTally f lists player pays (risen_at rise end more) now new

@@ -6,13 +6,13 @@ ghost use Rattle.gs_model.specs.Positions.{at_point};
 ghost use Rattle.gs_seq.specs.{Plans.{class_plan}, Slots.{slot_count}};
 ghost use Rattle.gs_best.specs.Tables.{moves_of, start_of};
 ghost use Rattle.gs_play.specs.PlanSums.{ArePlansAlike};
-ghost use Rattle.gs_play.specs.{Plots.{IsGate, IsRowIn}, Sides.{side_frame, side_lists}, Tallies.{HasMoved, HasTallyRoom}};
+ghost use Rattle.gs_play.specs.{Plots.{IsGate, IsRowIn, cell_place}, Sides.{side_frame, side_lists}, Tallies.{HasMoved, HasTallyRoom, KeepsChoices}};
 ghost use Rattle.gs_play.specs.Answers.{AreKeptBut, AreRight, HasAnswer, IsElsewhere, IsPaidOff, IsReached, IsRenewable, IsRenewed, IsRight};
 ghost use Rattle.gs_play.specs.Answers.{IsRightAt, IsRightMove, IsSameTally, IsStill, IsPassedOn, IsOtherMove, IsTurnedAt, plan_after};
 
 use crate::plot::{PointRow, gate_of};
 use crate::pushing::{Change, push};
-use crate::side::Side;
+use crate::role::Role;
 use crate::tally::Tally;
 use gs_game::Step;
 use gs_seq::Plan;
@@ -35,7 +35,7 @@ pub(crate) struct Answer {
 }
 
 /// Returns whether the answer comes to a class of a row: whether it takes the player's last step before the row's point, at the class above.
-fn is_reached(side: &Side<'_>, taken: &[u8], gate: Option<Step>, row: PointRow, class: u32) -> bool
+fn is_reached(side: &Role<'_>, taken: &[u8], gate: Option<Step>, row: PointRow, class: u32) -> bool
     requires row { IsRowIn (side_frame side.now) (side_lists side.now) row }
     requires gate { IsGate (side_frame side.now) row.point gate }
     requires class { IsClass (side_lists side.now) (round_of (side_frame side.now) (at_point row.point)) class }
@@ -53,8 +53,18 @@ fn is_reached(side: &Side<'_>, taken: &[u8], gate: Option<Step>, row: PointRow, 
     }
 }
 
+/// Returns the cell of a class of a point.
+fn cell_of(side: &Role<'_>, point: u32, class: u32) -> usize
+    requires point { point < point_count (side_frame side.now) }
+    requires class { IsClass (side_lists side.now) (round_of (side_frame side.now) (at_point point)) class }
+    ensures place { result ≡ cell_place (side_frame side.now) (side_lists side.now) point class }
+    ensures inside { result < start_of (side_frame side.now) (side_lists side.now) (point_count (side_frame side.now)) }
+{
+    side.plot.rows[point as usize].cell + class as usize - 1
+}
+
 /// Adds to the weight of the move that is taken at a class of a point the turns since it began.
-fn pay_off(side: &Side<'_>, answer: &mut Answer, point: u32, class: u32, now: u32)
+fn pay_off(side: &Role<'_>, answer: &mut Answer, point: u32, class: u32, now: u32)
     requires point { point < point_count (side_frame side.now) }
     requires own { player_at (side_frame side.now) point ≡ side.now.player }
     requires class { IsClass (side_lists side.now) (round_of (side_frame side.now) (at_point point)) class }
@@ -66,7 +76,7 @@ fn pay_off(side: &Side<'_>, answer: &mut Answer, point: u32, class: u32, now: u3
     ensures since { answer.new.since ≡ answer.old.since }
     ensures turned { answer.new.turned ≡ answer.old.turned }
 {
-    let cell = side.plot.rows[point as usize].cell + class as usize - 1;
+    let cell = cell_of(side, point, class);
     let old = answer.taken[cell];
     if old != NONE {
         let slot = side.form.slot(point, class, old) as usize;
@@ -75,7 +85,7 @@ fn pay_off(side: &Side<'_>, answer: &mut Answer, point: u32, class: u32, now: u3
 }
 
 /// Takes another move at a class of a point from the turn `now` on, or none. The weight so far is written.
-fn turn(side: &Side<'_>, answer: &mut Answer, point: u32, class: u32, new: u8, now: u32)
+fn turn(side: &Role<'_>, answer: &mut Answer, point: u32, class: u32, new: u8, now: u32)
     requires point { point < point_count (side_frame side.now) }
     requires own { player_at (side_frame side.now) point ≡ side.now.player }
     requires class { IsClass (side_lists side.now) (round_of (side_frame side.now) (at_point point)) class }
@@ -88,7 +98,7 @@ fn turn(side: &Side<'_>, answer: &mut Answer, point: u32, class: u32, new: u8, n
     ensures plan { let f = side_frame side.now in let lists = side_lists side.now in
         ArePlansAlike f lists side.now.player (plan_after f lists answer.new now) (plan_after f lists answer.old now) }
 {
-    let cell = side.plot.rows[point as usize].cell + class as usize - 1;
+    let cell = cell_of(side, point, class);
     pay_off(side, answer, point, class, now);
     answer.taken[cell] = new;
     answer.since[cell] = now;
@@ -97,7 +107,7 @@ fn turn(side: &Side<'_>, answer: &mut Answer, point: u32, class: u32, new: u8, n
 
 /// Tells the other player's class totals that a player takes a move at a class of a point from the turn `now` on in place of another one.
 /// One of the two may be `NONE`.
-fn tell(side: &Side<'_>, tally: &mut Tally, point: u32, class: u32, old: u8, new: u8, now: u32)
+fn tell(side: &Role<'_>, tally: &mut Tally, point: u32, class: u32, old: u8, new: u8, now: u32)
     requires point { point < point_count (side_frame side.now) }
     requires own { player_at (side_frame side.now) point ≡ side.now.player }
     requires class { IsClass (side_lists side.now) (round_of (side_frame side.now) (at_point point)) class }
@@ -105,14 +115,12 @@ fn tell(side: &Side<'_>, tally: &mut Tally, point: u32, class: u32, old: u8, new
     requires new { new < 255 → new < move_count (side_frame side.now) point }
     requires apart { old ≢ new }
     requires room { HasTallyRoom (side_frame side.now) (side_lists side.now) tally.old }
-    ensures room { HasTallyRoom (side_frame side.now) (side_lists side.now) tally.new }
-    ensures moved { tally.new.moved ≡ tally.old.moved }
-    ensures picks { tally.new.picks ≡ tally.old.picks }
-    ensures told { let f = side_frame side.now in let lists = side_lists side.now in
+    ensures kept { KeepsChoices (side_frame side.now) (side_lists side.now) tally.old tally.new }
+    ensures passed_on { let f = side_frame side.now in let lists = side_lists side.now in
         (from to : ℕ → ℕ → ℕ) → IsOtherMove f lists point class old new from to
         → IsPassedOn f lists (other_player side.now.player) now from to tally.old tally.new }
 {
-    let other = Side {
+    let other = Role {
         form: side.form,
         player: 3 - side.player,
         plot: side.plot,
@@ -139,7 +147,7 @@ fn tell(side: &Side<'_>, tally: &mut Tally, point: u32, class: u32, old: u8, new
 
 /// Returns the move that is right at a class of a row: the chosen one where the answer comes there, else `NONE`.
 fn right_move(
-    side: &Side<'_>,
+    side: &Role<'_>,
     taken: &[u8],
     picks: &[u8],
     gate: Option<Step>,
@@ -165,7 +173,7 @@ fn right_move(
 /// Finds the moves again that a player's answer takes at a point, from the choices there and from what it takes at the points before.
 /// The other player's class totals are told.
 fn renew_point(
-    side: &Side<'_>,
+    side: &Role<'_>,
     answer: &mut Answer,
     picks: &[u8],
     tally: &mut Tally,
@@ -194,7 +202,7 @@ fn renew_point(
 
 /// Returns whether what a player's answer takes at a point may have to be found again: a choice there has changed, or what is taken at the point of
 /// the player's last step before it has been changed.
-fn is_loose(side: &Side<'_>, answer: &Answer, moved: &[bool], point: u32) -> bool
+fn is_loose(side: &Role<'_>, answer: &Answer, moved: &[bool], point: u32) -> bool
     requires point { point < point_count (side_frame side.now) }
     requires turned { length answer.now.turned.items ≡ point_count (side_frame side.now) }
     requires moved { length moved.now ≡ point_count (side_frame side.now) }
@@ -211,7 +219,7 @@ fn is_loose(side: &Side<'_>, answer: &Answer, moved: &[bool], point: u32) -> boo
 
 /// Finds the moves again that a player's answer takes at a point, if the player chooses there and they may have to be found again.
 fn renew_at(
-    side: &Side<'_>,
+    side: &Role<'_>,
     answer: &mut Answer,
     own: &Tally,
     tally: &mut Tally,
@@ -239,7 +247,7 @@ fn renew_at(
 /// Finds a player's answer again where the player's choices have changed. The other player's class totals in `tally` are told: what has changed is
 /// taken from the turn `now` on.
 pub(crate) fn renew(
-    side: &Side<'_>,
+    side: &Role<'_>,
     answer: &mut Answer,
     own: &mut Tally,
     tally: &mut Tally,
@@ -263,7 +271,7 @@ pub(crate) fn renew(
 }
 
 /// Takes the first move at each class of a point to which the answer comes.
-fn take_first(side: &Side<'_>, taken: &mut [u8], point: u32)
+fn take_first(side: &Role<'_>, taken: &mut [u8], point: u32)
     requires point { point < point_count (side_frame side.now) }
     requires long { length taken.old ≡ start_of (side_frame side.now) (side_lists side.now) (point_count (side_frame side.now)) }
     requires none { (c : ℕ) → IsClass (side_lists side.now) (round_of (side_frame side.now) (at_point point)) c
@@ -282,7 +290,7 @@ fn take_first(side: &Side<'_>, taken: &mut [u8], point: u32)
 }
 
 /// Returns the answer that takes the first move everywhere, from turn 0 on.
-pub(crate) fn first_answer(alloc: Global, side: &Side<'_>) -> Result<Answer, AllocError>
+pub(crate) fn first_answer(alloc: Global, side: &Role<'_>) -> Result<Answer, AllocError>
     ensures answer { IfOk result (HasAnswer (side_frame side.now) (side_lists side.now) side.now.player 0) }
     ensures right { let f = side_frame side.now in let lists = side_lists side.now in
         IfOk result (λ a. AreRight f lists side.now.player (moves_of f lists a.taken.items) (λ q c. 0)) }
@@ -304,7 +312,7 @@ pub(crate) fn first_answer(alloc: Global, side: &Side<'_>) -> Result<Answer, All
 }
 
 /// Takes no move any more at the classes of a point. The weights so far are written.
-fn stop_at(side: &Side<'_>, answer: &mut Answer, point: u32, last: u32)
+fn stop_at(side: &Role<'_>, answer: &mut Answer, point: u32, last: u32)
     requires point { point < point_count (side_frame side.now) }
     requires own { player_at (side_frame side.now) point ≡ side.now.player }
     requires answer { HasAnswer (side_frame side.now) (side_lists side.now) side.now.player last answer.old }
@@ -321,7 +329,7 @@ fn stop_at(side: &Side<'_>, answer: &mut Answer, point: u32, last: u32)
 }
 
 /// Returns the plan that a player has in the turn `last`.
-pub(crate) fn finish(side: &Side<'_>, mut answer: Answer, last: u32) -> Plan
+pub(crate) fn finish(side: &Role<'_>, mut answer: Answer, last: u32) -> Plan
     requires { HasAnswer (side_frame side.now) (side_lists side.now) side.now.player last answer }
     ensures player { result.player ≡ side.now.player }
     ensures total { result.total ≡ last }

@@ -86,7 +86,7 @@ pub(crate) fn until(before: bool, ahead: Line, other: Line, now: u32, last: u32)
 {
     let slope = i128::from(ahead.slope);
     let rise = i128::from(other.slope);
-    let gap = behind(
+    let turns = behind(
         before,
         value(ahead, now),
         value(other, now),
@@ -94,5 +94,5 @@ pub(crate) fn until(before: bool, ahead: Line, other: Line, now: u32, last: u32)
         rise,
         last - now,
     );
-    now + gap
+    now + turns
 }

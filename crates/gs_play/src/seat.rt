@@ -5,7 +5,7 @@ ghost use Rattle.gs_play.specs.{Seats.{IsAtStart}, Sides.{side_frame, side_lists
 
 use crate::answers::{Answer, first_answer};
 use crate::pushing::begin;
-use crate::side::Side;
+use crate::role::Role;
 use crate::tally::{Tally, tally_of};
 use std::alloc::{AllocError, Global};
 
@@ -17,7 +17,7 @@ pub(crate) struct Seat {
 }
 
 /// Returns what a player holds at the start, where both players take the first move everywhere.
-pub(crate) fn seat_of(alloc: Global, side: &Side<'_>) -> Result<Seat, AllocError>
+pub(crate) fn seat_of(alloc: Global, side: &Role<'_>) -> Result<Seat, AllocError>
     ensures { IfOk result (IsAtStart (side_frame side.now) (side_lists side.now) side.now.player) }
 {
     let other = side.form.first_plan(alloc, 3 - side.player)?;

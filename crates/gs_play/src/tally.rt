@@ -6,6 +6,7 @@ ghost use Rattle.gs_model.specs.{Classes.{ClassLists}, Frame.{Frame}, Sums.{sum_
 ghost use Rattle.gs_play.specs.{DueTurns.{IsDues}, Lines.{line_at, wrapped}, Plots.{IsPlot}, Tallies.{HasTallyRoom, IsAddedUp, IsChosen, IsBlank, IsPicked}};
 
 use crate::choosing::{first_greatest, first_until};
+use crate::clock::Clock;
 use crate::dues::{Dues, dues_of, set_due};
 use crate::line::{Line, sum};
 use crate::plot::Plot;
@@ -69,8 +70,7 @@ pub(crate) fn choose(
     cell: usize,
     first: usize,
     moves: usize,
-    now: u32,
-    last: u32,
+    clock: Clock,
 )
     requires dues { IsDues tally.old.dues }
     requires point { point < length tally.old.moved.items }
@@ -80,16 +80,14 @@ pub(crate) fn choose(
     requires worths { first + moves ≤ length tally.old.worths.items }
     requires some { 0 < moves }
     requires few { moves < 2 ^ 8 }
-    requires order { now < last }
-    requires turns { last ≤ 2 ^ 20 }
     ensures worths { tally.new.worths ≡ tally.old.worths }
     ensures dues { IsDues tally.new.dues }
     ensures blocks { length tally.new.dues.soonest.items ≡ length tally.old.dues.soonest.items }
-    ensures found { IsChosen (take moves (drop first tally.old.worths.items)) point cell now last tally.old tally.new }
+    ensures found { IsChosen (take moves (drop first tally.old.worths.items)) point cell clock.turn clock.last tally.old tally.new }
 {
     let lines = &tally.worths[first..first + moves];
-    let best = first_greatest(lines, now);
-    let until = first_until(lines, best, now, last);
+    let best = first_greatest(lines, clock.turn);
+    let until = first_until(lines, best, clock.turn, clock.last);
     let line = lines[best];
     tally.totals[cell] = line;
     pick(tally, point, cell, best as u8);

@@ -1,25 +1,13 @@
-use Rattle.std.proofs.Common.{◌≡◌, ◌+◌, ◌-◌, ◌<◌, arith}
-use Rattle.gs_model.specs.Frame.{point_count}
+use Rattle.std.proofs.Common.{◌-◌, ◌<◌, arith}
 use Rattle.gs_seq.proofs.Forms.{form_moves}
-use Rattle.gs_best.specs.Tables.{moves_of, start_of}
-use Rattle.gs_best.proofs.PointStarts.{place_before, starts_few}
-use Rattle.gs_play.specs.{Plots.{cell_place}, Sides.{side_frame, side_lists}}
-use Rattle.gs_play.proofs.{Paid.{began_before, old_in, old_read, paid_few, paid_off}, PlotRows.{IsCellAt, cell_at}, Slotted.{counted_none}}
-use Rattle.gs_play.proofs.answers.pay_off.Goals.{After-index, Then-old}
+use Rattle.gs_best.specs.Tables.{moves_of}
+use Rattle.gs_play.specs.Sides.{side_frame, side_lists}
+use Rattle.gs_play.proofs.{Paid.{began_before, old_in, old_read, paid_few, paid_off}, Slotted.{counted_none}}
+use Rattle.gs_play.proofs.answers.pay_off.Goals.{Then-old}
 use Rattle.gs_play.proofs.answers.pay_off.Goals as goal
 
--- the cell of the class
-cell : (c : After-index) → IsCellAt (side_frame c.args.side.now) (side_lists c.args.side.now) c.args.point c.args.class c.index.result.now.cell
-cell c = cell_at c.args.side.now.form.now c.args.side.now.plot.now c.args.side.now.plotted c.args.point c.args.class c.requires.point c.requires.class
-    c.index.result.now c.index.ensures
-
-pub overflow_add-cell : goal.overflow_add-cell
-overflow_add-cell c = record { fits = omega (arith, (cell (goal.at.overflow_add-cell c).After-index).few) }
-
 pub index-old-requires : goal.index-old-requires
-index-old-requires c =
-    let here = (goal.at.index-old-requires c).After-index in
-    omega (arith, (cell here).inside, (cell here).place, c.requires.answer.taken, c.args.answer.now.taken.ok.0)
+index-old-requires c = omega (arith, c.cell_of-cell.ensures.inside, c.requires.answer.taken, c.args.answer.now.taken.ok.0)
 
 -- what is taken is a move
 some_move : (c : Then-old) → c.index-old.result.now < 255
@@ -27,39 +15,33 @@ some_move c = omega (arith, c.if-old.true, c.type_inv.old.fits)
 
 pub slot-slot-requires-clause-choice : goal.slot-slot-requires-clause-choice
 slot-slot-requires-clause-choice c =
-    let at = (cell (goal.at.slot-slot-requires-clause-choice c).After-index).place in
     old_in (side_frame c.args.side.now) (side_lists c.args.side.now) c.args.side.now.player c.args.now c.args.point c.args.class c.requires.point c.requires.own
-    c.requires.class c.args.answer.now c.requires.answer (c.index.result.now.cell + c.args.class - 1) at c.index-old.result.now c.index-old.ensures
+    c.requires.class c.args.answer.now c.requires.answer c.cell_of-cell.result c.cell_of-cell.ensures.place c.index-old.result.now c.index-old.ensures
     (some_move (goal.at.slot-slot-requires-clause-choice c).Then-old)
 
-pub index-requires-then-old : goal.index-requires-then-old
-index-requires-then-old c =
-    let here = (goal.at.index-requires-then-old c).After-index in
-    omega (arith, (cell here).inside, (cell here).place, c.requires.answer.since, c.args.answer.now.since.ok.0)
+pub index-requires : goal.index-requires
+index-requires c = omega (arith, c.cell_of-cell.ensures.inside, c.requires.answer.since, c.args.answer.now.since.ok.0)
 
 pub overflow_sub-now : goal.overflow_sub-now
 overflow_sub-now c =
-    let at = (cell (goal.at.overflow_sub-now c).After-index).place in
     began_before (side_frame c.args.side.now) (side_lists c.args.side.now) c.args.side.now.player c.args.now c.args.point c.args.class c.requires.point
-    c.requires.own c.requires.class c.args.answer.now c.requires.answer (c.index.result.now.cell + c.args.class - 1) at c.index-then-old.result.now
-    c.index-then-old.ensures
+    c.requires.own c.requires.class c.args.answer.now c.requires.answer c.cell_of-cell.result c.cell_of-cell.ensures.place c.index.result.now
+    c.index.ensures
 
 pub overflow_add-index_mut : goal.overflow_add-index_mut
 overflow_add-index_mut c =
-    let at = (cell (goal.at.overflow_add-index_mut c).After-index).place in
     let few = paid_few (side_frame c.args.side.now) (side_lists c.args.side.now) c.args.side.now.player c.args.now c.args.point c.args.class c.requires.point
-    c.requires.own c.requires.class c.args.answer.now c.requires.answer (c.index.result.now.cell + c.args.class - 1) at c.index-old.result.now
-    c.index-then-old.result.now c.slot-slot.result c.index_mut.result.now c.from.result c.index-old.ensures
-    (some_move (goal.at.overflow_add-index_mut c).Then-old) c.index-then-old.ensures c.slot-slot.ensures.value c.index_mut.ensures.value c.from.ensures in
+    c.requires.own c.requires.class c.args.answer.now c.requires.answer c.cell_of-cell.result c.cell_of-cell.ensures.place c.index-old.result.now
+    c.index.result.now c.slot-slot.result c.index_mut.result.now c.from.result c.index-old.ensures
+    (some_move (goal.at.overflow_add-index_mut c).Then-old) c.index.ensures c.slot-slot.ensures.value c.index_mut.ensures.value c.from.ensures in
     record { fits = omega (arith, few, c.ranges.now.fits) }
 
 pub returns-then-old-clause-weights : goal.returns-then-old-clause-weights
 returns-then-old-clause-weights c = λ p e m lp his le lm.
-    let at = (cell (goal.at.returns-then-old-clause-weights c).After-index).place in
     paid_off (side_frame c.args.side.now) (side_lists c.args.side.now) c.args.side.now.player c.args.now c.args.point c.args.class c.requires.point
-    c.requires.own c.requires.class c.args.answer.now c.requires.answer (c.index.result.now.cell + c.args.class - 1) at c.index-old.result.now
-    c.index-then-old.result.now c.slot-slot.result c.index_mut.result.now c.from.result c.index-old.ensures
-    (some_move (goal.at.returns-then-old-clause-weights c).Then-old) c.index-then-old.ensures c.slot-slot.ensures.value c.index_mut.ensures.value
+    c.requires.own c.requires.class c.args.answer.now c.requires.answer c.cell_of-cell.result c.cell_of-cell.ensures.place c.index-old.result.now
+    c.index.result.now c.slot-slot.result c.index_mut.result.now c.from.result c.index-old.ensures
+    (some_move (goal.at.returns-then-old-clause-weights c).Then-old) c.index.ensures c.slot-slot.ensures.value c.index_mut.ensures.value
     c.from.ensures p e m his le lm
 
 pub returns-else-old-clause-weights : goal.returns-else-old-clause-weights
@@ -67,11 +49,10 @@ returns-else-old-clause-weights c = λ p e m lp his le lm.
     let f = side_frame c.args.side.now in
     let lists = side_lists c.args.side.now in
     let a = c.args.answer.now in
-    let at = (cell (goal.at.returns-else-old-clause-weights c).After-index).place in
     let taken = moves_of f lists a.taken.items c.args.point c.args.class in
     let began = moves_of f lists a.since.items c.args.point c.args.class in
     let read = old_read f lists c.args.side.now.player c.args.now c.args.point c.args.class c.requires.point c.requires.own c.requires.class a
-    c.requires.answer (c.index.result.now.cell + c.args.class - 1) at c.index-old.result.now c.index-old.ensures in
+    c.requires.answer c.cell_of-cell.result c.cell_of-cell.ensures.place c.index-old.result.now c.index-old.ensures in
     let few = (form_moves c.args.side.now.form.now p lp).few in
     let none = counted_none c.args.point c.args.class taken (c.args.now - began) p e m (omega (arith, read, few, lm, c.if-old.false)) in
     omega (arith, none)

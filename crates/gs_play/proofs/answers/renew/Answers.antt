@@ -94,7 +94,7 @@ renew_at-requires c = record {
         long = i.own.picks;
         moves = subst (λ (v : Vec ℕ Global). AreInMoves (side_frame s) (side_lists s) s.player (moves_of (side_frame s) (side_lists s) v.items)) (sym i.same.picks)
             c.requires.renewable.moves;
-        room = i.renewed.room;
+        room = i.renewed.kept.room;
       };
   right = λ own still e le.
       let s = c.args.side.now in

@@ -43,7 +43,7 @@ renew_point-requires c = record {
 pub returns-then-is_loose : goal.returns-then-is_loose
 returns-then-is_loose c = record {
   renewed = let h = c.renew_point.ensures.renewed in
-      record { answer = h.answer; plan = h.plan; room = h.room; moved = h.moved; picks = h.picks; told = h.told };
+      record { answer = h.answer; plan = h.plan; kept = h.kept; passed_on = h.passed_on };
   right = λ own e le.
       let f = side_frame c.args.side.now in
       let lists = side_lists c.args.side.now in
@@ -58,7 +58,7 @@ returns-else-index-side-clause-renewed c =
     let has = has_turned (side_frame s) (side_lists s) s.player c.args.now c.args.answer.now c.args.point false c.requires.renewable.answer in
     let h = renewed_none (side_frame s) (side_lists s) s.player c.args.now c.args.answer.now c.args.tally.now c.requires.renewable.answer
     c.requires.renewable.room in
-    record { answer = has; plan = h.plan; room = h.room; moved = h.moved; picks = h.picks; told = h.told }
+    record { answer = has; plan = h.plan; kept = h.kept; passed_on = h.passed_on }
 
 pub returns-else-index-side-clause-right : goal.returns-else-index-side-clause-right
 returns-else-index-side-clause-right c = λ own e le.

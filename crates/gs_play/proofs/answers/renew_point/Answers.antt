@@ -131,10 +131,8 @@ loop-class-preserved c =
           (record {
             answer = o.turn.ensures.answer;
             plan = o.turn.ensures.plan;
-            room = o.tell.ensures.room;
-            moved = o.tell.ensures.moved;
-            picks = o.tell.ensures.picks;
-            told = o.tell.ensures.told (moves_of f lists c.loop-class.answer.taken.items) (moves_of f lists o.turn.new.answer.taken.items)
+            kept = o.tell.ensures.kept;
+            passed_on = o.tell.ensures.passed_on (moves_of f lists c.loop-class.answer.taken.items) (moves_of f lists o.turn.new.answer.taken.items)
                 (record { before = read; here = o.turn.ensures.here; elsewhere = o.turn.ensures.elsewhere.taken });
           })))
       | else-old-new o ↦
@@ -180,7 +178,7 @@ tell-requires c = record {
       right_in (goal.at.tell-requires c).After-right_move-new (row here).point
       (at_class (goal.at.tell-requires c).In-loop-class (round here));
   apart = grind arith;
-  room = c.loop-class.invariant.renewed.room;
+  room = c.loop-class.invariant.renewed.kept.room;
 }
 
 pub turn-requires-clause-own : goal.turn-requires-clause-own

@@ -1,67 +1,40 @@
 use Rattle.std.proofs.lemmas.Grind.{common_steps}
 use Rattle.std.proofs.lemmas.List.{get_or-set_same}
-use Rattle.std.proofs.Common.{◌≡◌, ℕ, Bool, ◌+◌, ◌-◌, ◌<◌, length, false, set, true, ap, ◌∙◌, arith, vec_len, Vec}
+use Rattle.std.proofs.Common.{ℕ, Bool, length, false, set, true, ap, ◌∙◌, arith, vec_len, Vec}
 use Rattle.std.specs.{Vec.{with_item}, declared.alloc.Global.{Global}}
-use Rattle.gs_model.specs.Frame.{point_count}
-use Rattle.gs_best.specs.Tables.{start_of}
-use Rattle.gs_best.proofs.PointStarts.{place_before, starts_few}
-use Rattle.gs_play.specs.{Plots.{cell_place}, Sides.{side_frame, side_lists}, declared.answers.Answer.{Answer}}
-use Rattle.gs_play.proofs.{PlotRows.{IsCellAt, cell_at}, Switched.{IsSwitched, switched_elsewhere, switched_has, switched_here, switched_plan}}
-use Rattle.gs_play.proofs.answers.turn.Goals.{After-index, After-pay_off}
+use Rattle.gs_play.specs.{Sides.{side_frame, side_lists}, declared.answers.Answer.{Answer}}
+use Rattle.gs_play.proofs.Switched.{IsSwitched, switched_elsewhere, switched_has, switched_here, switched_plan}
+use Rattle.gs_play.proofs.answers.turn.Goals.{After-pay_off}
 use Rattle.gs_play.proofs.answers.turn.Goals as goal
-
--- the cell of the class
-cell : (c : After-index) → IsCellAt (side_frame c.args.side.now) (side_lists c.args.side.now) c.args.point c.args.class c.index.result.now.cell
-cell c = cell_at c.args.side.now.form.now c.args.side.now.plot.now c.args.side.now.plotted c.args.point c.args.class c.requires.point c.requires.class
-    c.index.result.now c.index.ensures
-
-pub overflow_add-cell : goal.overflow_add-cell
-overflow_add-cell c = record { fits = omega (arith, (cell (goal.at.overflow_add-cell c).After-index).few) }
 
 pub index_mut-requires : goal.index_mut-requires
 index_mut-requires c =
-    let here = (goal.at.index_mut-requires c).After-index in
-    omega (
-      arith,
-      (cell here).inside,
-      (cell here).place,
-      ap (λ (v : Vec ℕ Global). vec_len v) c.pay_off.ensures.taken,
-      c.requires.answer.taken,
-      c.args.answer.now.taken.ok.0,
-    )
+    let same = ap (λ (v : Vec ℕ Global). vec_len v) c.pay_off.ensures.taken in
+    omega (arith, c.cell_of-cell.ensures.inside, same, c.requires.answer.taken, c.args.answer.now.taken.ok.0)
 
 pub index_mut-requires-2 : goal.index_mut-requires-2
 index_mut-requires-2 c =
-    let here = (goal.at.index_mut-requires-2 c).After-index in
-    omega (
-      arith,
-      (cell here).inside,
-      (cell here).place,
-      ap (λ (v : Vec ℕ Global). vec_len v) c.pay_off.ensures.since,
-      c.requires.answer.since,
-      c.args.answer.now.since.ok.0,
-    )
+    let same = ap (λ (v : Vec ℕ Global). vec_len v) c.pay_off.ensures.since in
+    omega (arith, c.cell_of-cell.ensures.inside, same, c.requires.answer.since, c.args.answer.now.since.ok.0)
 
 -- the answer behind the turn
 abbrev after : After-pay_off → Answer
 after c = record {
   weights = c.pay_off.new.answer.weights;
-  taken = with_item c.pay_off.new.answer.taken (c.index.result.now.cell + c.args.class - 1) c.args.new;
-  since = with_item c.pay_off.new.answer.since (c.index.result.now.cell + c.args.class - 1) c.args.now;
+  taken = with_item c.pay_off.new.answer.taken c.cell_of-cell.result c.args.new;
+  since = with_item c.pay_off.new.answer.since c.cell_of-cell.result c.args.now;
   turned = with_item c.pay_off.new.answer.turned c.args.point true;
 }
 
-switched : (c : After-pay_off) → c.index.result.now.cell + c.args.class - 1
-    ≡ cell_place (side_frame c.args.side.now) (side_lists c.args.side.now) c.args.point c.args.class
-    → IsSwitched (side_frame c.args.side.now) (side_lists c.args.side.now) c.args.side.now.player c.args.point c.args.class c.args.new c.args.now
-    c.args.answer.now (after c)
-switched c at = record {
+switched : (c : After-pay_off) → IsSwitched (side_frame c.args.side.now) (side_lists c.args.side.now) c.args.side.now.player c.args.point c.args.class
+    c.args.new c.args.now c.args.answer.now (after c)
+switched c = record {
   weights = c.pay_off.ensures.weights;
   long = c.pay_off.ensures.long;
-  taken = ap (λ (v : Vec ℕ Global). set v.items (c.index.result.now.cell + c.args.class - 1) c.args.new) c.pay_off.ensures.taken
-      ∙ ap (λ k. set c.args.answer.now.taken.items k c.args.new) at;
-  since = ap (λ (v : Vec ℕ Global). set v.items (c.index.result.now.cell + c.args.class - 1) c.args.now) c.pay_off.ensures.since
-      ∙ ap (λ k. set c.args.answer.now.since.items k c.args.now) at;
+  taken = ap (λ (v : Vec ℕ Global). set v.items c.cell_of-cell.result c.args.new) c.pay_off.ensures.taken
+      ∙ ap (λ k. set c.args.answer.now.taken.items k c.args.new) c.cell_of-cell.ensures.place;
+  since = ap (λ (v : Vec ℕ Global). set v.items c.cell_of-cell.result c.args.now) c.pay_off.ensures.since
+      ∙ ap (λ k. set c.args.answer.now.since.items k c.args.now) c.cell_of-cell.ensures.place;
   turned = ap (λ (v : Vec Bool Global). set v.items c.args.point true) c.pay_off.ensures.turned;
 }
 
@@ -74,7 +47,7 @@ returns c =
     let old = c.args.answer.now in
     let new = after g.After-pay_off in
     let q = c.requires in
-    let s = switched g.After-pay_off (cell g.After-index).place in
+    let s = switched g.After-pay_off in
     let turned = c.pay_off.new.answer.turned.items in
     let long = ap (λ (v : Vec Bool Global). length v.items) c.pay_off.ensures.turned ∙ q.answer.turned in
     record {

@@ -39,29 +39,29 @@ returns-clause-stays c =
     let at = (goal.at.returns-clause-stays c).After-value-2 in
     let a = c.args.ahead in
     let o = c.args.other in
-    stays_by c.args.before a.at a.slope o.at o.slope c.args.now c.behind-gap.result
-    (behind_same c.args.before _ (value_in a c.args.now) _ (value_in o c.args.now) _ a.slope _ o.slope c.behind-gap.result (value_is at) (worth_is at)
-    (slope_is at) (rise_is at) c.behind-gap.ensures.behind)
+    stays_by c.args.before a.at a.slope o.at o.slope c.args.now c.behind-turns.result
+    (behind_same c.args.before _ (value_in a c.args.now) _ (value_in o c.args.now) _ a.slope _ o.slope c.behind-turns.result (value_is at) (worth_is at)
+    (slope_is at) (rise_is at) c.behind-turns.ensures.behind)
 
 pub returns-clause-greatest : goal.returns-clause-greatest
 returns-clause-greatest c =
     let at = (goal.at.returns-clause-greatest c).After-value-2 in
     let a = c.args.ahead in
     let o = c.args.other in
-    let e : c.args.now + c.behind-gap.result + 1 ≡ c.args.now + (c.behind-gap.result + 1) = omega arith in
-    λ l h. c.behind-gap.ensures.greatest (omega (arith, l, c.requires.order))
-    (behind_same c.args.before (value_in a c.args.now) _ (value_in o c.args.now) _ a.slope _ o.slope _ (c.behind-gap.result + 1) (sym (value_is at))
+    let e : c.args.now + c.behind-turns.result + 1 ≡ c.args.now + (c.behind-turns.result + 1) = omega arith in
+    λ l h. c.behind-turns.ensures.greatest (omega (arith, l, c.requires.order))
+    (behind_same c.args.before (value_in a c.args.now) _ (value_in o c.args.now) _ a.slope _ o.slope _ (c.behind-turns.result + 1) (sym (value_is at))
     (sym (worth_is at)) (sym (slope_is at)) (sym (rise_is at))
-    (behind_by c.args.before a.at a.slope o.at o.slope c.args.now (c.behind-gap.result + 1)
+    (behind_by c.args.before a.at a.slope o.at o.slope c.args.now (c.behind-turns.result + 1)
     (λ n lo hi. h n lo (omega (arith, hi)))))
 
 pub returns-clause-some : goal.returns-clause-some
 returns-clause-some c = grind arith
 
-pub behind-gap-requires : goal.behind-gap-requires
-behind-gap-requires c = record {
+pub behind-turns-requires : goal.behind-turns-requires
+behind-turns-requires c = record {
   ahead = grind arith;
-  gap = let at = (goal.at.behind-gap-requires c).After-value-2 in
+  gap = let at = (goal.at.behind-turns-requires c).After-value-2 in
       subst (λ x. unsigned_abs (x -ℤ to_z w128 (of_z w128 c.value-2.result)) < 2 ^ 120) (sym (value_is at))
       (subst (λ x. unsigned_abs (value_in c.args.ahead c.args.now -ℤ x) < 2 ^ 120) (sym (worth_is at))
       (gap_small c.args.ahead c.args.other c.args.now (ahead_fits at) (other_fits at) (omega (arith, c.requires.order, c.requires.few))));

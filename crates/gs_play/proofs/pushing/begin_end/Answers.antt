@@ -1,10 +1,11 @@
 use Rattle.std.proofs.lemmas.Grind.{common_steps}
-use Rattle.std.proofs.{Common.{◌≡◌, ◌-◌, ◌<◌, ◌^◌, ℕ, get_or, of_z, to_z, to_z-of_z, refl, ap, ◌∙◌, sym, subst, arith}, lemmas.Int.{fits_signed_from_abs}}
+use Rattle.std.proofs.{Common.{◌≡◌, ◌-◌, ◌<◌, ◌^◌, ℕ, get_or, of_z, to_z, to_z-of_z, ap, ◌∙◌, sym, subst, arith}, lemmas.Int.{fits_signed_from_abs}}
 use Rattle.std.specs.{Prelude.{ℤ, pos, unsigned_abs}, Int.RustNames.{FitsSigned}}
 use mir.Syntax.{w128, w64}
 use Rattle.gs_model.specs.{Classes.{IsClass, class_count}, Frame.{round_of}, Positions.{at_end}}
 use Rattle.gs_play.specs.{Sides.{side_frame, side_lists}, Tallies.{IsTally, risen_at}}
-use Rattle.gs_play.proofs.{Pushed.{walked}, Risen.{adds_below, below_all, below_begun, below_more, risen_nowhere}, pushing.begin_end.Goals.{In-Some}}
+use Rattle.gs_play.proofs.{Pushed.{walked}, Risen.{adds_below, below_all, below_begun, below_more, risen_nowhere}, Tells.{choices_kept, choices_next}}
+use Rattle.gs_play.proofs.pushing.begin_end.Goals.{In-Some}
 use Rattle.gs_play.proofs.pushing.begin_end.Goals as goal
 
 -- a small number that is read fits
@@ -36,9 +37,7 @@ pub loop-class-init : goal.loop-class-init
 loop-class-init c =
     let side = c.args.side.now in
     record {
-      room = c.requires.room;
-      moved = refl;
-      picks = refl;
+      kept = choices_kept c.requires.room;
       begun = λ pays rise h.
           below_begun (side_frame side) (side_lists side) side.player (walked side) pays rise 0 c.args.end (λ k. get_or c.args.sums.now (k - 1) (pos 0))
           c.args.tally.now h;
@@ -65,9 +64,7 @@ loop-class-preserved c =
       ),
     ) in
     record {
-      room = c.turn_end.ensures.room;
-      moved = c.turn_end.ensures.moved ∙ c.loop-class.invariant.moved;
-      picks = c.turn_end.ensures.picks ∙ c.loop-class.invariant.picks;
+      kept = choices_next c.loop-class.invariant.kept c.turn_end.ensures.kept;
       begun = λ pays rise h. subst (λ r. IsTally (side_frame side) (side_lists side) side.player pays r 0 c.turn_end.new.tally)
           (below_more rise c.args.end more class _ (cast (more class) (c.requires.few class of_end)))
           (c.turn_end.ensures.turned c.args.end pays (risen_at rise c.args.end (adds_below more class)) c.requires.end c.in-Some.ensures.leads
@@ -94,14 +91,12 @@ overflow_cast-more-in-loop-class c =
 pub bounds-sums-class : goal.bounds-sums-class
 bounds-sums-class c = grind arith
 
-pub returns-in_default-clause-room : goal.returns-in_default-clause-room
-returns-in_default-clause-room c = c.requires.room
+pub returns-in_default-clause-kept : goal.returns-in_default-clause-kept
+returns-in_default-clause-kept c = choices_kept c.requires.room
 
 pub returns : goal.returns
 returns c = record {
-  room = c.loop-class.invariant.room;
-  moved = grind arith;
-  picks = grind arith;
+  kept = c.loop-class.invariant.kept;
   begun = let side = c.args.side.now in
       let all : class_count (side_lists side) (round_of (side_frame side) (at_end c.args.end)) < c.loop-class.class =
       omega (

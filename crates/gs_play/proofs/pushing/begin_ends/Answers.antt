@@ -1,16 +1,16 @@
-use Rattle.std.proofs.{Common.{◌≡◌, ◌-◌, ◌*◌, ◌^◌, ◌<◌, ℕ, [], get_or, refl, ap, sym, ◌∙◌, arith}, lemmas.Int.{ints}, lemmas.List.Sums.{sum_by-cons}}
+use Rattle.std.proofs.{Common.{◌≡◌, ◌-◌, ◌*◌, ◌^◌, ◌<◌, ℕ, [], get_or, ap, sym, ◌∙◌, arith}, lemmas.Int.{ints}, lemmas.List.Sums.{sum_by-cons}}
 use Rattle.std.specs.Prelude.{ℤ, pos, ◌+ℤ◌, unsigned_abs}
 use Rattle.gs_model.specs.{Frame.{end_count, other_player, round_of}, Plans.{IsClassPlan, Plan}, Positions.{at_end}}
 use Rattle.gs_model.proofs.Tables.{is_table}
 use Rattle.gs_seq.specs.{Payoffs.{end_sum}, Plans.{class_plan}}
 use Rattle.gs_seq.proofs.{EndTotals.{worth_few}, Forms.{given_in, one_or_two}, RowFacts.{class_weight, classes_weigh}}
-use Rattle.gs_play.specs.{Sides.{side_frame, side_lists}, declared.side.Side.{Side}}
-use Rattle.gs_play.proofs.{Pushed.{other_walked, walked}, Risen.{renewed_all, renewed_before, renewed_begun, renewed_more}}
+use Rattle.gs_play.specs.{Sides.{side_frame, side_lists}, declared.role.Role.{Role}}
+use Rattle.gs_play.proofs.{Pushed.{other_walked, walked}, Risen.{renewed_all, renewed_before, renewed_begun, renewed_more}, Tells.{choices_kept, choices_next}}
 use Rattle.gs_play.proofs.pushing.begin_ends.Goals.{In-loop-end}
 use Rattle.gs_play.proofs.pushing.begin_ends.Goals as goal
 
 -- what an end pays a class against a plan of total 1 is small
-few : (s : Side) (y : Plan) (z c : ℕ) → z < end_count (side_frame s) → IsClassPlan (side_frame s) (side_lists s) (other_player s.player) y → y.total ≡ 1
+few : (s : Role) (y : Plan) (z c : ℕ) → z < end_count (side_frame s) → IsClassPlan (side_frame s) (side_lists s) (other_player s.player) y → y.total ≡ 1
     → unsigned_abs (end_sum (side_frame s) (side_lists s) s.player y z c) < 2 ^ 63
 few s y z c l plan one =
     let f = side_frame s in
@@ -39,9 +39,7 @@ loop-end-init c =
     let side = c.args.side.now in
     let none : ℕ → ℕ → ℤ = λ z k. pos 0 in
     record {
-      room = c.requires.room;
-      moved = refl;
-      picks = refl;
+      kept = choices_kept c.requires.room;
       begun = renewed_begun (side_frame side) (side_lists side) side.player (walked side) none none
           (end_sum (side_frame side) (side_lists side) side.player (class_plan (side_frame side) (side_lists side) c.args.other.now)) 0 0 c.args.tally.now
           (λ z k lt lz lk. absurd (omega (arith, lt)));
@@ -69,9 +67,7 @@ loop-end-preserved c =
     let more : ℕ → ℤ = λ k. get_or c.end_sums.new.sums (k - 1) (pos 0) in
     let z = c.loop-end.end in
     record {
-      room = c.begin_end.ensures.room;
-      moved = c.begin_end.ensures.moved ∙ c.loop-end.invariant.moved;
-      picks = c.begin_end.ensures.picks ∙ c.loop-end.invariant.picks;
+      kept = choices_next c.loop-end.invariant.kept c.begin_end.ensures.kept;
       begun = λ h.
           renewed_more (side_frame side) (side_lists side) side.player (walked side) none none all 0 z c.begin_end.new.tally more
           (λ k lk.
@@ -93,8 +89,8 @@ returns-clause-begun c =
 pub end_sums-requires-clause-other : goal.end_sums-requires-clause-other
 end_sums-requires-clause-other c = c.requires.other
 
-pub returns-clause-room : goal.returns-clause-room
-returns-clause-room c = c.loop-end.invariant.room
+pub returns-clause-kept : goal.returns-clause-kept
+returns-clause-kept c = c.loop-end.invariant.kept
 
 pub begin_end-requires : goal.begin_end-requires
 begin_end-requires c = record {
@@ -117,7 +113,7 @@ begin_end-requires c = record {
         few side y c.loop-end.end k l c.requires.other.plan.plan c.requires.one,
         ap unsigned_abs (c.end_sums.ensures.here k lk),
       );
-  room = c.loop-end.invariant.room;
+  room = c.loop-end.invariant.kept.room;
 }
 
 pub end_sums-requires-clause-end : goal.end_sums-requires-clause-end

@@ -1,7 +1,7 @@
-use Rattle.std.proofs.Common.{◌≡◌, ℕ}
+use Rattle.std.proofs.Common.{ℕ}
 use Rattle.std.specs.Prelude.{ℤ, pos}
 use Rattle.gs_seq.specs.{Payoffs.{end_sum}, Plans.{class_plan}}
-use Rattle.gs_play.specs.{Sides.{side_frame, side_lists}, Tallies.{HasTallyRoom, IsTally}}
+use Rattle.gs_play.specs.{Sides.{side_frame, side_lists}, Tallies.{IsTally, KeepsChoices}}
 use Rattle.gs_play.proofs.Risen.{renewed_before}
 use Rattle.gs_play.proofs.pushing.begin_ends.Given as goal
 
@@ -12,9 +12,7 @@ invariant-loop-end l =
     let player = l.side.player in
     let none : ℕ → ℕ → ℤ = λ z c. pos 0 in
     record {
-      room : HasTallyRoom f lists l.tally;
-      moved : l.tally.moved ≡ l.initial.tally.moved;
-      picks : l.tally.picks ≡ l.initial.tally.picks;
+      kept : KeepsChoices f lists l.initial.tally l.tally;
       begun : IsTally f lists player none none 0 l.initial.tally
           → IsTally f lists player none (renewed_before none (end_sum f lists player (class_plan f lists l.other)) l.end) 0 l.tally;
     }

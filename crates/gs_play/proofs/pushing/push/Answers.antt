@@ -6,7 +6,7 @@ use Rattle.gs_game.specs.contracts.positions.StepPartialEq.TheImpl as eqs
 use Rattle.gs_model.specs.{Frame.{end_count, last_step, other_player}, Positions.{Step, at_end}}
 use Rattle.gs_seq.specs.Games.{frame_in}
 use Rattle.gs_play.specs.{Plots.{span_in}, Pushes.{with_sign}, Sides.{side_frame, side_lists}, Tables.{raise_sum}, declared.plot.Span.{Span}}
-use Rattle.gs_play.proofs.{Pushed.{walked}, Risen.{renewed_all, renewed_before, renewed_begun, renewed_kept, renewed_more}}
+use Rattle.gs_play.proofs.{Pushed.{walked}, Risen.{renewed_all, renewed_before, renewed_begun, renewed_kept, renewed_more}, Tells.{choices_kept, choices_next}}
 use Rattle.gs_play.proofs.pushing.push.Goals.{After-end_step, After-index-span}
 use Rattle.gs_play.proofs.pushing.push.Goals as goal
 
@@ -80,9 +80,7 @@ loop-end-init c =
     let side = c.args.side.now in
     let at = (goal.at.loop-end-init c).After-index-span in
     record {
-      room = c.requires.room;
-      moved = refl;
-      picks = refl;
+      kept = choices_kept c.requires.room;
       pushed = λ pays rise rise' p h.
           renewed_begun (side_frame side) (side_lists side) side.player (walked side) pays rise rise' c.args.now c.index-span.result.now.first c.args.tally.now
           (λ z k lt lz lk. p.elsewhere z k lz (λ is. (let i = inside at z lz is in omega (arith, i.0, lt))) lk) h;
@@ -97,9 +95,7 @@ loop-end-preserved c =
     let lz : z < end_count (side_frame side) = omega (arith, c.loop-end-test.true, few at.After-index-span) in
     let is = chosen at.After-end_step (sym c.ne.ensures ∙ c.if-ne.false) in
     record {
-      room = c.push_end.ensures.room;
-      moved = c.push_end.ensures.moved ∙ c.loop-end.invariant.moved;
-      picks = c.push_end.ensures.picks ∙ c.loop-end.invariant.picks;
+      kept = choices_next c.loop-end.invariant.kept c.push_end.ensures.kept;
       pushed = λ pays rise rise' p h.
           renewed_more (side_frame side) (side_lists side) side.player (walked side) pays rise rise' c.args.now z c.push_end.new.tally
           (λ k. with_sign change.is_on (raise_sum (side_frame side) (side_lists side) side.player z (step_of change.step) change.class k))
@@ -114,9 +110,7 @@ loop-end-preserved-then-ne c =
     let z = c.loop-end.end in
     let lz : z < end_count (side_frame side) = omega (arith, c.loop-end-test.true, few at.After-index-span) in
     record {
-      room = c.loop-end.invariant.room;
-      moved = c.loop-end.invariant.moved;
-      picks = c.loop-end.invariant.picks;
+      kept = c.loop-end.invariant.kept;
       pushed = λ pays rise rise' p h.
           renewed_kept (side_frame side) (side_lists side) side.player (walked side) pays rise rise' c.args.now z c.loop-end.tally
           (λ k lk. p.elsewhere z k lz (λ is. other c.end_step.result c.args.change.step (sym c.ne.ensures ∙ c.if-ne.true) (last at.After-end_step ∙ is)) lk)
@@ -131,7 +125,7 @@ push_end-requires-clause-past c =
     (chosen at.After-end_step (sym c.ne.ensures ∙ c.if-ne.false))
 
 pub push_end-requires-clause-room : goal.push_end-requires-clause-room
-push_end-requires-clause-room c = grind arith
+push_end-requires-clause-room c = c.loop-end.invariant.kept.room
 
 pub end_step-requires : goal.end_step-requires
 end_step-requires c =
@@ -149,9 +143,7 @@ index-span-requires c = grind arith
 
 pub returns : goal.returns
 returns c = record {
-  room = grind arith;
-  moved = grind arith;
-  picks = grind arith;
+  kept = c.loop-end.invariant.kept;
   pushed = let side = c.args.side.now in
       let at = (goal.at.returns c).After-index-span in
       λ pays rise rise' p h.

@@ -1,16 +1,17 @@
 use Rattle.std.proofs.lemmas.Grind.{common_steps}
-use Rattle.std.proofs.Common.{◌≡◌, ℕ, refl, ap, sym, ◌∙◌, subst, arith}
+use Rattle.std.proofs.Common.{◌≡◌, ℕ, ap, sym, ◌∙◌, subst, arith}
 use Rattle.std.specs.Prelude.{ℤ}
 use Rattle.gs_model.specs.{Frame.{payoff_to, round_of}, Pairs.{pair_sum}, Positions.{at_end, at_point}}
 use Rattle.gs_best.specs.Runs.{IsClassRun}
 use Rattle.gs_best.proofs.Gathered.{gathered_run}
 use Rattle.gs_game.specs.Seen.{step_of}
-use Rattle.gs_play.specs.{Pushes.{with_sign}, Sides.{side_frame, side_lists}, Tables.{raise_sum}, Tallies.{IsTally, risen_at}, declared.side.Side.{Side}}
-use Rattle.gs_play.proofs.{Pushed.{walked}, Risen.{risen_nowhere, risen_same, run_adds, run_begun, run_more}, pushing.push_end.Goals.{After-classes_below-run}}
+use Rattle.gs_play.specs.{Pushes.{with_sign}, Sides.{side_frame, side_lists}, Tables.{raise_sum}, Tallies.{IsTally, risen_at}, declared.role.Role.{Role}}
+use Rattle.gs_play.proofs.{Pushed.{walked}, Risen.{risen_nowhere, risen_same, run_adds, run_begun, run_more}, Tells.{choices_kept, choices_next}}
+use Rattle.gs_play.proofs.pushing.push_end.Goals.{After-classes_below-run}
 use Rattle.gs_play.proofs.pushing.push_end.Goals as goal
 
 -- what an end pays a class of the player in the deals with a class of the other's
-abbrev paid : Side → ℕ → ℕ → ℕ → ℤ
+abbrev paid : Role → ℕ → ℕ → ℕ → ℤ
 paid s z c k = pair_sum (side_frame s) (side_lists s) (side_lists s) (round_of (side_frame s) (at_end z)) (payoff_to (side_frame s) s.player z) c k
 
 -- the classes of the end's round below the class of the move
@@ -32,9 +33,7 @@ pub loop-class-init : goal.loop-class-init
 loop-class-init c =
     let side = c.args.side.now in
     record {
-      room = c.requires.room;
-      moved = refl;
-      picks = refl;
+      kept = choices_kept c.requires.room;
       pushed = λ pays rise h. subst (λ r. IsTally (side_frame side) (side_lists side) side.player pays r c.args.now c.args.tally.now)
           (sym (run_begun rise c.args.end c.args.change.is_on (paid side c.args.end) c.classes_below-run.result.first)) h;
     }
@@ -46,9 +45,7 @@ loop-class-preserved c =
     let first = c.classes_below-run.result.first in
     let class = c.loop-class.class in
     record {
-      room = c.push_row.ensures.room;
-      moved = c.push_row.ensures.moved ∙ c.loop-class.invariant.moved;
-      picks = c.push_row.ensures.picks ∙ c.loop-class.invariant.picks;
+      kept = choices_next c.loop-class.invariant.kept c.push_row.ensures.kept;
       pushed = λ pays rise h. subst (λ r. IsTally (side_frame side) (side_lists side) side.player pays r c.args.now c.push_row.new.tally)
           (run_more rise c.args.end on (paid side c.args.end) first class c.loop-class.auto.class)
           (c.push_row.ensures.pushed pays (risen_at rise c.args.end (run_adds on (paid side c.args.end) first class))
@@ -73,14 +70,12 @@ classes_below-run-requires-clause-top c =
 pub push_row-requires : goal.push_row-requires
 push_row-requires c = grind (arith, common_steps)
 
-pub returns-in_default-clause-room : goal.returns-in_default-clause-room
-returns-in_default-clause-room c = c.requires.room
+pub returns-in_default-clause-kept : goal.returns-in_default-clause-kept
+returns-in_default-clause-kept c = choices_kept c.requires.room
 
 pub returns : goal.returns
 returns c = record {
-  room = grind arith;
-  moved = c.loop-class.invariant.moved;
-  picks = c.loop-class.invariant.picks;
+  kept = c.loop-class.invariant.kept;
   pushed = let side = c.args.side.now in
       let f = side_frame side in
       let lists = side_lists side in

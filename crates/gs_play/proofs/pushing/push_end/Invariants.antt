@@ -1,7 +1,7 @@
-use Rattle.std.proofs.Common.{◌≡◌, ℕ}
+use Rattle.std.proofs.Common.{ℕ}
 use Rattle.std.specs.Prelude.{ℤ}
 use Rattle.gs_model.specs.{Frame.{payoff_to, round_of}, Pairs.{pair_sum}, Positions.{at_end}}
-use Rattle.gs_play.specs.{Sides.{side_frame, side_lists}, Tallies.{HasTallyRoom, IsTally, risen_at}}
+use Rattle.gs_play.specs.{Sides.{side_frame, side_lists}, Tallies.{HasRisen, KeepsChoices}}
 use Rattle.gs_play.proofs.Risen.{run_adds}
 use Rattle.gs_play.proofs.pushing.push_end.Given as goal
 
@@ -12,9 +12,6 @@ invariant-loop-class l =
     let player = l.side.player in
     let paid : ℕ → ℕ → ℤ = λ c k. pair_sum f lists lists (round_of f (at_end l.end)) (payoff_to f player l.end) c k in
     record {
-      room : HasTallyRoom f lists l.tally;
-      moved : l.tally.moved ≡ l.initial.tally.moved;
-      picks : l.tally.picks ≡ l.initial.tally.picks;
-      pushed : (pays rise : ℕ → ℕ → ℤ) → IsTally f lists player pays rise l.now l.initial.tally
-          → IsTally f lists player pays (risen_at rise l.end (run_adds l.change.is_on paid l.initial.class l.class)) l.now l.tally;
+      kept : KeepsChoices f lists l.initial.tally l.tally;
+      pushed : HasRisen f lists player l.end (run_adds l.change.is_on paid l.initial.class l.class) l.now l.initial.tally l.tally;
     }

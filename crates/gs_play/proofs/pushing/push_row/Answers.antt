@@ -1,12 +1,12 @@
 use Rattle.std.proofs.lemmas.Grind.{common_steps}
-use Rattle.std.proofs.Common.{List, refl, ap, sym, ◌∙◌, subst, of_z, to_z, to_z-of_z, arith}
+use Rattle.std.proofs.Common.{List, ap, sym, ◌∙◌, subst, of_z, to_z, to_z-of_z, arith}
 use Rattle.std.specs.Prelude.{neg_ℤ}
 use mir.Syntax.{w64}
 use Rattle.gs_model.specs.{Classes.{IsClass}, Frame.{other_player, round_of}}
 use Rattle.gs_seq.specs.{Payoffs.{pair_pays}, Rows.{IsRow}, declared.pair.Pair.{Pair}}
 use Rattle.gs_seq.proofs.Turns.{IsKnown}
 use Rattle.gs_play.specs.{Pushes.{with_sign}, Sides.{side_frame, side_lists}}
-use Rattle.gs_play.proofs.{Pushed.{pair_known, row_begun, row_ended, row_further}, pushing.push_row.Goals.{In-Some}}
+use Rattle.gs_play.proofs.{Pushed.{pair_known, row_begun, row_ended, row_further}, Tells.{choices_kept, choices_next}, pushing.push_row.Goals.{In-Some}}
 use Rattle.gs_play.proofs.pushing.push_row.Goals as goal
 
 -- what is known of the pair
@@ -21,9 +21,7 @@ loop-pair-init c =
     let row : List Pair = c.pairs-pair-items.result in
     let is_row = subst (λ r. IsRow (side_frame side) (side_lists side) r c.args.class row) c.end_in-at.ensures.round c.pairs-pair-items.ensures in
     record {
-      room = c.requires.room;
-      moved = refl;
-      picks = refl;
+      kept = choices_kept c.requires.room;
       walk = row_begun side c.args.end c.args.class c.requires.end c.args.is_on c.args.now row c.into_iter-pair-iterator.result c.args.tally.now is_row
           c.into_iter-pair-iterator.ensures.into_iter_gives;
     }
@@ -35,9 +33,7 @@ pub loop-pair-preserved : goal.loop-pair-preserved
 loop-pair-preserved c =
     let side = c.args.side.now in
     record {
-      room = c.turn_end.ensures.room;
-      moved = c.turn_end.ensures.moved ∙ c.loop-pair.invariant.moved;
-      picks = c.turn_end.ensures.picks ∙ c.loop-pair.invariant.picks;
+      kept = choices_next c.loop-pair.invariant.kept c.turn_end.ensures.kept;
       walk = row_further side c.args.end c.args.class c.requires.end c.args.is_on c.args.now c.loop-pair.pair-iterator c.next.new.self c.in-Some.pair
           c.args.tally.now c.loop-pair.tally c.loop-pair.invariant.walk c.in-Some.ensures.steps (to_z w64 (of_z w64 c.pays.result)) c.turn_end.new.tally
           (to_z-of_z {w = w64} (record { sfits = c.pays.type_inv }) ∙ c.pays.ensures ∙ c.stake_of-stake.ensures.pays c.in-Some.pair
@@ -47,9 +43,7 @@ loop-pair-preserved c =
 
 pub returns : goal.returns
 returns c = record {
-  room = grind arith;
-  moved = c.loop-pair.invariant.moved;
-  picks = c.loop-pair.invariant.picks;
+  kept = c.loop-pair.invariant.kept;
   pushed = row_ended c.args.side.now c.args.end c.args.class c.requires.end c.args.is_on c.args.now c.loop-pair.pair-iterator c.args.tally.now c.loop-pair.tally
       c.loop-pair.invariant.walk c.in-None.ensures.steps.0;
 }
@@ -61,7 +55,7 @@ turn_end-requires c = record {
       let to = c.requires.way in
       subst (λ r. IsClass (side_lists side) r c.in-Some.pair.two) (ap (round_of (side_frame side)) (sym to.leads) ∙ sym to.way.round)
       (pair (goal.at.turn_end-requires c).In-Some).class;
-  room = grind arith;
+  room = c.loop-pair.invariant.kept.room;
 }
 
 pub pairs-pair-items-requires : goal.pairs-pair-items-requires

@@ -1,30 +1,27 @@
-use Rattle.std.proofs.Common.{◌≡◌, ap, sym, ◌∙◌, subst, of_z, to_z, to_z-of_z, arith}
+use Rattle.std.proofs.Common.{◌≡◌, ap, sym, ◌∙◌, subst, of_z, to_z, to_z-of_z}
 use Rattle.std.specs.Prelude.{pos, ◌-ℤ◌, ◌*ℤ◌}
 use mir.Syntax.{w64}
 use Rattle.gs_model.specs.{Classes.{IsClass}, Frame.{round_of}, Positions.{at_end}}
 use Rattle.gs_play.specs.{Lines.{wrapped}, Sides.{side_frame, side_lists}, Tallies.{IsTally, risen}}
-use Rattle.gs_play.proofs.{Pushed.{walked}, Turned.{risen_none, turned_fed}}
+use Rattle.gs_play.proofs.{Pushed.{walked}, Tells.{choices_kept}, Turned.{risen_none, turned_fed}}
 use Rattle.gs_play.proofs.pushing.turn_end.Goals as goal
 
-pub returns-then-more-eq0-clause-turned : goal.returns-then-more-eq0-clause-turned
-returns-then-more-eq0-clause-turned c =
-    let side = c.args.side.now in
-    let none : c.args.more ≡ pos 0 = sym (to_z-of_z c.ranges.more) ∙ ap (to_z w64) c.if-more-eq0.true in
-    λ z pays rise lz leads h.
-    subst (λ r. IsTally (side_frame side) (side_lists side) side.player pays r c.args.now c.args.tally.now)
-    (sym (ap (risen rise z c.args.class) none ∙ risen_none rise z c.args.class)) h
+pub returns-then-more-eq0 : goal.returns-then-more-eq0
+returns-then-more-eq0 c = record {
+  kept = choices_kept c.requires.room;
+  turned = let side = c.args.side.now in
+      let none : c.args.more ≡ pos 0 = sym (to_z-of_z c.ranges.more) ∙ ap (to_z w64) c.if-more-eq0.true in
+      λ z pays rise lz leads h.
+      subst (λ r. IsTally (side_frame side) (side_lists side) side.player pays r c.args.now c.args.tally.now)
+      (sym (ap (risen rise z c.args.class) none ∙ risen_none rise z c.args.class)) h;
+}
 
 pub feed-requires-clause-room : goal.feed-requires-clause-room
 feed-requires-clause-room c = c.requires.room
 
-pub returns-then-more-eq0-clause-room : goal.returns-then-more-eq0-clause-room
-returns-then-more-eq0-clause-room c = c.requires.room
-
 pub returns : goal.returns
 returns c = record {
-  room = grind arith;
-  moved = grind arith;
-  picks = grind arith;
+  kept = c.feed.ensures.kept;
   turned = let side = c.args.side.now in
       let f = side_frame side in
       let way = c.requires.way in

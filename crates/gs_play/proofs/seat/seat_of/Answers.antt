@@ -8,7 +8,7 @@ pub returns : goal.returns
 returns c =
     let side = c.args.side.now in
     at_start side.form.now side.player side.some side.two c.in_ok-answer.answer c.in_ok-answer.ensures.right c.in_ok-answer.ensures.answer
-    c.in_ok-tally.tally c.begin.new.tally c.in_ok-tally.ensures.clear c.in_ok-begin.ensures.room c.in_ok-begin.ensures.picks c.in_ok-begin.ensures.moved
+    c.in_ok-tally.tally c.begin.new.tally c.in_ok-tally.ensures.clear c.in_ok-begin.ensures.kept
     (class_plan (side_frame side) (side_lists side) c.in_ok-other.other) c.in_ok-other.ensures.first c.in_ok-begin.ensures.begun
 
 pub begin-requires : goal.begin-requires

@@ -67,18 +67,22 @@ set_due-requires c = record {
 
 pub returns : goal.returns
 returns c = record {
-  room = let t = c.args.tally.now in
+  kept = let t = c.args.tally.now in
       let w = c.args.way.row in
       let room = c.requires.room in
       let due = c.set_due.ensures in
       record {
-        worths = length-set t.worths.items (w.worth + ((c.class_above.result - 1) * w.moves + c.from.result)) c.sum.result ∙ room.worths;
-        totals = room.totals;
-        picks = room.picks;
-        turns = ap (λ (l : List ℕ). length l) due.turns ∙ length-set t.dues.turns.items (w.cell + (c.class_above.result - 1)) 0 ∙ room.turns;
-        dues = due.dues;
-        blocks = due.blocks ∙ room.blocks;
-        moved = room.moved;
+        moved = refl;
+        picks = refl;
+        room = record {
+          worths = length-set t.worths.items (w.worth + ((c.class_above.result - 1) * w.moves + c.from.result)) c.sum.result ∙ room.worths;
+          totals = room.totals;
+          picks = room.picks;
+          turns = ap (λ (l : List ℕ). length l) due.turns ∙ length-set t.dues.turns.items (w.cell + (c.class_above.result - 1)) 0 ∙ room.turns;
+          dues = due.dues;
+          blocks = due.blocks ∙ room.blocks;
+          moved = room.moved;
+        };
       };
   class = grind arith;
   fed = let f = abstract_frame c.args.form.now in
@@ -104,5 +108,4 @@ returns c = record {
         totals = refl;
         picks = refl;
       };
-  moved = grind arith;
 }

@@ -3,25 +3,18 @@ use Rattle.std.specs.Prelude.{slice_index}
 use Rattle.gs_model.specs.Frame.{point_count}
 use Rattle.gs_seq.proofs.Forms.{form_moves}
 use Rattle.gs_best.specs.Tables.{start_of}
-use Rattle.gs_play.specs.{Plots.{IsCellOf}, Sides.{side_frame, side_lists}, Tallies.{IsPicked}}
+use Rattle.gs_play.specs.{Sides.{side_frame, side_lists}, Tallies.{IsPicked}}
 use Rattle.gs_play.proofs.{PlotLaws.{worths_few}, PlotRows.{cell_within, class_here, class_in, place_here, worths_within}, Tells.{tells_picked, tells_same}}
 use Rattle.gs_play.proofs.{Rooms.{room_added, room_chosen}, sweeping.find.Goals.{Start}}
 use Rattle.gs_play.proofs.sweeping.find.Goals as goal
 
-cell_is : (c : Start) → IsCellOf (side_frame c.args.side.now) (side_lists c.args.side.now) c.args.row.point c.args.cell
-cell_is c = record {
-  inside = c.requires.row.inside;
-  from = omega (arith, c.requires.from, c.requires.row.cell);
-  below = omega (arith, c.requires.below, c.requires.row.cell);
-}
-
 in_room : (c : Start) → c.args.cell < start_of (side_frame c.args.side.now) (side_lists c.args.side.now) (point_count (side_frame c.args.side.now))
-in_room c = cell_within (side_frame c.args.side.now) (side_lists c.args.side.now) c.args.row c.requires.row c.args.cell (cell_is c)
+in_room c = cell_within (side_frame c.args.side.now) (side_lists c.args.side.now) c.args.row c.requires.row c.args.cell c.requires.cell
 
 worths_in : (c : Start) → c.args.row.worth + (c.args.cell - c.args.row.cell) * c.args.row.moves + c.args.row.moves ≤ length c.args.tally.now.worths.items
 worths_in c = omega (
   arith,
-  worths_within (side_frame c.args.side.now) (side_lists c.args.side.now) c.args.row c.requires.row c.args.cell (cell_is c),
+  worths_within (side_frame c.args.side.now) (side_lists c.args.side.now) c.args.row c.requires.row c.args.cell c.requires.cell,
   c.requires.room.worths,
 )
 
@@ -30,7 +23,7 @@ small c =
     let a = c.args.side.now.form.now in
     omega (
       arith,
-      worths_within (side_frame c.args.side.now) (side_lists c.args.side.now) c.args.row c.requires.row c.args.cell (cell_is c),
+      worths_within (side_frame c.args.side.now) (side_lists c.args.side.now) c.args.row c.requires.row c.args.cell c.requires.cell,
       worths_few a (point_count (side_frame c.args.side.now)) (omega arith),
     )
 
@@ -61,13 +54,13 @@ choose-requires-clause-few c = omega (arith, (form_moves c.args.side.now.form.no
 pub returns-then-row-side : goal.returns-then-row-side
 returns-then-row-side c = record {
   room = let s = c.args.side.now in
-      room_chosen (side_frame s) (side_lists s) _ c.args.row.point c.args.cell c.args.now c.args.last c.args.tally.now c.choose.new.tally c.requires.room
-      c.choose.ensures.worths c.choose.ensures.dues c.choose.ensures.blocks c.choose.ensures.found;
+      room_chosen (side_frame s) (side_lists s) _ c.args.row.point c.args.cell c.args.clock.turn c.args.clock.last c.args.tally.now c.choose.new.tally
+      c.requires.room c.choose.ensures.worths c.choose.ensures.dues c.choose.ensures.blocks c.choose.ensures.found;
   found = grind arith;
   tells = let f = side_frame c.args.side.now in
       let lists = side_lists c.args.side.now in
       let row = c.requires.row in
-      let is = cell_is (goal.at.returns-then-row-side c).Start in
+      let is = c.requires.cell in
       let picked = c.choose.ensures.found.picked in
       let new = c.choose.new.tally in
       tells_picked f lists c.args.row.point (class_here f lists c.args.row row c.args.cell) _ c.args.tally.now new
@@ -79,7 +72,7 @@ returns-then-row-side c = record {
 pub returns-else-row-side : goal.returns-else-row-side
 returns-else-row-side c = record {
   room = let s = c.args.side.now in
-      room_added (side_frame s) (side_lists s) _ c.args.cell c.args.last c.args.tally.now c.add_up.new.tally c.requires.room
+      room_added (side_frame s) (side_lists s) _ c.args.cell c.args.clock.last c.args.tally.now c.add_up.new.tally c.requires.room
       c.add_up.ensures.worths c.add_up.ensures.dues c.add_up.ensures.blocks c.add_up.ensures.moved c.add_up.ensures.found;
   found = grind arith;
   tells = tells_same (side_frame c.args.side.now) (side_lists c.args.side.now) c.args.tally.now c.add_up.new.tally

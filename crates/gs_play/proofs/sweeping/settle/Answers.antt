@@ -5,24 +5,17 @@ use Rattle.gs_model.specs.{Classes.{IsClass}, Frame.{point_count, round_of}, Fra
 use Rattle.gs_seq.proofs.Forms.{form_walked}
 use Rattle.gs_best.proofs.PointStarts.{starts_few}
 use Rattle.gs_best.specs.Tables.{start_of}
-use Rattle.gs_play.specs.{Lines.{flat, line_at, wrapped}, Plots.{HasNoWay, IsCellOf, LeadsTo}, Sides.{side_frame, side_lists}, Tallies.{at_part, slope_part}}
-use Rattle.gs_play.specs.{declared.line.Line.{Line}, declared.side.Side.{Side}}
+use Rattle.gs_play.specs.{Lines.{flat, line_at, wrapped}, Plots.{HasNoWay, LeadsTo}, Sides.{side_frame, side_lists}, Tallies.{at_part, slope_part}}
+use Rattle.gs_play.specs.{declared.line.Line.{Line}, declared.role.Role.{Role}}
 use Rattle.gs_play.proofs.{PlotRows.{cell_within, class_in}, Settle.{fed_behind, fed_kept, fed_later, found_behind, found_later, nowhere_kept, same_kept}}
 use Rattle.gs_play.proofs.{Tells.{tells_next, tells_same}, Wrapped.{wrapped_twice}, sweeping.settle.Goals.{After-index-2, In-Some, Start}}
 use Rattle.gs_play.proofs.sweeping.settle.Goals as goal
 
-walked : (s : Side) → IsWalked (side_frame s) s.player
+walked : (s : Role) → IsWalked (side_frame s) s.player
 walked s = form_walked s.form.now s.player s.some s.two
 
-has : (c : Start) → IsCellOf (side_frame c.args.side.now) (side_lists c.args.side.now) c.args.row.point c.args.cell
-has c = record {
-  inside = c.requires.row.inside;
-  from = omega (arith, c.requires.from, c.requires.row.cell);
-  below = omega (arith, c.requires.below, c.requires.row.cell);
-}
-
 in_room : (c : Start) → c.args.cell < start_of (side_frame c.args.side.now) (side_lists c.args.side.now) (point_count (side_frame c.args.side.now))
-in_room c = cell_within (side_frame c.args.side.now) (side_lists c.args.side.now) c.args.row c.requires.row c.args.cell (has c)
+in_room c = cell_within (side_frame c.args.side.now) (side_lists c.args.side.now) c.args.row c.requires.row c.args.cell c.requires.cell
 
 pub index-requires : goal.index-requires
 index-requires c = omega (arith, in_room (goal.at.index-requires c).Start, c.requires.room.totals, c.args.tally.now.totals.ok.0)
@@ -61,31 +54,25 @@ to c =
 
 pub returns-in-Some : goal.returns-in-Some
 returns-in-Some c = record {
-  room = c.feed.ensures.room;
-  later = let s = c.args.side.now in
-      let at = goal.at.returns-in-Some c in
-      fed_later (side_frame s) (side_lists s) s.player (walked s) c.args.now c.args.last c.requires.order c.requires.turns c.args.cell c.args.row
-      c.requires.row (has at.Start) c.args.tally.now c.find.new.tally c.requires.room c.find.ensures.found c.in-Some.way (to at.In-Some)
-      c.feed.ensures.class c.above.result c.feed.new.tally c.feed.ensures.fed;
-  behind = let s = c.args.side.now in
-      let at = goal.at.returns-in-Some c in
-      fed_behind (side_frame s) (side_lists s) s.player (walked s) c.args.now c.args.last c.requires.order c.requires.turns c.args.cell c.args.row
-      c.requires.row (has at.Start) c.args.tally.now c.find.new.tally c.requires.room c.find.ensures.found c.in-Some.way (to at.In-Some)
-      c.feed.ensures.class c.above.result c.feed.new.tally c.feed.ensures.fed;
+  room = c.feed.ensures.kept.room;
+  later =
+      fed_later (walked c.args.side.now) c.args.clock.order c.args.clock.few c.requires.row c.requires.cell c.requires.room c.find.ensures.found
+      (to (goal.at.returns-in-Some c).In-Some) c.feed.ensures.class c.feed.ensures.fed;
+  behind =
+      fed_behind (walked c.args.side.now) c.args.clock.order c.args.clock.few c.requires.row c.requires.cell c.requires.room c.find.ensures.found
+      (to (goal.at.returns-in-Some c).In-Some) c.feed.ensures.class c.feed.ensures.fed;
   tells = let s = c.args.side.now in
       tells_next (side_frame s) (side_lists s) c.args.tally.now c.find.new.tally c.feed.new.tally c.find.ensures.tells
-      (tells_same (side_frame s) (side_lists s) c.find.new.tally c.feed.new.tally c.feed.ensures.fed.picks c.feed.ensures.moved);
-  kept = let s = c.args.side.now in
-      let at = goal.at.returns-in-Some c in
+      (tells_same (side_frame s) (side_lists s) c.find.new.tally c.feed.new.tally c.feed.ensures.kept.picks c.feed.ensures.kept.moved);
+  kept = let at = goal.at.returns-in-Some c in
       let within = in_room at.Start in
       let xs = c.args.tally.now.totals.items in
       let ys = c.find.new.tally.totals.items in
       let less : (part : Line → ℤ) → part c.index-2.result.now -ℤ part c.index.result.now ≡ part (line_at ys c.args.cell) -ℤ part (line_at xs c.args.cell) =
       λ part. ap (λ (l : Line). part l -ℤ part c.index.result.now) (new_is at.After-index-2 (omega (arith, within, c.find.ensures.room.totals)))
       ∙ ap (λ (l : Line). part (line_at ys c.args.cell) -ℤ part l) (old_is at.After-index-2 (omega (arith, within, c.requires.room.totals))) in
-      fed_kept (side_frame s) (side_lists s) s.player (walked s) c.args.now c.args.last c.requires.order c.requires.turns c.args.cell c.args.row
-      c.requires.row (has at.Start) c.args.tally.now c.find.new.tally c.requires.room c.find.ensures.found c.in-Some.way (to at.In-Some)
-      c.feed.ensures.class c.above.result c.feed.new.tally c.feed.ensures.fed
+      fed_kept (walked c.args.side.now) c.args.clock.order c.args.clock.few c.requires.row c.requires.cell c.requires.room c.find.ensures.found
+      (to (goal.at.returns-in-Some c).In-Some) c.feed.ensures.class c.feed.ensures.fed
       (ap wrapped (c.above.ensures.at ∙ ap wrapped (less at_part)) ∙ wrapped_twice _)
       (ap wrapped (c.above.ensures.slope ∙ ap wrapped (less slope_part)) ∙ wrapped_twice _);
 }
@@ -97,49 +84,37 @@ feed-requires c = record {
       let s = c.args.side.now in
       let by = to at.In-Some in
       subst (λ i. IsClass (side_lists s) i (c.args.cell - c.args.row.cell + 1)) (sym (by.way.round ∙ ap (round_of (side_frame s)) by.leads))
-      (class_in (side_frame s) (side_lists s) c.args.row c.requires.row c.args.cell (has at.Start));
+      (class_in (side_frame s) (side_lists s) c.args.row c.requires.row c.args.cell c.requires.cell);
   room = c.find.ensures.room;
 }
 
 pub returns-then-eq : goal.returns-then-eq
 returns-then-eq c = record {
   room = c.find.ensures.room;
-  later = let s = c.args.side.now in
-      found_later (side_frame s) (side_lists s) s.player (walked s) c.args.now c.args.last c.requires.order c.requires.turns c.args.cell
-      c.args.row c.requires.row (has (goal.at.returns-then-eq c).Start) c.args.tally.now c.find.new.tally c.requires.room c.find.ensures.found;
-  behind = let s = c.args.side.now in
-      found_behind (side_frame s) (side_lists s) s.player (walked s) c.args.now c.args.last c.requires.order c.requires.turns c.args.cell
-      c.args.row c.requires.row (has (goal.at.returns-then-eq c).Start) c.args.tally.now c.find.new.tally c.requires.room c.find.ensures.found;
+  later = found_later (walked c.args.side.now) c.args.clock.order c.args.clock.few c.requires.row c.requires.cell c.requires.room c.find.ensures.found;
+  behind = found_behind (walked c.args.side.now) c.args.clock.order c.args.clock.few c.requires.row c.requires.cell c.requires.room c.find.ensures.found;
   tells = c.find.ensures.tells;
-  kept = let s = c.args.side.now in
-      let at = (goal.at.returns-then-eq c).Start in
+  kept = let at = (goal.at.returns-then-eq c).Start in
       let read = (goal.at.returns-then-eq c).After-index-2 in
       let new = c.index-2.result.now in
       let old = c.index.result.now in
       let within = in_room at in
       let both = and_parts (int_eq new.at old.at) (int_eq new.slope old.slope) (sym c.eq.ensures ∙ c.if-eq.true) in
       let same : new ≡ old = same_line new old ((Decides-int_eq new.at old.at).0 both.0) ((Decides-int_eq new.slope old.slope).0 both.1) in
-      same_kept (side_frame s) (side_lists s) s.player (walked s) c.args.now c.args.last c.requires.order c.requires.turns c.args.cell
-      c.args.row c.requires.row (has at) c.args.tally.now c.find.new.tally c.requires.room c.find.ensures.found
+      same_kept (walked c.args.side.now) c.args.clock.order c.args.clock.few c.requires.row c.requires.cell c.requires.room c.find.ensures.found
       (sym (new_is read (omega (arith, within, c.find.ensures.room.totals))) ∙ same ∙ old_is read (omega (arith, within, c.requires.room.totals)));
 }
 
 pub returns-in_default : goal.returns-in_default
 returns-in_default c = record {
   room = c.find.ensures.room;
-  later = let s = c.args.side.now in
-      found_later (side_frame s) (side_lists s) s.player (walked s) c.args.now c.args.last c.requires.order c.requires.turns c.args.cell
-      c.args.row c.requires.row (has (goal.at.returns-in_default c).Start) c.args.tally.now c.find.new.tally c.requires.room c.find.ensures.found;
-  behind = let s = c.args.side.now in
-      found_behind (side_frame s) (side_lists s) s.player (walked s) c.args.now c.args.last c.requires.order c.requires.turns c.args.cell
-      c.args.row c.requires.row (has (goal.at.returns-in_default c).Start) c.args.tally.now c.find.new.tally c.requires.room c.find.ensures.found;
+  later = found_later (walked c.args.side.now) c.args.clock.order c.args.clock.few c.requires.row c.requires.cell c.requires.room c.find.ensures.found;
+  behind = found_behind (walked c.args.side.now) c.args.clock.order c.args.clock.few c.requires.row c.requires.cell c.requires.room c.find.ensures.found;
   tells = c.find.ensures.tells;
-  kept = let s = c.args.side.now in
-      let f = side_frame s in
+  kept = let f = side_frame c.args.side.now in
       let q = at_point c.args.row.point in
-      nowhere_kept f (side_lists s) s.player (walked s) c.args.now c.args.last c.requires.order c.requires.turns c.args.cell
-      c.args.row c.requires.row (has (goal.at.returns-in_default c).Start) c.args.tally.now c.find.new.tally c.requires.room c.find.ensures.found
-      (subst (λ o. MatchOption o (HasNoWay f q) (LeadsTo f (side_lists s) q)) c.in_default.is c.requires.way);
+      nowhere_kept (walked c.args.side.now) c.args.clock.order c.args.clock.few c.requires.row c.requires.cell c.requires.room c.find.ensures.found
+      (subst (λ o. MatchOption o (HasNoWay f q) (LeadsTo f (side_lists c.args.side.now) q)) c.in_default.is c.requires.way);
 }
 
 pub find-requires-clause-room : goal.find-requires-clause-room

@@ -24,9 +24,9 @@ returns c = record {
       ap (λ n. take n (drop a.first now)) many ∙ ap (λ (xs : List Line). take a.moves (drop a.first xs)) c.deref.ensures.value in
       let p = c.pick.new.tally in
       let new : Tally = record { worths = p.worths; totals = p.totals; dues = c.set_due.new.dues; picks = p.picks; moved = p.moved } in
-      subst (λ ls. IsChosen ls a.point a.cell a.now a.last t new) lines
-      (written _ a.point a.cell a.now a.last c.first_greatest-best.result until.result t new c.requires.picks c.requires.cell
-      c.first_greatest-best.ensures.in_range until.ensures.stays (until.ensures.some c.requires.order)
+      subst (λ ls. IsChosen ls a.point a.cell a.clock.turn a.clock.last t new) lines
+      (written _ a.point a.cell a.clock.turn a.clock.last c.first_greatest-best.result until.result t new c.requires.picks c.requires.cell
+      c.first_greatest-best.ensures.in_range until.ensures.stays (until.ensures.some a.clock.order)
       (ap (λ v. v.items) c.pick.ensures.totals)
       (let h = c.pick.ensures.picked in record { picks = h.picks; long = h.long; here = h.here; others = h.others })
       (c.set_due.ensures.turns ∙ ap (λ (d : Dues). set d.turns.items a.cell until.result) c.pick.ensures.dues));

@@ -40,7 +40,7 @@ raised f lists q c from x = record {
         → cond {A = ℕ} (is_here q c p e) (cond (m == x) 1 0) (cond (m == from p e) 1 0) ≡ cond (is_here q c p e) 0 (cond (m == from p e) 1 0)
     same p e m no_one = ap (λ b. cond b (cond (m == x) 1 0) (cond (m == from p e) 1 0)) no_one ∙ sym (ap (λ b. cond b 0 (cond (m == from p e) 1 0)) no_one)
 
-module _ (f : Frame) (r : InRange f) (lists : ClassLists) (k : IsClasses f.parents lists) (player : ℕ) (w : IsWalked f (other_player player)) (q c : ℕ) where
+module _ {f : Frame} (r : InRange f) {lists : ClassLists} (k : IsClasses f.parents lists) (player : ℕ) (w : IsWalked f (other_player player)) (q c : ℕ) where
   abbrev Alike : Plan → Plan → Type 0
   Alike x y = ArePlansAlike f lists (other_player player) x y
 
@@ -104,33 +104,33 @@ module _ (f : Frame) (r : InRange f) (lists : ClassLists) (k : IsClasses f.paren
     alike_without none = alike_but (plan_without q c from) (λ m. 0) refl
         (λ m lm. ap (λ b. cond b 1 0) (not_eq m (to q c) (omega (arith, lm, none)))) (λ p e m. refl)
 
-  -- ---- what is told
+  -- ---- what counts once more or once less
 
-  module _ (old new : ℕ) (from to : ℕ → ℕ → ℕ) (h : IsOtherMove f lists q c old new from to) where
-    abbrev Told : ℕ → Bool → Plan → Plan → Type 0
-    Told x is_on a b = IsPushed f lists player (record { point = q; choice = x }) c is_on (end_sum f lists player a) (end_sum f lists player b)
+  module _ {old new : ℕ} {from to : ℕ → ℕ → ℕ} (h : IsOtherMove f lists q c old new from to) where
+    abbrev Counts : ℕ → Bool → Plan → Plan → Type 0
+    Counts x is_on a b = IsPushed f lists player (record { point = q; choice = x }) c is_on (end_sum f lists player a) (end_sum f lists player b)
 
     itself : AreTakenBut f lists q c from from
     itself p e lp le apart = refl
 
     -- the old move is taken no more, and another one is taken
-    pub told_off : Told old false (taken_plan from) (plan_without q c from)
-    told_off = pushed_alike (record { point = q; choice = old }) false (plan_with q c from old) (plan_without q c from) (taken_plan from)
+    pub move_off : Counts old false (taken_plan from) (plan_without q c from)
+    move_off = pushed_alike (record { point = q; choice = old }) false (plan_with q c from old) (plan_without q c from) (taken_plan from)
         (plan_without q c from) (alike_with from from itself old h.before)
         (record { total = refl; numbers = λ p e m lp own le lm. refl }) (pushed_off from old)
 
-    pub told_on : Told new true (plan_without q c from) (taken_plan to)
-    told_on = pushed_alike (record { point = q; choice = new }) true (plan_without q c from) (plan_with q c from new) (plan_without q c from)
+    pub move_on : Counts new true (plan_without q c from) (taken_plan to)
+    move_on = pushed_alike (record { point = q; choice = new }) true (plan_without q c from) (plan_with q c from new) (plan_without q c from)
         (taken_plan to) (record { total = refl; numbers = λ p e m lp own le lm. refl })
         (alike_with from to h.elsewhere new h.here) (pushed_on from new)
 
     -- one of the two may be none
-    pub told_only_off : move_count f q ≤ new → Told old false (taken_plan from) (taken_plan to)
-    told_only_off none = pushed_alike (record { point = q; choice = old }) false (plan_with q c from old) (plan_without q c from) (taken_plan from)
+    pub only_move_off : move_count f q ≤ new → Counts old false (taken_plan from) (taken_plan to)
+    only_move_off none = pushed_alike (record { point = q; choice = old }) false (plan_with q c from old) (plan_without q c from) (taken_plan from)
         (taken_plan to) (alike_with from from itself old h.before)
         (alike_without from to h.elsewhere (omega (arith, none, h.here))) (pushed_off from old)
 
-    pub told_only_on : move_count f q ≤ old → Told new true (taken_plan from) (taken_plan to)
-    told_only_on none = pushed_alike (record { point = q; choice = new }) true (plan_without q c from) (plan_with q c from new) (taken_plan from)
+    pub only_move_on : move_count f q ≤ old → Counts new true (taken_plan from) (taken_plan to)
+    only_move_on none = pushed_alike (record { point = q; choice = new }) true (plan_without q c from) (plan_with q c from new) (taken_plan from)
         (taken_plan to) (alike_without from from itself (omega (arith, none, h.before)))
         (alike_with from to h.elsewhere new h.here) (pushed_on from new)

@@ -9,7 +9,7 @@ use gs_seq::Abstract;
 
 /// A player of a game, and the plot of the game.
 #[derive(Clone, Copy)]
-pub(crate) struct Side<'a> {
+pub(crate) struct Role<'a> {
     pub(crate) form: &'a Abstract<'a>,
     pub(crate) player: u8,
     pub(crate) plot: &'a Plot,
