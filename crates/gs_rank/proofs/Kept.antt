@@ -3,6 +3,7 @@ use Rattle.std.proofs.{Common.{◌≡◌, ℕ, ◌+◌, ◌<◌, ◌≤◌, ◌+
 use Rattle.std.proofs.{lemmas.List.{length-map}, lemmas.List.FromFn.{get_or-map-range_with_len, length-range_with_len, map-range_with_len_more}}
 use Rattle.std.specs.List.{range_with_len}
 use Rattle.gs_model.specs.Outcome.{rank_of}
+use Rattle.gs_card.specs.declared.faults.TheConstants.{MOST_KINDS}
 
 -- as many as there are kinds
 pub kept_long : (f : ℕ → ℕ) (n : ℕ) (xs : List ℕ) → xs ≡ map f (range_with_len 0 n) → length xs ≡ n
@@ -18,5 +19,5 @@ kept_more f i v xs ys grown e is =
     grown ∙ ap (λ (x : List ℕ). x ++ v ∷ []) e ∙ ap (λ (w : ℕ). map f (range_with_len 0 i) ++ w ∷ []) is ∙ sym (map-range_with_len_more f 0 i i (omega arith))
 
 -- ranks are small, since there are few kinds
-pub rank_small : (suits kinds kind rank : ℕ) → kinds ≤ 52 → kind < kinds → rank ≡ rank_of suits kind → rank < 64
+pub rank_small : (suits kinds kind rank : ℕ) → kinds ≤ MOST_KINDS → kind < kinds → rank ≡ rank_of suits kind → rank < 64
 rank_small suits kinds kind rank few l e = omega (arith, e, div-le_self kind suits)
