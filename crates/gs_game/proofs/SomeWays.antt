@@ -9,13 +9,13 @@ use Rattle.gs_game.specs.Refusals.{betting_refusal, card_refusal, copies_refusal
 use Rattle.gs_game.specs.Refusals.{private_refusal, public_card_total, ranking_refusal, rounds_refusal}
 use Rattle.gs_game.proofs.Evenly.{neither}
 
-some_draws : (n : ℕ) (ks : List ℕ) → sum ks ≤ n → 0 < draws n ks
+pub some_draws : (n : ℕ) (ks : List ℕ) → sum ks ≤ n → 0 < draws n ks
 some_draws n [] h = omega arith
 some_draws n (k ∷ ks) h =
     let c = sum_by-cons (λ (x : ℕ). x) k ks in
     product_positive (choose n k) (draws (n - k) ks) (choose-some n k (omega (arith, h, c))) (some_draws (n - k) ks (omega (arith, h, c)))
 
-seen_sum : (rs : List Round) → sum (seen_sizes rs) ≡ cards_shown rs
+pub seen_sum : (rs : List Round) → sum (seen_sizes rs) ≡ cards_shown rs
 seen_sum [] = refl
 seen_sum (r ∷ rs) = omega (
   arith,
@@ -24,12 +24,12 @@ seen_sum (r ∷ rs) = omega (
   sum_by-cons (λ (x : ℕ). x) r.public (seen_sizes rs),
 )
 
-own_sum : (rs : List Round) → sum (privates rs) ≡ own_cards_of rs
+pub own_sum : (rs : List Round) → sum (privates rs) ≡ own_cards_of rs
 own_sum [] = refl
 own_sum (r ∷ rs) = omega (arith, own_sum rs, sum_by-cons (λ (x : ℕ). x) r.private (privates rs))
 
 -- the cards of a deal over some rounds
-all_cards : (rs : List Round) → 2 * own_card_total rs + public_card_total rs ≡ cards_shown rs + own_cards_of rs
+pub all_cards : (rs : List Round) → 2 * own_card_total rs + public_card_total rs ≡ cards_shown rs + own_cards_of rs
 all_cards [] = refl
 all_cards (r ∷ rs) = omega (arith, all_cards rs, sum_by-cons (λ (r : Round). r.private) r rs, sum_by-cons (λ (r : Round). r.public) r rs)
 

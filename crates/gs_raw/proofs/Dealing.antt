@@ -4,12 +4,12 @@ use Rattle.std.proofs.{Common.{ap, ◌∙◌, subst, inl, inr, arith}, lemmas.Bo
 use Rattle.std.proofs.{lemmas.List.Elements.{All-from_recursion}, lemmas.List.Sums.{get_or-le-sum_by, sum_by-append, sum_by-cons}}
 use Rattle.std.specs.{Prelude.{filter, flat_map}, List.{AllByRecursion}}
 use Rattle.gs_game.proofs.{GroupDraws.{all_ways, leaves_sum}, Sequencing.{drawn, facing_ways, first_sizes, sizes_are}, Totals.{total}}
-use Rattle.gs_game.specs.{GoingOn.{cards_shown, own_cards_of}, Refusals.{own_card_total, public_card_total}, Rules.{KeepsRules}}
-use Rattle.gs_game.specs.Sequences.{draws, privates, seen_sizes}
+use Rattle.gs_game.proofs.SomeWays.{all_cards, own_sum, seen_sum, some_draws}
+use Rattle.gs_game.specs.{GoingOn.{cards_shown}, Rules.{KeepsRules}, Sequences.{privates, seen_sizes}}
 use Rattle.gs_lossless.proofs.Descent.{child_run, tabled}
-use Rattle.gs_model.proofs.{Basics.{every-map, every-weaker, product_positive}, Extends.{signal_long}, Facing.{deals_are_facing}, Fits.{choose-some}}
+use Rattle.gs_model.proofs.{Basics.{every-map, every-weaker}, Extends.{signal_long}, Facing.{deals_are_facing}, Fits.{choose-some}}
 use Rattle.gs_model.proofs.{Listed.{left_by-push}, Ranges.{deals_weigh, every-flat_map, signal_count_is}, Walked.{last_round_of}}
-use Rattle.gs_model.specs.{Cards.{choose, groups, left_after, ways}, Deals.{Deal, deals}, Frame.{ancestor, at_round, frame_of, signal_count}}
+use Rattle.gs_model.specs.{Cards.{groups, left_after, ways}, Deals.{Deal, deals}, Frame.{ancestor, at_round, frame_of, signal_count}}
 use Rattle.gs_model.specs.{Game.{Game, IsPlayable, Round, round_at, round_count}, Payoff.{hand_weight}}
 use Rattle.gs_model.specs.{Signals.{Seen, Signal, child_count, children, edge, first_child, left_by, showings, signal_at, signals}, ViewTree.{facing}}
 
@@ -73,23 +73,6 @@ left_at g round i l = All-from_recursion (IsLeft g (shown_by g round)) (signals 
 
 -- ---- there are cards enough
 
-seen_sum : (rs : List Round) → sum (seen_sizes rs) ≡ cards_shown rs
-seen_sum [] = refl
-seen_sum (r ∷ rs) = omega (
-  arith,
-  seen_sum rs,
-  sum_by-cons (λ (x : ℕ). x) r.private (r.public ∷ seen_sizes rs),
-  sum_by-cons (λ (x : ℕ). x) r.public (seen_sizes rs),
-)
-
-own_sum : (rs : List Round) → sum (privates rs) ≡ own_cards_of rs
-own_sum [] = refl
-own_sum (r ∷ rs) = omega (arith, own_sum rs, sum_by-cons (λ (x : ℕ). x) r.private (privates rs))
-
-all_cards : (rs : List Round) → 2 * own_card_total rs + public_card_total rs ≡ cards_shown rs + own_cards_of rs
-all_cards [] = refl
-all_cards (r ∷ rs) = omega (arith, all_cards rs, sum_by-cons (λ (r : Round). r.private) r rs, sum_by-cons (λ (r : Round). r.public) r rs)
-
 -- what all rounds show and the opponent's own cards are among the cards
 full : (g : Game) → KeepsRules g → shown_by g (round_count g) + sum (privates g.rounds) ≤ sum g.copies
 full g h =
@@ -97,12 +80,6 @@ full g h =
     let shown : shown_by g (round_count g) ≡ cards_shown g.rounds =
     ap sum (sizes_are g (round_count g) (omega arith)) ∙ ap sum all ∙ seen_sum g.rounds in
     omega (arith, shown, own_sum g.rounds, all_cards g.rounds, h.copies)
-
-some_draws : (n : ℕ) (ks : List ℕ) → sum ks ≤ n → 0 < draws n ks
-some_draws n [] h = omega arith
-some_draws n (k ∷ ks) h =
-    let c = sum_by-cons (λ (x : ℕ). x) k ks in
-    product_positive (choose n k) (draws (n - k) ks) (choose-some n k (omega (arith, h, c))) (some_draws (n - k) ks (omega (arith, h, c)))
 
 some_listed : {X : Type 0} (f : X → ℕ) (xs : List X) → 0 < total f xs → 0 < length xs
 some_listed f [] h = absurd (omega arith)
