@@ -1,6 +1,6 @@
 //! Numbers of the signals before the last round, made from the numbers of their children.
 
-ghost use Rattle.std.specs.{Cow.{cow_slice_items}, Prelude.{ℕ, ◌≡◌, ◌<◌, ◌≤◌, ◌+◌, IfOk, List, OnOk, [], length, map}, List.{range_with_len}};
+ghost use Rattle.std.specs.{Cow.{cow_slice_items}, Prelude.{ℕ, ◌≡◌, ◌<◌, ◌≤◌, ◌+◌, IfOk, List, OnOk, length, map}, List.{range_with_len}};
 ghost use Rattle.gs_model.specs.{Game.{round_count}, Signals.{child_count, first_child, signals as signals_in}};
 ghost use Rattle.gs_model.specs.Signatures.{IsSignature};
 ghost use Rattle.gs_tree.specs.Trees.{rules_of};
