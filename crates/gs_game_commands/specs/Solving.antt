@@ -5,7 +5,8 @@ use Rattle.gs_model.specs.Classes.{ClassLists}
 use Rattle.gs_reply.specs.{Refusals.{Refusal, Overflows, Many_pivots, Too_large}, Replies.{Reply, Prints, Refuses}}
 use Rattle.gs_reply.specs.{declared.refusals.Limit.TheVariants.{TableNumbers}, declared.refusals.Overflow.TheVariants.{AtStep, AtTotal}}
 use Rattle.gs_seq.specs.declared.plan.Plan.{Plan}
-use Rattle.gs_solve.specs.{Solutions.{IsGameSolution, IsSolveFault}, declared.stop.SolveFault.TheVariants.{TableTooLarge, Wide, Pivots, Total}}
+use Rattle.gs_simplex.specs.declared.answer.PathFault.TheVariants.{TableTooLarge, Wide, Pivots}
+use Rattle.gs_solve.specs.{Solutions.{IsGameSolution, IsSolveFault}, declared.stop.SolveFault.TheVariants.{Path, Total}}
 use Rattle.gs_strategy.specs.Values.{file_frame}
 use Rattle.gs_game_commands.specs.Texts.{IsSettledText}
 
@@ -21,9 +22,9 @@ pub record IsSolved (g : FileGame) (lists : ClassLists) (text : List ℕ) : Type
 
 -- this refusal applies: the path of the game's linear program stops before its end, or the program's table has too many numbers
 abbrev pub SaysStopped : FileGame → ClassLists → Refusal → Type 0
-SaysStopped g lists (Too_large (TableNumbers count)) = IsSolveFault (file_frame g) lists (TableTooLarge count)
-SaysStopped g lists (Overflows (AtStep step row column number)) = IsSolveFault (file_frame g) lists (Wide step row column number)
-SaysStopped g lists Many_pivots = IsSolveFault (file_frame g) lists Pivots
+SaysStopped g lists (Too_large (TableNumbers count)) = IsSolveFault (file_frame g) lists (Path (TableTooLarge count))
+SaysStopped g lists (Overflows (AtStep step row column number)) = IsSolveFault (file_frame g) lists (Path (Wide step row column number))
+SaysStopped g lists Many_pivots = IsSolveFault (file_frame g) lists (Path Pivots)
 SaysStopped g lists why = ⊥
 
 -- this refusal applies: the path stops, or a plan's least total is too large

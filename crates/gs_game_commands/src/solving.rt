@@ -5,8 +5,9 @@ ghost use Rattle.gs_seq.specs.{Abstracts.{abstract_frame, lists_of}, Stops.{IsSm
 ghost use Rattle.gs_game_commands.specs.{Settling.{file_game_in}, Solving.{Solves}};
 ghost use Rattle.gs_solve.specs.Solutions.{IsSolveError, IsSolveFault};
 
+use crate::paths::unended;
 use crate::writing::text_of;
-use gs_reply::{Limit, Overflow, Refusal, Stop};
+use gs_reply::{Overflow, Refusal, Stop};
 use gs_seq::Abstract;
 use gs_solve::{SolveError, SolveFault, solve};
 use std::alloc::Global;
@@ -17,19 +18,7 @@ fn unsolved(form: &Abstract, fault: SolveFault) -> Refusal
     ensures { Tells (Solves (file_game_in form.now) (lists_of form.now)) result }
 {
     match fault {
-        SolveFault::TableTooLarge { count } => Refusal::TooLarge(Limit::TableNumbers { count }),
-        SolveFault::Wide {
-            step,
-            row,
-            col,
-            number,
-        } => Refusal::Overflows(Overflow::AtStep {
-            step,
-            row,
-            column: col,
-            number,
-        }),
-        SolveFault::Pivots => Refusal::ManyPivots,
+        SolveFault::Path(fault) => unended(form, fault),
         SolveFault::Total { player, multiple } => {
             Refusal::Overflows(Overflow::AtTotal { player, multiple })
         }

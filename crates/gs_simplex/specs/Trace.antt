@@ -3,8 +3,8 @@ use Rattle.std.specs.{Prelude.{◌≡◌, ℕ, ◌+◌, ◌<◌, ◌≤◌, Resu
 use Rattle.std.specs.declared.alloc.Global.{Global}
 use Rattle.gs_frac.specs.declared.value.Fraction.{Fraction}
 use Rattle.gs_simplex.specs.{declared.program.Program.{Program}, Program.{ColListed, IsTask, Listing}, Path.{States, IsPath, ends, Stops}}
-use Rattle.gs_simplex.specs.{declared.answer.Turn.{Turn}, declared.answer.Path.{Path}, declared.answer.PathTrace.{PathTrace}, declared.answer.Stop.{Stop}}
-use Rattle.gs_simplex.specs.{declared.path.Position.{Position}, declared.table.Table.{Table}, State.{IsState, IsTurnAt}, Answer.{IsSmallTable, IsStop}}
+use Rattle.gs_simplex.specs.{declared.answer.Turn.{Turn}, declared.answer.Path.{Path}, declared.answer.PathTrace.{PathTrace}, declared.answer.PathError.{PathError}}
+use Rattle.gs_simplex.specs.{declared.path.Position.{Position}, declared.table.Table.{Table}, State.{IsState, IsTurnAt}, Answer.{IsSmallTable, IsPathError}}
 
 -- the listed columns, counted from 1, in rising order
 pub record IsBasis (l : Listing) (columns : List ℕ) : Type 0 where
@@ -33,9 +33,9 @@ pub record IsShown (p : Program) (o : Listing) (limit : ℕ) (t : Path) : Type 0
   pub path : (n : ℕ) × (l : Listing) × (s : States) × (Stops p o limit (length o + n) s (ends n l)) × IsShownOf p o n s t
 
 -- what `path` answers
-abbrev pub IsPathAnswer : Program → Listing → ℕ → Result Path Stop → Type 0
+abbrev pub IsPathAnswer : Program → Listing → ℕ → Result Path PathError → Type 0
 IsPathAnswer p o limit (Ok t) = IsShown p o limit t
-IsPathAnswer p o limit (Err s) = IsStop p o limit s
+IsPathAnswer p o limit (Err s) = IsPathError p o limit s
 
 -- a trace without its bases
 abbrev pub without_bases : PathTrace → Path
@@ -54,9 +54,9 @@ pub record IsTrace (p : Program) (o : Listing) (limit : ℕ) (t : PathTrace) : T
   pub bases_differ : (k h : ℕ) → k < h → h < length t.bases.items → HoldsAt (λ a. HoldsAt (λ b. ¬ (a.items ≡ b.items)) t.bases.items h) t.bases.items k
 
 -- what `trace` answers
-abbrev pub IsTraceAnswer : Program → Listing → ℕ → Result PathTrace Stop → Type 0
+abbrev pub IsTraceAnswer : Program → Listing → ℕ → Result PathTrace PathError → Type 0
 IsTraceAnswer p o limit (Ok t) = IsTrace p o limit t
-IsTraceAnswer p o limit (Err s) = IsStop p o limit s
+IsTraceAnswer p o limit (Err s) = IsPathError p o limit s
 
 -- ---- while the path is followed
 -- these are the columns of the list after t steps

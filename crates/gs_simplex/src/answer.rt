@@ -1,6 +1,7 @@
-//! Answers and stops.
+//! What a path ends with, and why it stops before.
 
 ghost use Rattle.std.specs.Prelude.{◌≡◌};
+ghost use Rattle.gs_simplex.specs.declared.answer.PathError.TheVariants.{Fault, Memory};
 
 use gs_frac::Fraction;
 use std::alloc::AllocError;
@@ -49,9 +50,9 @@ pub struct PathTrace {
     pub aim: Fraction,
 }
 
-/// Why the path did not reach its end.
+/// Why the path stops before its end.
 #[derive(Debug, Drop)]
-pub enum Stop {
+pub enum PathFault {
     /// The table has `(rows + 1) * (cols + 1)` numbers, more than 1,048,576.
     TableTooLarge {
         count: u64,
@@ -70,16 +71,27 @@ pub enum Stop {
     Unbounded {
         col: u32,
     },
-    /// Memory ran out.
-    Memory,
 }
 
-impl From<AllocError> for Stop {
-    ghost use Rattle.gs_simplex.specs.declared.answer.Stop.TheVariants.{Memory};
+/// Why the path is not followed to its end: memory ran out, or it stops before.
+#[derive(Drop)]
+pub enum PathError {
+    Memory,
+    Fault(PathFault),
+}
 
-    ghost from_gives = { λ _ s. s ≡ Memory };
+impl From<AllocError> for PathError {
+    ghost from_gives = { λ _ e. e ≡ Memory };
 
-    fn from(_error: AllocError) -> Stop {
-        Stop::Memory
+    fn from(_e: AllocError) -> PathError {
+        PathError::Memory
+    }
+}
+
+impl From<PathFault> for PathError {
+    ghost from_gives = { λ why e. e ≡ Fault why };
+
+    fn from(why: PathFault) -> PathError {
+        PathError::Fault(why)
     }
 }

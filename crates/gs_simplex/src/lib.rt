@@ -23,7 +23,7 @@ mod tracing;
 
 ghost use Rattle.gs_simplex.specs.{Program.{IsTask}, Answer.{IsAnswer}, Trace.{IsTraceAnswer}};
 
-pub use answer::{Best, Path, PathTrace, Stop, Turn};
+pub use answer::{Best, Path, PathError, PathFault, PathTrace, Turn};
 pub use program::Program;
 use std::alloc::Global;
 
@@ -34,7 +34,12 @@ pub const MOST_NUMBERS: u64 = 1_048_576;
 ///
 /// The opening lists pairs of a row and a column, both counted from 1. `limit` is the most pivots after the opening.
 /// A table of more than [`MOST_NUMBERS`] numbers is refused before any step. Otherwise the error is the first stop that the path meets, or out of memory.
-pub fn run(alloc: Global, p: &Program, opening: &[(u32, u32)], limit: u32) -> Result<Best, Stop>
+pub fn run(
+    alloc: Global,
+    p: &Program,
+    opening: &[(u32, u32)],
+    limit: u32,
+) -> Result<Best, PathError>
     requires { IsTask p.now opening.now limit }
     ensures { IsAnswer p.now opening.now limit result }
 {
@@ -47,7 +52,7 @@ pub fn trace(
     p: &Program,
     opening: &[(u32, u32)],
     limit: u32,
-) -> Result<PathTrace, Stop>
+) -> Result<PathTrace, PathError>
     requires { IsTask p.now opening.now limit }
     ensures { IsTraceAnswer p.now opening.now limit result }
 {

@@ -3,11 +3,11 @@
 ghost use Rattle.std.specs.Prelude.{◌≡◌, ◌≢◌, IfNone, MatchOption, MatchResult, ℕ, ◌+◌, ◌*◌, ◌<◌, ◌≤◌, ◌^◌, pos, length, slice_index_or};
 ghost use Rattle.std.specs.Prelude.{unsigned_abs, Some};
 ghost use Rattle.gs_simplex.specs.{Program.{IsShaped, IsPairList, IsOpened, IsTask}, Table.{grid_of, table_aim, stated, IsTable, IsHeld, IsTableOf}};
-ghost use Rattle.gs_simplex.specs.{State.{IsStart, IsState, IsChoice, IsPivoted, IsWidePivot, IsEnd, IsTurnedState}, Answer.{IsSmallTable, IsStop}};
-ghost use Rattle.gs_simplex.specs.Trace.{IsBegun, CanFollow};
+ghost use Rattle.gs_simplex.specs.{State.{IsStart, IsState, IsChoice, IsPivoted, IsWidePivot, IsEnd, IsTurnedState}, Trace.{IsBegun, CanFollow}};
+ghost use Rattle.gs_simplex.specs.Answer.{IsSmallTable, IsPathError, IsPathFault};
 
 use crate::MOST_NUMBERS;
-use crate::answer::{Stop, Turn};
+use crate::answer::{PathError, PathFault, Turn};
 use crate::choice::{entering, leaving, pair_at};
 use crate::sparse::Program;
 use crate::table::{Table, WideCell};
@@ -24,18 +24,18 @@ pub(crate) enum Choice {
     Leaves(usize, usize),
 }
 
-// Returns the stop at a number that is not narrow.
-fn wide_stop(p: &Program, step: u32, cell: WideCell) -> Stop
+// Returns the fault of a number that is not narrow.
+fn wide_fault(p: &Program, step: u32, cell: WideCell) -> PathFault
     requires row { cell.row ≤ p.now.rows }
     requires column { cell.column ≤ p.now.cols + 1 }
     requires small_rows { p.now.rows < 2 ^ 31 }
     requires small_cols { p.now.cols < 2 ^ 31 }
     requires size { unsigned_abs cell.number ≤ 2 ^ 125 }
-    ensures { result ≡ Stop.Wide step (cell.row + 1) (cell.column + 1) (stated p.now cell.row cell.column cell.number) }
+    ensures { result ≡ PathFault.Wide step (cell.row + 1) (cell.column + 1) (stated p.now cell.row cell.column cell.number) }
 {
     let is_last = cell.row == p.rows as usize && cell.column == p.cols as usize;
     let number = if is_last { -cell.number } else { cell.number };
-    Stop::Wide {
+    PathFault::Wide {
         step,
         row: cell.row as u32 + 1,
         col: cell.column as u32 + 1,
@@ -67,31 +67,35 @@ pub(crate) struct Position {
     pub(crate) table: Table,
 }
 
-// Lists the pairs of the opening one by one, or returns the stop at the first number that is not narrow.
-pub(crate) fn open(p: &Program, opening: &[(u32, u32)], table: &mut Table) -> Result<(), Stop>
+// Lists the pairs of the opening one by one, or returns the fault of the first number that is not narrow.
+pub(crate) fn open(p: &Program, opening: &[(u32, u32)], table: &mut Table) -> Result<(), PathFault>
     requires opened { IsOpened p.now opening.now }
     requires small { IsSmallTable p.now }
     requires start { IsStart p.now table.old }
     ensures { MatchResult result (λ _. IsState p.now opening.now (length opening.now) opening.now table.new)
-        (λ e. (limit : ℕ) → IsStop p.now opening.now limit e) }
+        (λ why. (limit : ℕ) → IsPathFault p.now opening.now limit why) }
 {
     for step in 0..opening.len() {
         let (row, column) = pair_at(p, opening, step);
         if let Some(cell) = table.list(p, row, column) {
-            return Err(wide_stop(p, step as u32 + 1, cell));
+            return Err(wide_fault(p, step as u32 + 1, cell));
         }
     }
     Ok(())
 }
 
 // Returns the position after the opening. The error is a table that is too large, a number that is not narrow, or out of memory.
-pub(crate) fn begin(alloc: Global, p: &Program, opening: &[(u32, u32)]) -> Result<Position, Stop>
+pub(crate) fn begin(
+    alloc: Global,
+    p: &Program,
+    opening: &[(u32, u32)],
+) -> Result<Position, PathError>
     requires { IsOpened p.now opening.now }
-    ensures { MatchResult result (IsBegun p.now opening.now) (λ e. (limit : ℕ) → IsStop p.now opening.now limit e) }
+    ensures { MatchResult result (IsBegun p.now opening.now) (λ e. (limit : ℕ) → IsPathError p.now opening.now limit e) }
 {
     let count = (u64::from(p.rows) + 1) * (u64::from(p.cols) + 1);
     if count > MOST_NUMBERS {
-        return Err(Stop::TableTooLarge { count });
+        return Err(PathError::Fault(PathFault::TableTooLarge { count }));
     }
     let mut table = Table::start(alloc, p)?;
     let basis = Vec::from_slice(alloc, opening)?;
@@ -136,7 +140,7 @@ pub(crate) fn step(
     made: u32,
     basis: &mut [(u32, u32)],
     table: &mut Table,
-) -> Result<Option<Turn>, Stop>
+) -> Result<Option<Turn>, PathFault>
     requires task { IsTask p.now opening.now limit }
     requires within { made ≤ limit }
     requires small { IsSmallTable p.now }
@@ -144,20 +148,20 @@ pub(crate) fn step(
     ensures { MatchResult result
         (λ r. MatchOption r (IsEnd p.now opening.now limit made basis.new table.new)
         (λ t. IsTurnedState p.now opening.now limit made t basis.new table.new))
-        (IsStop p.now opening.now limit) }
+        (IsPathFault p.now opening.now limit) }
 {
     match choose(p, table, basis) {
         Choice::Ends => Ok(None),
-        Choice::Unbounded(column) => Err(Stop::Unbounded {
+        Choice::Unbounded(column) => Err(PathFault::Unbounded {
             col: column as u32 + 1,
         }),
         Choice::Leaves(place, column) => {
             if made == limit {
-                return Err(Stop::Pivots);
+                return Err(PathFault::Pivots);
             }
             let (_, leaving) = pair_at(p, basis, place);
             if let Some(cell) = pivot(p, basis, table, place, column) {
-                return Err(wide_stop(p, p.rows + made + 1, cell));
+                return Err(wide_fault(p, p.rows + made + 1, cell));
             }
             Ok(Some(Turn {
                 enter: column as u32 + 1,
@@ -174,9 +178,9 @@ pub(crate) fn follow(
     limit: u32,
     basis: &mut [(u32, u32)],
     table: &mut Table,
-) -> Result<u32, Stop>
+) -> Result<u32, PathFault>
     requires ready { CanFollow p.now opening.now limit basis.old table.old }
-    ensures { MatchResult result (λ n. IsEnd p.now opening.now limit n basis.new table.new) (IsStop p.now opening.now limit) }
+    ensures { MatchResult result (λ n. IsEnd p.now opening.now limit n basis.new table.new) (IsPathFault p.now opening.now limit) }
 {
     for made in 0..limit + 1 {
         match step(p, opening, limit, made, basis, table)? {

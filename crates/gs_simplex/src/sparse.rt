@@ -3,7 +3,7 @@
 ghost use Rattle.std.specs.Prelude.{◌≡◌, ◌++◌, [], ◌∷◌, IfOk, OnOk, pos, replicate};
 ghost use Rattle.gs_simplex.specs.{Program.{IsTask}, Answer.{IsAnswer}, Trace.{IsPathAnswer, IsTraceAnswer}};
 
-use crate::answer::{Best, Path, PathTrace, Stop};
+use crate::answer::{Best, Path, PathError, PathTrace};
 use crate::best::best;
 use crate::path::{Position, begin, follow};
 use crate::program;
@@ -155,7 +155,7 @@ impl Program {
     }
 
     /// Returns what [`crate::run`] returns for the program.
-    pub fn run(&self, alloc: Global, opening: &[(u32, u32)], limit: u32) -> Result<Best, Stop>
+    pub fn run(&self, alloc: Global, opening: &[(u32, u32)], limit: u32) -> Result<Best, PathError>
         requires { IsTask self.now opening.now limit }
         ensures { IsAnswer self.now opening.now limit result }
     {
@@ -168,7 +168,7 @@ impl Program {
     }
 
     /// Returns the path's pivots, with the aim's value after the opening and at the end, or what stopped the path first. It stops as [`crate::run`] does.
-    pub fn path(&self, alloc: Global, opening: &[(u32, u32)], limit: u32) -> Result<Path, Stop>
+    pub fn path(&self, alloc: Global, opening: &[(u32, u32)], limit: u32) -> Result<Path, PathError>
         requires { IsTask self.now opening.now limit }
         ensures { IsPathAnswer self.now opening.now limit result }
     {
@@ -189,7 +189,7 @@ impl Program {
         alloc: Global,
         opening: &[(u32, u32)],
         limit: u32,
-    ) -> Result<PathTrace, Stop>
+    ) -> Result<PathTrace, PathError>
         requires { IsTask self.now opening.now limit }
         ensures { IsTraceAnswer self.now opening.now limit result }
     {

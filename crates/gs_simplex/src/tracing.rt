@@ -1,10 +1,10 @@
 //! The pivots of a path, its bases, and the aim's value.
 
 ghost use Rattle.std.specs.Prelude.{MatchResult, IfOk, OnOk, ◌≡◌, ℕ, ◌+◌, ◌<◌, ◌^◌, [], ◌∷◌, ◌++◌, ℤ, pos, ◌<ℤ◌, length, slice_index_or, slice_set};
-ghost use Rattle.gs_simplex.specs.{Program.{IsPairList, IsOpened}, Table.{grid_of, table_aim, IsHeld}, State.{IsEnd}, Answer.{IsStop}, Values.{IsRowIndex}};
+ghost use Rattle.gs_simplex.specs.{Program.{IsPairList, IsOpened}, Table.{grid_of, table_aim, IsHeld}, State.{IsEnd}, Answer.{IsPathError}, Values.{IsRowIndex}};
 ghost use Rattle.gs_simplex.specs.Trace.{IsAimValue, IsBasis, IsReachedBy, AreTurns, AreBases, CanFollow};
 
-use crate::answer::{Stop, Turn};
+use crate::answer::{PathError, Turn};
 use crate::best::{listed_rows, negated_share};
 use crate::path::step;
 use crate::sparse::Program;
@@ -107,11 +107,11 @@ pub(crate) fn follow_noting(
     basis: &mut [(u32, u32)],
     table: &mut Table,
     turns: &mut Vec<Turn>,
-) -> Result<(), Stop>
+) -> Result<(), PathError>
     requires ready { CanFollow p.now opening.now limit basis.old table.old }
     requires none { turns.old.items ≡ [] }
     ensures { MatchResult result (λ _. IsEnd p.now opening.now limit (length turns.new.items) basis.new table.new × AreTurns p.now opening.now turns.new.items)
-        (IsStop p.now opening.now limit) }
+        (IsPathError p.now opening.now limit) }
 {
     for made in 0..limit + 1 {
         match step(p, opening, limit, made, basis, table)? {

@@ -4,7 +4,7 @@ use crate::programs::stop_in;
 use crate::stops::stop_text;
 use gs_samples::numbers_in;
 use gs_seq::Abstract;
-use gs_simplex::{Best, Program, Stop, run};
+use gs_simplex::{Best, PathError, Program, run};
 use std::alloc::{AllocError, Global};
 use std::test::Fail;
 
@@ -126,7 +126,7 @@ fn other_than_stated(
 fn part_or_stop(
     alloc: Global,
     other: Option<&str>,
-    answer: &Result<Best, Stop>,
+    answer: &Result<Best, PathError>,
 ) -> Result<String, Fail> {
     match other {
         Some(part) => Ok(String::from_str(alloc, part)?),

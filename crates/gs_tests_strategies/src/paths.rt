@@ -5,9 +5,10 @@ ghost use Rattle.std.specs.Prelude.{◌<◌};
 use crate::leduc::pairs_in;
 use crate::openings::meets;
 use crate::path_cases::{CASES, Case, KUHN, KUHN_END, KUHN_PATH, TRACES};
+use crate::stops::error_text;
 use gs_frac::Fraction;
 use gs_samples::{check_row, numbers_in};
-use gs_simplex::{Best, PathTrace, Program, Stop, run, trace};
+use gs_simplex::{Best, PathTrace, Program, run, trace};
 use std::alloc::{AllocError, Global};
 use std::fmt::Write;
 use std::test::Fail;
@@ -87,11 +88,6 @@ fn path_text(alloc: Global, path: &PathTrace) -> Result<String, AllocError> {
     format!(in alloc; "{start} | {turns:?} | {bases:?} | {aim}")
 }
 
-// Returns a stop as text.
-fn stop_text(alloc: Global, stop: &Stop) -> Result<String, AllocError> {
-    format!(in alloc; "{stop:?}")
-}
-
 // The text where a program and its opening do not meet the conditions of `run`.
 const NO_OPENING: &str = "no opening";
 
@@ -107,7 +103,7 @@ fn end_of(
     }
     match run(alloc, p, opening, u32::from(limit)) {
         Ok(best) => best_text(alloc, &best),
-        Err(stop) => stop_text(alloc, &stop),
+        Err(error) => error_text(alloc, &error),
     }
 }
 
@@ -123,7 +119,7 @@ fn path_of(
     }
     match trace(alloc, p, opening, u32::from(limit)) {
         Ok(path) => path_text(alloc, &path),
-        Err(stop) => stop_text(alloc, &stop),
+        Err(error) => error_text(alloc, &error),
     }
 }
 

@@ -3,15 +3,26 @@
 ghost use Rattle.std.specs.Prelude.{◌<◌, ◌^◌, IfOk};
 ghost use Rattle.gs_tests_strategies.specs.Programs.{IsWideSample, IsRowless};
 
-use gs_simplex::{Best, Program, Stop, run};
+use gs_simplex::{Best, PathError, Program, run};
 use std::alloc::{AllocError, Global};
 use std::test::Fail;
 
+/// Returns the text of what stops a path.
+pub(crate) fn error_text(alloc: Global, error: &PathError) -> Result<String, AllocError> {
+    match error {
+        PathError::Memory => Err(AllocError),
+        PathError::Fault(fault) => format!(in alloc; "{fault:?}"),
+    }
+}
+
 /// Returns the text of what stopped the path, and an empty text if nothing did.
-pub(crate) fn stop_text(alloc: Global, answer: &Result<Best, Stop>) -> Result<String, AllocError> {
+pub(crate) fn stop_text(
+    alloc: Global,
+    answer: &Result<Best, PathError>,
+) -> Result<String, AllocError> {
     match answer {
         Ok(_) => Ok(String::new(alloc)),
-        Err(stop) => format!(in alloc; "{stop:?}"),
+        Err(error) => error_text(alloc, error),
     }
 }
 

@@ -1,4 +1,3 @@
-use Rattle.std.proofs.Common.{arith}
 use Rattle.std.proofs.{Common.{◌+◌, length, slice_index, ap, ◌∙◌}, lemmas.List.{length_push}}
 use Rattle.gs_frac.specs.declared.value.Fraction.{Fraction}
 use Rattle.gs_simplex.specs.{Table.{grid_of}, Values.{IsColumnValue}}

@@ -1,10 +1,24 @@
-use Rattle.std.proofs.Common.{◌≡◌, ◌+◌, ◌*◌, ◌≤◌, ℕ, subst, arith}
+use Rattle.std.proofs.Common.{Result, Ok, Err, MatchResult, ◌≡◌, ◌+◌, ◌*◌, ◌≤◌, ℕ, sym, subst, arith}
+use Rattle.std.specs.Result.{IsErrAnd}
+use Rattle.gs_simplex.specs.{declared.path.Position.{Position}, declared.program.Program.{Program}, Program.{Listing}, Trace.{IsBegun}}
+use Rattle.gs_simplex.specs.{declared.answer.PathFault.{PathFault}, declared.answer.PathError.{PathError}, declared.answer.PathError.TheVariants.{Fault}}
+use Rattle.gs_simplex.specs.Answer.{IsPathError, IsPathFault}
 use Rattle.gs_simplex.proofs.path.begin.Goals as goal
 
 -- the table is small by its two numbers as they are counted
 small_table : (m n a b : ℕ) → a ≡ m → b ≡ n → (a + 1) * (b + 1) ≤ 1048576 → (m + 1) * (n + 1) ≤ 1048576
 small_table m n a b e f h =
     subst (λ t. (m + 1) * (t + 1) ≤ 1048576) f (subst (λ t. (t + 1) * (b + 1) ≤ 1048576) e h)
+
+-- the fault is handed on
+handed : (p : Program) (o : Listing) (r : Result Position PathError) (why : PathFault) → IsErrAnd r (λ e. e ≡ Fault why)
+    → ((limit : ℕ) → IsPathFault p o limit why) → MatchResult r (IsBegun p o) (λ e. (limit : ℕ) → IsPathError p o limit e)
+handed p o (Ok at) why is h = absurd is
+handed p o (Err e) why is h = λ limit. subst (λ x. IsPathError p o limit x) (sym is) (h limit)
+
+pub returns-in_err-open : goal.returns-in_err-open
+returns-in_err-open c =
+    handed c.args.p.now c.args.opening.now _ c.in_err-open.field-0.0 c.from_residual-in_err-open.ensures.1 c.in_err-open.ensures
 
 pub returns : goal.returns
 returns c = record {

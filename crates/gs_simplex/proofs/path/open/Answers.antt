@@ -1,5 +1,5 @@
 use Rattle.std.proofs.{Common.{◌+◌, sym, subst, arith}, lemmas.Grind.{elements}}
-use Rattle.gs_simplex.specs.{declared.answer.Stop.{Stop}, Table.{grid_of, IsHeld, IsTableAfter, IsWideAfter}, Answer.{IsStop}}
+use Rattle.gs_simplex.specs.{declared.answer.PathFault.{PathFault}, Table.{grid_of, IsHeld, IsTableAfter, IsWideAfter}, Answer.{IsPathFault}}
 use Rattle.gs_simplex.proofs.Paths.{so_far_start, none_of, if_none, open_nonzero, open_wide, open_pairs, open_next, opening_pairs, empty_pairs}
 use Rattle.gs_simplex.proofs.path.open.Goals as goal
 
@@ -24,8 +24,8 @@ list-requires-clause-nonzero c =
 pub returns-in-Some : goal.returns-in-Some
 returns-in-Some c = λ limit.
     let v = c.loop-step.invariant in let w = c.in-Some.cell in
-    let P : Stop → Type 0 = λ x. IsStop c.args.p.now c.args.opening.now limit x in
-    subst P (sym c.wide_stop.ensures) (
+    let P : PathFault → Type 0 = λ x. IsPathFault c.args.p.now c.args.opening.now limit x in
+    subst P (sym c.wide_fault.ensures) (
       c.requires.small,
       open_wide c.pair_at-row.result.0 c.pair_at-row.result.1 c.requires.opened.opens c.loop-step-test.true c.pair_at-row.ensures.pair v.table v.so_far w.row
           w.column w.number
@@ -52,8 +52,8 @@ returns c = grind (arith, elements)
 pub list-requires-clause-table : goal.list-requires-clause-table
 list-requires-clause-table c = grind arith
 
-pub wide_stop-requires-clause-small_rows : goal.wide_stop-requires-clause-small_rows
-wide_stop-requires-clause-small_rows c = c.requires.opened.small_rows
+pub wide_fault-requires-clause-small_rows : goal.wide_fault-requires-clause-small_rows
+wide_fault-requires-clause-small_rows c = c.requires.opened.small_rows
 
-pub wide_stop-requires-clause-small_cols : goal.wide_stop-requires-clause-small_cols
-wide_stop-requires-clause-small_cols c = c.requires.opened.small_cols
+pub wide_fault-requires-clause-small_cols : goal.wide_fault-requires-clause-small_cols
+wide_fault-requires-clause-small_cols c = c.requires.opened.small_cols

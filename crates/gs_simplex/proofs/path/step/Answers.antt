@@ -1,7 +1,7 @@
 use Rattle.std.proofs.lemmas.Grind.{common_steps}
 use Rattle.std.proofs.Common.{◌≡◌, ℕ, ◌+◌, length, sym, subst, arith}
-use Rattle.gs_simplex.specs.{Path.{PathStops, wide}, declared.answer.Stop.{Stop}, Table.{grid_of, IsHeld, stated}}
-use Rattle.gs_simplex.specs.{State.{IsSoFar, IsPivoted, IsWidePivot}, Answer.{IsStop}}
+use Rattle.gs_simplex.specs.{Path.{PathStops, wide}, declared.answer.PathFault.{PathFault}, Table.{grid_of, IsHeld, stated}}
+use Rattle.gs_simplex.specs.{State.{IsSoFar, IsPivoted, IsWidePivot}, Answer.{IsPathFault}}
 use Rattle.gs_simplex.proofs.Paths.{rows_of_so_far, turn_at, none_of, if_none, pivots_stops, unbounded_stops, leaving_nonzero, pivot_next, pivot_wide}
 use Rattle.gs_simplex.proofs.path.step.Goals as goal
 
@@ -28,8 +28,8 @@ returns-in-Some c =
     (omega (arith, c.requires.within, c.if-made-limit.false)) in
     let s : t + 1 ≡ p.rows + c.args.made + 1 = omega (arith, c.requires.task.opened.opens.long) in
     let Q : ℕ → Type 0 = λ k. PathStops p o c.args.limit (wide k (w.row + 1) (w.column + 1) (stated p w.row w.column w.number)) in
-    let R : Stop → Type 0 = λ x. IsStop p o c.args.limit x in
-    subst R (sym c.wide_stop.ensures) (c.requires.small, subst Q s a)
+    let R : PathFault → Type 0 = λ x. IsPathFault p o c.args.limit x in
+    subst R (sym c.wide_fault.ensures) (c.requires.small, subst Q s a)
 
 pub returns-in_default : goal.returns-in_default
 returns-in_default c =
@@ -65,8 +65,8 @@ choose-requires-clause-shaped c = c.requires.task.opened.shaped
 pub pivot-requires-clause-table : goal.pivot-requires-clause-table
 pivot-requires-clause-table c = c.requires.state.table
 
-pub wide_stop-requires : goal.wide_stop-requires
-wide_stop-requires c = grind (arith, common_steps)
+pub wide_fault-requires : goal.wide_fault-requires
+wide_fault-requires c = grind (arith, common_steps)
 
 pub overflow_cast-result-in-Leaves-2 : goal.overflow_cast-result-in-Leaves-2
 overflow_cast-result-in-Leaves-2 c = omega arith

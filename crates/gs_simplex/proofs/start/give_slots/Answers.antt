@@ -1,4 +1,4 @@
-use Rattle.std.proofs.Common.{◌<◌, sym, subst, arith}
+use Rattle.std.proofs.Common.{◌<◌, sym, subst}
 use Rattle.gs_simplex.proofs.Slots.{slots_more, slots_own}
 use Rattle.gs_simplex.proofs.start.give_slots.Goals as goal
 

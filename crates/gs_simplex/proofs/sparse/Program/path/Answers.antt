@@ -1,14 +1,14 @@
-use Rattle.std.proofs.Common.{Result, Ok, Err, ◌≡◌, ℕ, ◌+◌, ℤ, pos, ◌<ℤ◌, length, refl, sym, subst, arith}
+use Rattle.std.proofs.Common.{Result, Ok, Err, ◌≡◌, ℕ, ◌+◌, ℤ, pos, ◌<ℤ◌, length, refl, sym, subst}
 use Rattle.gs_simplex.specs.{declared.program.Program.{Program}, Program.{Listing}, declared.answer.Path.{Path}, Trace.{IsPathAnswer}}
-use Rattle.gs_simplex.specs.{declared.answer.Stop.{Stop}, Table.{grid_of, table_aim}, State.{IsSoFar}, Answer.{IsStop}}
+use Rattle.gs_simplex.specs.{declared.answer.PathError.{PathError}, Table.{grid_of, table_aim}, State.{IsSoFar}, Answer.{IsPathError}}
 use Rattle.std.specs.Result.{IsErrAnd}
 use Rattle.gs_simplex.proofs.{Paths.{rows_at}, Kept.{multiple_kept}, Traces.{shown_of}}
 use Rattle.gs_simplex.proofs.sparse.Program.path.Goals as goal
 
-err_answer : (p : Program) (o : Listing) (limit : ℕ) (r : Result Path Stop) (s : Stop) → IsErrAnd r (λ x. x ≡ s) → IsStop p o limit s
+err_answer : (p : Program) (o : Listing) (limit : ℕ) (r : Result Path PathError) (s : PathError) → IsErrAnd r (λ x. x ≡ s) → IsPathError p o limit s
     → IsPathAnswer p o limit r
 err_answer p o limit (Ok t) s e h = absurd e
-err_answer p o limit (Err x) s e h = let P : Stop → Type 0 = λ y. IsStop p o limit y in subst P (sym e) h
+err_answer p o limit (Err x) s e h = let P : PathError → Type 0 = λ y. IsPathError p o limit y in subst P (sym e) h
 
 multiple_of : (p : Program) (o : Listing) (t : ℕ) (l : Listing) (grid : ℕ → ℕ → ℤ) → IsSoFar p o t l grid → pos 0 <ℤ table_aim p grid (p.cols + 1)
 multiple_of p o t l grid u = multiple_kept u.states.3 (rows_at u).aim_row.2.multiple

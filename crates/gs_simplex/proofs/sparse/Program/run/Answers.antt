@@ -1,7 +1,7 @@
 use Rattle.std.proofs.{Common.{Result, Ok, Err, ◌≡◌, ℕ, ◌++◌, length, take, drop, sym, subst, ◌∙◌, arith}, lemmas.List.{take_at}}
 use Rattle.gs_simplex.specs.{declared.program.Program.{Program}, Program.{Listing, IsPairList}, Path.{PathStops, ends}, declared.answer.Best.{Best}}
 use Rattle.gs_simplex.specs.{declared.table.Table.{Table}, Table.{grid_of, IsTableOf}, State.{IsEnd}}
-use Rattle.gs_simplex.specs.{Answer.{IsSmallTable, IsStop, IsAnswer, IsBest, IsBestAt, IsBestTable}, declared.answer.Stop.{Stop}}
+use Rattle.gs_simplex.specs.{Answer.{IsSmallTable, IsPathError, IsAnswer, IsBest, IsBestAt, IsBestTable}, declared.answer.PathError.{PathError}}
 use Rattle.std.specs.Result.{IsErrAnd}
 use Rattle.gs_simplex.proofs.Paths.{rows_of_so_far, ends_stops}
 use Rattle.gs_simplex.proofs.sparse.Program.run.Goals as goal
@@ -26,9 +26,10 @@ best_of p o limit n l l' t b small u el w =
       last = (w.best.0, w.best.1, subst B (sym w.basis_is) w.best.2);
     }
 
-err_answer : (p : Program) (o : Listing) (limit : ℕ) (r : Result Best Stop) (s : Stop) → IsErrAnd r (λ x. x ≡ s) → IsStop p o limit s → IsAnswer p o limit r
+err_answer : (p : Program) (o : Listing) (limit : ℕ) (r : Result Best PathError) (s : PathError) → IsErrAnd r (λ x. x ≡ s) → IsPathError p o limit s
+    → IsAnswer p o limit r
 err_answer p o limit (Ok b) s e h = absurd e
-err_answer p o limit (Err x) s e h = let P : Stop → Type 0 = λ y. IsStop p o limit y in subst P (sym e) h
+err_answer p o limit (Err x) s e h = let P : PathError → Type 0 = λ y. IsPathError p o limit y in subst P (sym e) h
 
 pub returns-in_err-basis : goal.returns-in_err-basis
 returns-in_err-basis c =

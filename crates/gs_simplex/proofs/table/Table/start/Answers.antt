@@ -1,5 +1,4 @@
 use Rattle.std.proofs.Common.{◌≡◌, ℕ, ◌+◌, ◌*◌, ◌<◌, ◌≤◌, List, ◌^◌, ℤ, pos, length, slice_index, drop, sym, ap, subst, ◌∙◌, arith}
-use Rattle.std.proofs.lemmas.Grind.{common_steps}
 use Rattle.std.proofs.{lemmas.List.{take_at, get_or-replicate, length-replicate}, Math.Nat.{le-mul_of_pos_right, mul-le-mul_left}}
 use Rattle.std.specs.Vec.{with_items}
 use Rattle.gs_simplex.specs.{Numbers.{AreNarrowNumbers}, State.{raw, AreRaw}, Columns.{place_in, AreStands, AreSlots}}
