@@ -8,12 +8,16 @@ from fractions import Fraction
 import abstraction_pages
 import atlas_pictures
 import atlas_runs
+import sections
 from atlas_claims import NAMES, claims, grouped, is_lossy
 from atlas_games import KUHN, LEDUC, NUMBERS, PLAYED, RANKS, RHODE, name_of, reason
 from gameshrink.program import CHECKOUT
 from gameshrink.texts import decimal, listed, number, outwards, small, table, write_csv
 
 FOLDER = CHECKOUT / "docs" / "atlas"
+DOCUMENT = CHECKOUT / "docs" / "ATLAS.md"
+# the sections that results/run makes
+KEPT = ["## Small Leduc and Rhode Island decks", "## Strategies near an equilibrium, with exact gaps"]
 DIGITS, LONGEST = 12, 1500
 STORED = [("kuhn", 3, 1, 1), ("kuhn", 13, 4, 2)]
 STORED += [("leduc", *deck) for deck in [(3, 2, 1), (3, 2, 2), (3, 2, 3), (3, 2, 4), (3, 3, 1), (3, 3, 2), (3, 4, 2), (4, 2, 2), (5, 1, 2), (5, 2, 2), (5, 4, 2)]]
@@ -316,7 +320,7 @@ def cost_lines(rows):
 
 
 def write(cache, program):
-    """Writes docs/ATLAS.md and all of docs/atlas/."""
+    """Writes docs/ATLAS.md, but for the sections of results/run, and all of docs/atlas/."""
     os.makedirs(FOLDER, exist_ok=True)
     rows, others = rows_of(cache, LEDUC + RHODE)
     kuhn, left = rows_of(cache, KUHN)
@@ -328,7 +332,7 @@ def write(cache, program):
     for kind in ("leduc", "rhode"):
         lines += ["## %s" % NAMES[kind], "", *game_table(of_kind(rows, kind)), ""]
     lines += cost_lines(rows) + picture_lines() + stored_lines({**rows, **kuhn}, sizes)
+    lines += [sections.parts_of(DOCUMENT.read_text(encoding="ascii"))[1][heading] for heading in KEPT]
     lines += ["## What is not here", "", "Decks without a bracket, by reason. The exact values of Kuhn's decks stand in games.csv and in [RESULTS.md](RESULTS.md).", "", *failed_lines(others + left), ""]
     lines += ["## Runs", "", "The solvers took %.2f processor hours for the games above. Runs of `results/atlas`; the first began with an empty folder, each later one took up what was left:" % seconds_of({**rows, **kuhn}), "", *atlas_runs.lines(cache)]
-    with open(CHECKOUT / "docs" / "ATLAS.md", "w", encoding="ascii") as file:
-        file.write("\n".join(lines) + "\n")
+    DOCUMENT.write_text("\n".join(lines) + "\n", encoding="ascii")
