@@ -1,5 +1,21 @@
 # Completes gameshrink in fish.
-set -l all shrink check solve path play evaluate query judge duel certify verify upgrade make
+
+# The commands, each with what it does.
+set -l commands \
+    'shrink: print the signal classes of a game' \
+    'check: print lossless classes' \
+    'solve: print exact optimal strategies' \
+    'path: print the pivots of solve' \
+    'play: print strategies after turns of fictitious play' \
+    'evaluate: check a strategy, and print its value and gaps' \
+    'query: print how a player acts' \
+    'judge: print value and gaps over any classes' \
+    'duel: play two strategies against each other' \
+    'certify: print a strategy and a certificate' \
+    'verify: check a strategy and a certificate' \
+    'upgrade: print a strategy in version 2' \
+    'make: print the game file of a well-known game'
+set -l all (string split -f 1 : -- $commands)
 set -l first "not __fish_seen_subcommand_from $all"
 
 # Whether an option, named first, stands not yet with one of the commands behind it, or just now and lacks its value.
@@ -15,19 +31,9 @@ function __gameshrink_takes
 end
 
 complete -c gameshrink -f
-complete -c gameshrink -n $first -a shrink -d 'print the signal classes of a game'
-complete -c gameshrink -n $first -a check -d 'print lossless classes'
-complete -c gameshrink -n $first -a solve -d 'print exact optimal strategies'
-complete -c gameshrink -n $first -a path -d 'print the pivots of solve'
-complete -c gameshrink -n $first -a play -d 'print strategies after turns of fictitious play'
-complete -c gameshrink -n $first -a evaluate -d 'check a strategy, and print its value and gaps'
-complete -c gameshrink -n $first -a query -d 'print how a player acts'
-complete -c gameshrink -n $first -a judge -d 'print value and gaps over any classes'
-complete -c gameshrink -n $first -a duel -d 'play two strategies against each other'
-complete -c gameshrink -n $first -a certify -d 'print a strategy and a certificate'
-complete -c gameshrink -n $first -a verify -d 'check a strategy and a certificate'
-complete -c gameshrink -n $first -a upgrade -d 'print a strategy in version 2'
-complete -c gameshrink -n $first -a make -d 'print the game file of a well-known game'
+for command in $commands
+    complete -c gameshrink -n $first -a (string split -f 1 : -- $command) -d (string split -m 1 -f 2 ': ' -- $command)
+end
 
 complete -c gameshrink -n '__gameshrink_takes classes check solve path play' -l classes -x -a 'ogi split raw' -d 'which classes'
 complete -c gameshrink -n '__gameshrink_takes summary shrink check make' -l summary -d 'print counts alone'

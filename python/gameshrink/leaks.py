@@ -16,11 +16,11 @@ from fractions import Fraction
 from functools import cached_property, lru_cache
 from math import gcd, lcm
 from operator import itemgetter, mul, sub
-from typing import Any, NamedTuple, Protocol
+from typing import Any, NamedTuple
 
 from .game import End, Game, Point, Signal, Step
 from .layout import LARGEST_TOTAL, Layout
-from .strategy import Plan, Strategy, shares_of
+from .strategy import Plan, Reaches, Strategy, shares_of
 
 Vector = list[int]  # a whole number for each raw signal of a round
 Moved = Mapping[tuple[int, int], Mapping[int, int]]  # by point and move, and then by raw signal, what is added to a weight
@@ -94,23 +94,12 @@ def meetings(stated: str) -> Meetings:
 # ---- plans hand by hand
 
 
-class Reaches(Protocol):
-    """A player's plan, as far as this module looks at it."""
-
-    game: Game
-    player: int
-    total: int
-
-    def reach(self, step: Step, at: int) -> Vector:
-        """Returns for each raw signal of a round the weight of the player's last move before, `step`."""
-
-
-class HandPlan:
+class HandPlan(Reaches):
     """A plan hand by hand: for each own move the weight that comes to it, by raw signal. It knows no classes, and its total has no bound."""
 
     def __init__(self, game: Game, player: int, total: int, made: dict[tuple[int, int], Vector]):
-        self.game, self.player, self.total, self.made = game, player, total, made
-        self._reached: dict[tuple[Step, int], Vector] = {}
+        super().__init__(game, player, total)
+        self.made = made
 
     @classmethod
     def of(cls, plan: Plan, least: int = 1) -> HandPlan:
@@ -122,18 +111,9 @@ class HandPlan:
                 made[point.number, choice] = [times * weight for weight in plan.reach((point.number, choice), point.round)]
         return cls(plan.game, plan.player, times * plan.total, made)
 
-    def reach(self, step: Step, at: int) -> Vector:
-        """Returns for each raw signal of a round the weight of the player's last move before, `step`."""
-        if (step, at) not in self._reached:
-            if step is None:
-                found = [self.total] * len(self.game.signals[at])
-            elif self.game.points[step[0]].round < at:
-                above = self.reach(step, at - 1)
-                found = [above[parent] for parent in self.game.parents[at]]
-            else:
-                found = self.made[step]
-            self._reached[step, at] = found
-        return self._reached[step, at]
+    def made_by(self, point: int, choice: int) -> Vector:
+        """Returns the weight of an own move for each raw signal of its round."""
+        return self.made[point, choice]
 
     def comes(self, point: Point) -> Vector:
         """Returns for each raw signal what comes to an own point."""

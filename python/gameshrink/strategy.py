@@ -25,22 +25,16 @@ Shares = Mapping[str, Share] | Sequence[Share]
 Chooses = Callable[[int, str, str, str], Shares]  # player, line, hand and moves to the shares of the moves
 
 
-class Plan:
-    """A player's plan: whole weights out of a total, slot by slot, over classes.
+class Reaches:
+    """A player's plan by raw signals: with what weight the player's own moves come to each."""
 
-    >>> plan = solve(Game.kuhn()).plans[2]
-    >>> plan.game.points[1].line, plan.total, plan.weights_at(1, 1)
-    ('/k', 3, [2, 1])
-    """
-
-    def __init__(self, layout: Layout, player: int, weights: list[int]):
-        self.layout, self.player, self.weights = layout, player, weights
-        self.game, self.total = layout.game, weights[0]
+    def __init__(self, game: Game, player: int, total: int):
+        self.game, self.player, self.total = game, player, total
         self._reached: dict[tuple[Step, int], list[int]] = {}
 
-    def weights_at(self, number: int, of: int) -> list[int]:
-        """Returns the weights of the moves at an information set."""
-        return [self.weights[slot] for slot in self.layout.moves_at(self.player, number, of)]
+    def made_by(self, point: int, choice: int) -> list[int]:
+        """Returns the weight of an own move for each raw signal of its round."""
+        raise NotImplementedError
 
     def reach(self, step: Step, at: int) -> list[int]:
         """Returns for each raw signal of a round the weight of the player's last move before, `step`."""
@@ -51,10 +45,32 @@ class Plan:
                 above = self.reach(step, at - 1)
                 found = [above[parent] for parent in self.game.parents[at]]
             else:
-                of_class = {of: self.weights[self.layout.slots[self.player][(step[0], of, step[1])]] for of in self.layout.members[at]}
-                found = [of_class[of] for of in self.layout.classes[at]]
+                found = self.made_by(*step)
             self._reached[step, at] = found
         return self._reached[step, at]
+
+
+class Plan(Reaches):
+    """A player's plan: whole weights out of a total, slot by slot, over classes.
+
+    >>> plan = solve(Game.kuhn()).plans[2]
+    >>> plan.game.points[1].line, plan.total, plan.weights_at(1, 1)
+    ('/k', 3, [2, 1])
+    """
+
+    def __init__(self, layout: Layout, player: int, weights: list[int]):
+        super().__init__(layout.game, player, weights[0])
+        self.layout, self.weights = layout, weights
+
+    def weights_at(self, number: int, of: int) -> list[int]:
+        """Returns the weights of the moves at an information set."""
+        return [self.weights[slot] for slot in self.layout.moves_at(self.player, number, of)]
+
+    def made_by(self, point: int, choice: int) -> list[int]:
+        """Returns the weight of an own move for each raw signal of its round."""
+        at = self.game.points[point].round
+        of_class = {of: self.weights[self.layout.slots[self.player][(point, of, choice)]] for of in self.layout.members[at]}
+        return [of_class[of] for of in self.layout.classes[at]]
 
     def over(self, layout: Layout) -> Plan:
         """Returns the same plan over classes that are at least as fine."""

@@ -39,67 +39,29 @@ LOOSE = kuhn_file(*WORKED[0])
 # Neither player tells a jack from a queen.
 BLIND = kuhn_file(*WORKED[2])
 
-COPIES = """version = 2
-ranks = "23"
-suits = "sh"
-copies = "2111"
-ranking = "three"
-bonus = [1, 3, 1, 1, 1, 2]
-ante = 1
 
-[[round]]
-private = 1
-public = 0
-bet = 1
-cap = 1
+def game_file(head, *rounds):
+    """Returns a game file: its head, and for each round how many private and public cards it deals, and its betting."""
+    return "version = 2\n" + head + "".join("\n[[round]]\nprivate = %d\npublic = %d\n%s\n" % row for row in rounds)
 
-[[round]]
-private = 1
-public = 1
-bet = 1
-cap = 1
-"""
-TREES = """version = 2
-ranks = "234"
-suits = "sh"
-ranking = "three"
-bonus = [1, 2, 3, 1, 1, 5]
-ante = 2
 
-[[round]]
-private = 1
-public = 1
-tree = "2[a1:1[x:!,y1:=],z:=]"
-
-[[round]]
-private = 1
-public = 0
-bet = 1
-cap = 1
-"""
-EMPTY = """version = 2
-ranks = "234"
-suits = "sh"
-ranking = "pair"
-bonus = [1, 2]
-ante = 1
-
-[[round]]
-private = 1
-public = 0
-tree = "="
-
-[[round]]
-private = 0
-public = 1
-bet = 1
-cap = 2
-
-[[round]]
-private = 0
-public = 0
-tree = "="
-"""
+LIMIT, NOTHING = "bet = 1\ncap = 1", 'tree = "="'
+COPIES = game_file(
+    'ranks = "23"\nsuits = "sh"\ncopies = "2111"\nranking = "three"\nbonus = [1, 3, 1, 1, 1, 2]\nante = 1\n',
+    (1, 0, LIMIT),
+    (1, 1, LIMIT),
+)
+TREES = game_file(
+    'ranks = "234"\nsuits = "sh"\nranking = "three"\nbonus = [1, 2, 3, 1, 1, 5]\nante = 2\n',
+    (1, 1, 'tree = "2[a1:1[x:!,y1:=],z:=]"'),
+    (1, 0, LIMIT),
+)
+EMPTY = game_file(
+    'ranks = "234"\nsuits = "sh"\nranking = "pair"\nbonus = [1, 2]\nante = 1\n',
+    (1, 0, NOTHING),
+    (0, 1, "bet = 1\ncap = 2"),
+    (0, 0, NOTHING),
+)
 GAMES = {
     "kuhn": Game.kuhn(4, 2, 3),
     "leduc": Game.leduc(3, 2, 2),
