@@ -1,6 +1,7 @@
 """The tables, findings and pictures of docs/ABSTRACTION.md, from the CSV files of docs/abstraction.
 
-The document has a pair of lines for each block, `<!-- NAME -->` and `<!-- end -->`; what stands between them is written here, the rest by hand.
+The document has a pair of lines for each block, `<!-- NAME -->` and `<!-- end -->`; what stands between them is written here, the rest by hand. The
+blocks of docs/ATLAS.md about prices have such lines too.
 """
 
 import csv
@@ -58,6 +59,18 @@ def rows_of(name):
         return []
     with open(path, encoding="ascii", newline="") as file:
         return [Row(cells) for cells in csv.DictReader(file)]
+
+
+def atlas_rows(name):
+    """Returns the rows of a CSV file of docs/atlas by game."""
+    with open(ATLAS / name, encoding="ascii", newline="") as file:
+        return {(row["kind"], *(int(row[key]) for key in ("ranks", "suits", "cap"))): row for row in csv.DictReader(file)}
+
+
+def lossy_games():
+    """Returns whether the isomorphism classes are lossy, for each game of the atlas that has a value, without Kuhn's."""
+    rows = {deck: row for deck, row in atlas_rows("games.csv").items() if deck[0] != "kuhn" and row["value"]}
+    return {deck: row["isomorphic_classes"] != row["lossless_classes"] for deck, row in rows.items()}
 
 
 # ---- cells
@@ -221,12 +234,10 @@ def fallen(pairs, seat):
 
 def example_losses():
     """Returns what the plans of docs/atlas/isomorphism.csv secure, for each game and seat."""
-    with open(ATLAS / "isomorphism.csv", encoding="ascii", newline="") as file:
-        rows = list(csv.DictReader(file))
     found = {}
-    for row in rows:
+    for deck, row in atlas_rows("isomorphism.csv").items():
         value, gap1, gap2 = (Fraction(row[key]) for key in ("value", "gap1", "gap2"))
-        found[row["kind"], *(int(row[key]) for key in ("ranks", "suits", "cap"))] = {"1": value - gap2, "2": -value - gap1}
+        found[deck] = {"1": value - gap2, "2": -value - gap1}
     return found
 
 
@@ -272,12 +283,16 @@ def isomorphism_lines(rows):
     kind = ratios(lambda row: sum(lost(row, "kindest", seat) for seat in SEATS) if row["kindest1_at_least"] is not None else None)
     prices = [(row.most("price", seat), row.name, seat) for row in some for seat in SEATS]
     ends, names = [min(prices), max(prices)], ", ".join(row.name for row in free)
+    games, priced = atlas_rows("games.csv"), {row.deck for row in rows}
+    left = [int(games[deck]["sequences1"]) for deck, is_lossy in lossy_games().items() if is_lossy and deck not in priced]
     return [
         "- %d games whose isomorphism classes are lossy have been priced. In %d of them the classes cost nothing: %s." % (len(rows), len(free), names),
         "- In the others a seat pays from %s (%s, seat %s) to %s (%s, seat %s)." % (up(ends[0][0]), *ends[0][1:], up(ends[1][0]), *ends[1][1:]),
         "- The atlas has one equilibrium over these classes for each game. It loses, both seats together, %s to %s times the price (median %s, %d games)."
         % (*example[1:], example[0]),
         "- Even the kindest equilibrium loses %s to %s times the price (median %s, %d games)." % (*kind[1:], kind[0]),
+        "- %d more games of the atlas have lossy isomorphism classes and are not priced. The smallest of them has %s sequences; docs/ATLAS.md names them."
+        % (len(left), number(min(left))),
     ]
 
 
@@ -353,14 +368,24 @@ def lattice_picture(rows):
     draw("leduc_lattice", (1000, 420), script)
 
 
+def block(name, lines):
+    """Returns the lines of a block with its pair of lines."""
+    return ["<!-- %s -->" % name, "", *lines, "", "<!-- end -->"]
+
+
+def fill(document, made):
+    """Writes blocks of a document anew; the rest of it stays."""
+    path = CHECKOUT / "docs" / document
+    text = path.read_text(encoding="ascii")
+    for name, lines in made.items():
+        pattern = r"<!-- %s -->\n.*?<!-- end -->" % re.escape(name)
+        assert re.search(pattern, text, re.S), name
+        text = re.sub(pattern, lambda _, name=name, lines=lines: "\n".join(block(name, lines)), text, count=1, flags=re.S)
+    path.write_text(text, encoding="ascii")
+
+
 def write():
     """Writes the blocks of the document and the pictures."""
-    path = CHECKOUT / "docs" / "ABSTRACTION.md"
-    text = path.read_text(encoding="ascii")
-    for name, lines in blocks().items():
-        pattern = r"(?<=<!-- %s -->\n).*?(?=<!-- end -->)" % re.escape(name)
-        assert re.search(pattern, text, re.S), name
-        text = re.sub(pattern, lambda _, lines=lines: "\n" + "\n".join(lines) + "\n\n", text, count=1, flags=re.S)
-    path.write_text(text, encoding="ascii")
+    fill("ABSTRACTION.md", blocks())
     price_picture(rows_of("prices"))
     lattice_picture(rows_of("lattice"))

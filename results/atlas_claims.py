@@ -140,16 +140,11 @@ def ranks(rows):
         yield text % (len(mixed), len(whole)), "all but %s" % others if others else "Leduc's rows of three or more ranks"
 
 
-def is_lossy(row):
-    """Whether the isomorphism classes of a game are lossy."""
-    return row.record["isomorphic"] != row.record["classes"]
-
-
-def isomorphism(rows):
+def isomorphism():
     """What the isomorphism classes cost, by docs/abstraction, and what the equilibrium of docs/atlas/isomorphism.csv loses."""
-    costs, secured = abstraction_pages.costs(), abstraction_pages.example_losses()
-    alike = [deck for deck in rows if not is_lossy(rows[deck]) and deck in secured]
-    lossy = [deck for deck in rows if is_lossy(rows[deck])]
+    costs, secured, games = abstraction_pages.costs(), abstraction_pages.example_losses(), abstraction_pages.lossy_games()
+    alike = [deck for deck, is_lossy in games.items() if not is_lossy and deck in secured]
+    lossy = [deck for deck, is_lossy in games.items() if is_lossy]
     assert all(-sum(secured[deck].values()) < Fraction(1, 10**9) for deck in alike), "lossless classes lose"
     yield "Isomorphism costs nothing where its classes are lossless: both gaps on raw cards are below 10^-9 in all %d such games." % len(alike), grouped(alike)
     prices = {deck: [costs[deck].row.most("price", seat) for seat in "12"] for deck in lossy if deck in costs}
@@ -181,7 +176,12 @@ def play(cache):
         yield text % (outwards(min(factors), 1)[0], outwards(max(factors), 1)[1]), "%s, up to 1,000,000 turns; [gaps_by_turns.csv](atlas/gaps_by_turns.csv)" % ", ".join(map(named, both))
 
 
+def items(found):
+    """Returns sentences as the lines of a list."""
+    return ["- %s *(%s)*" % sentence for sentence in found]
+
+
 def claims(rows, cache):
     """Returns the lines of the section; `rows` are those of Leduc and Rhode Island."""
-    found = [*favoured(rows), *ranges(rows), *ranks(rows), *suits(rows), *caps(rows), *isomorphism(rows), *play(cache)]
-    return ["- %s *(%s)*" % sentence for sentence in found]
+    before = items([*favoured(rows), *ranges(rows), *ranks(rows), *suits(rows), *caps(rows)])
+    return [*before, "", *abstraction_pages.block("isomorphism", items(isomorphism())), "", *items(play(cache))]

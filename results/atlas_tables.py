@@ -9,7 +9,7 @@ import abstraction_pages
 import atlas_pictures
 import atlas_runs
 import sections
-from atlas_claims import NAMES, claims, grouped, is_lossy
+from atlas_claims import NAMES, claims, grouped, isomorphism, items
 from atlas_games import KUHN, LEDUC, NUMBERS, PLAYED, RANKS, RHODE, name_of, reason
 from gameshrink.program import CHECKOUT
 from gameshrink.texts import decimal, listed, number, outwards, small, table, write_csv
@@ -151,7 +151,7 @@ def title(kind, suits):
     return "%s, %d suit%s" % (NAMES[kind], suits, "s" * (suits > 1))
 
 
-def write_prices():
+def draw_prices():
     """Draws the prices of the isomorphism classes by ranks."""
     costs = abstraction_pages.costs()
     lossy = [("leduc", 2, 2), ("leduc", 4, 2), ("rhode", 4, 1)]
@@ -161,7 +161,7 @@ def write_prices():
 def write_pictures(cache, rows):
     panels = [("leduc", suits) for suits in (1, 2, 4)] + [("rhode", 4)]
     atlas_pictures.values(FOLDER, [(title(*p), [("cap %d" % cap, by_ranks(rows, *p, cap)) for cap in range(1, 5)]) for p in panels])
-    write_prices()
+    draw_prices()
     kinds = [("isomorphic", "by isomorphism"), ("classes", "lossless")]
     columns = [("%s, %s" % (title(*p), text), classes_by_signals(cache, *p, key)) for p in [("leduc", 4), ("rhode", 2), ("rhode", 4)] for key, text in kinds]
     atlas_pictures.classes(FOLDER, columns)
@@ -300,10 +300,16 @@ def stored_lines(rows, sizes):
     ]
 
 
-def cost_lines(rows):
-    """Returns the section on isomorphism, from the CSV files of docs/abstraction and docs/atlas; `rows` are those of Leduc and Rhode Island."""
+def cost_blocks():
+    """Returns the lines of the blocks about prices by their names, from the CSV files of docs/abstraction and docs/atlas."""
     costs = abstraction_pages.costs()
-    missing = [deck for deck in rows if is_lossy(rows[deck]) and deck not in costs]
+    missing = [deck for deck, is_lossy in abstraction_pages.lossy_games().items() if is_lossy and deck not in costs]
+    left = ["", "Not priced: %s." % grouped(missing)] if missing else []
+    return {"isomorphism": items(isomorphism()), "isomorphism table": [*cost_table(costs), *left]}
+
+
+def cost_lines():
+    """Returns the section on isomorphism."""
     return [
         "## What the isomorphism classes cost",
         "",
@@ -313,10 +319,15 @@ def cost_lines(rows):
         "Beside it stands what one equilibrium loses, as an example: the plans of isomorphism.csv, which are optimal where both players see these classes alone. "
         "Other equilibria over the same classes lose more or less, and none loses less than the price. RESULTS.md has the same numbers for three games. `results/abstraction --only isomorphism` makes the prices again.",
         "",
-        *cost_table(costs),
+        *abstraction_pages.block("isomorphism table", cost_blocks()["isomorphism table"]),
         "",
-        *(["Not priced: %s." % grouped(missing), ""] if missing else []),
     ]
+
+
+def write_prices():
+    """Writes what docs/ATLAS.md and docs/atlas say of prices anew; this takes no cache."""
+    abstraction_pages.fill("ATLAS.md", cost_blocks())
+    draw_prices()
 
 
 def write(cache, program):
@@ -331,7 +342,7 @@ def write(cache, program):
     lines = head_lines(rows, kuhn) + ["## What it shows", "", *claims(rows, cache), ""]
     for kind in ("leduc", "rhode"):
         lines += ["## %s" % NAMES[kind], "", *game_table(of_kind(rows, kind)), ""]
-    lines += cost_lines(rows) + picture_lines() + stored_lines({**rows, **kuhn}, sizes)
+    lines += cost_lines() + picture_lines() + stored_lines({**rows, **kuhn}, sizes)
     lines += [sections.parts_of(DOCUMENT.read_text(encoding="ascii"))[1][heading] for heading in KEPT]
     lines += ["## What is not here", "", "Decks without a bracket, by reason. The exact values of Kuhn's decks stand in games.csv and in [RESULTS.md](RESULTS.md).", "", *failed_lines(others + left), ""]
     lines += ["## Runs", "", "The solvers took %.2f processor hours for the games above. Runs of `results/atlas`; the first began with an empty folder, each later one took up what was left:" % seconds_of({**rows, **kuhn}), "", *atlas_runs.lines(cache)]
