@@ -4,13 +4,12 @@ use Rattle.std.proofs.{Common.{Bool, true, false, cond, nat_lt, suc, ◌++◌, �
 use Rattle.std.specs.{Option.{unwrap_or}, HashMap.{HashMap, get}, declared.hash.BuildHasherDefault.{BuildHasherDefault}, declared.hash.FoldHasher.{FoldHasher}}
 use Rattle.std.proofs.lemmas.List.Sorted.{IsPermutation-refl}
 use Rattle.std.specs.{Prelude.{min, ◌&&◌}, List.{enumerate_from}, List.Sorted.{IsPermutation}, Int.{bit_at}}
-use Rattle.gs_game.proofs.Ways.{Single, single_after, ways_one}
 use Rattle.gs_lossless.specs.Alike.{AreAlike, AreStandIns, seen, seen_by}
-use Rattle.gs_model.specs.{Deals.{deal_of, deal_weight, own_ways, path_weight, same_public}, Cards.{left_after, ways}}
+use Rattle.gs_model.specs.{Deals.{deal_of, deal_weight, own_ways, path_weight, same_public}, Cards.{left_after}}
 use Rattle.gs_model.specs.{Game.{Game, round_count}, Outcome.{outcome}}
-use Rattle.gs_model.specs.{Signals.{Signal, edge, left_by, own_cards, public_cards, signal_at, signals}, ViewTree.{signal_outcome, signal_strength}}
+use Rattle.gs_model.specs.{Signals.{Signal, left_by, own_cards, public_cards, signal_at, signals}, ViewTree.{signal_outcome, signal_strength}}
 use Rattle.gs_model.proofs.{Basics.{flat_map-same}, Beside.{length-left_by}, Exchanged.{and_both, cell, map-flat_map}}
-use Rattle.gs_model.proofs.{Facing.{leaves_are_deals, row-of}, Listed.{left_at}, SingleCards.{product-le_one}}
+use Rattle.gs_model.proofs.{Facing.{leaves_are_deals, row-of}, Listed.{left_at}}
 use Rattle.gs_iso.proofs.{Exact.{child_eq, child_exact}, Numbered.{at_new}}
 use Rattle.gs_tree.specs.{Boards.{AreBoards}, Masks.{AreMasks}, Walk.{last_count, shows_same}}
 use Rattle.gs_tree.proofs.{Beside.{left_by_cards, times}, Same.{one_list, public_alike, public_self}, Weighed.{path_one}}
