@@ -1,4 +1,4 @@
-use Rattle.std.proofs.{Common.{ℤ, pos, ◌<ℤ◌, ◌≤ℤ◌, to_z, of_z, w64, subst, ◌∙◌, below_more}}
+use Rattle.std.proofs.Common.{ℤ, pos, ◌<ℤ◌, ◌≤ℤ◌, to_z, of_z, w64, subst, ◌∙◌, below_more}
 use Rattle.gs_simplex.specs.Table.{grid_of}
 use Rattle.gs_simplex.proofs.Fits.{kept_64, lt_true, lt_false}
 use Rattle.gs_simplex.proofs.choice.entering.Goals as goal

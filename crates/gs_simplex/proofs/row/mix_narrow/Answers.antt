@@ -1,5 +1,5 @@
 use Rattle.std.proofs.Common.{◌≡◌, ◌<◌, ◌^◌, length, slice_index, ◌+◌, ◌*◌, ℤ, ◌-ℤ◌, ◌*ℤ◌, unsigned_abs, to_z, of_z, w64, sym, ap, subst, ◌∙◌, arith}
-use Rattle.std.proofs.{lemmas.Int.{to_z-of_z}}
+use Rattle.std.proofs.lemmas.Int.{to_z-of_z}
 use Rattle.gs_simplex.specs.Numbers.{at}
 use Rattle.gs_simplex.proofs.{Fits.{kept_64}, Supports.{columns_changed, still_old, left_more, done_more, all_written}}
 use Rattle.gs_simplex.proofs.row.mix_narrow.Goals as goal

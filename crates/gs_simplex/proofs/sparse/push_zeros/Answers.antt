@@ -1,4 +1,4 @@
-use Rattle.std.proofs.{Common.{arith}}
+use Rattle.std.proofs.Common.{arith}
 use Rattle.gs_simplex.proofs.sparse.push_zeros.Goals as goal
 
 pub returns : goal.returns
