@@ -16,29 +16,27 @@ value_cross n n' d d' w p some one two =
     let b = simp ring at (ap (λ v. d *ℤ v) two) in
     cancel w (n *ℤ d') (n' *ℤ d) some (simp ring (omega (arith, linear, a, b)))
 
+cross : (d d' z w n n' x : ℤ) → pos 0 <ℤ d' → pos 0 <ℤ z → pos 0 <ℤ w → pos 0 ≤ℤ x → d' *ℤ x ≡ (z *ℤ w) *ℤ (n *ℤ d' -ℤ n' *ℤ d)
+    → (n' *ℤ d) ≤ℤ (n *ℤ d')
+cross d d' z w n n' x some sz sw left is =
+    let low : pos 0 ≤ℤ d' = omega (arith, linear) in
+    let times = times_nonneg d' x low left in
+    let gap = cancel_nonneg (z *ℤ w) (n *ℤ d' -ℤ n' *ℤ d) (times_pos z w sz sw) (subst (λ v. pos 0 ≤ℤ v) is times) in
+    omega (arith, linear)
+
 first_cross : (d d' t z w n n' r p : ℤ) → pos 0 <ℤ d' → pos 0 <ℤ z → pos 0 <ℤ w → ((d *ℤ t) *ℤ r) ≤ℤ (z *ℤ (d *ℤ p +ℤ n *ℤ w))
     → (d' *ℤ t) *ℤ r ≡ z *ℤ (d' *ℤ p +ℤ n' *ℤ w) → (n' *ℤ d) ≤ℤ (n *ℤ d')
 first_cross d d' t z w n n' r p some sz sw most reached =
     let x = z *ℤ (d *ℤ p +ℤ n *ℤ w) -ℤ (d *ℤ t) *ℤ r in
-    let left : pos 0 ≤ℤ x = omega (arith, linear) in
-    let low : pos 0 ≤ℤ d' = omega (arith, linear) in
-    let times = times_nonneg d' x low left in
     let same = simp ring at (ap (λ v. d *ℤ v) reached) in
-    let is : d' *ℤ x ≡ (z *ℤ w) *ℤ (n *ℤ d' -ℤ n' *ℤ d) = simp ring (omega (arith, linear, same)) in
-    let gap = cancel_nonneg (z *ℤ w) (n *ℤ d' -ℤ n' *ℤ d) (times_pos z w sz sw) (subst (λ v. pos 0 ≤ℤ v) is times) in
-    omega (arith, linear)
+    cross d d' z w n n' x some sz sw (omega (arith, linear)) (simp ring (omega (arith, linear, same)))
 
 second_cross : (d d' t z w n n' r p : ℤ) → pos 0 <ℤ d' → pos 0 <ℤ z → pos 0 <ℤ w → (z *ℤ (d *ℤ p -ℤ n *ℤ w)) ≤ℤ ((d *ℤ t) *ℤ r)
     → (d' *ℤ t) *ℤ r ≡ z *ℤ (d' *ℤ p -ℤ n' *ℤ w) → (n' *ℤ d) ≤ℤ (n *ℤ d')
 second_cross d d' t z w n n' r p some sz sw least reached =
     let x = (d *ℤ t) *ℤ r -ℤ z *ℤ (d *ℤ p -ℤ n *ℤ w) in
-    let left : pos 0 ≤ℤ x = omega (arith, linear) in
-    let low : pos 0 ≤ℤ d' = omega (arith, linear) in
-    let times = times_nonneg d' x low left in
     let same = simp ring at (ap (λ v. d *ℤ v) reached) in
-    let is : d' *ℤ x ≡ (z *ℤ w) *ℤ (n *ℤ d' -ℤ n' *ℤ d) = simp ring (omega (arith, linear, same)) in
-    let gap = cancel_nonneg (z *ℤ w) (n *ℤ d' -ℤ n' *ℤ d) (times_pos z w sz sw) (subst (λ v. pos 0 ≤ℤ v) is times) in
-    omega (arith, linear)
+    cross d d' z w n n' x some sz sw (omega (arith, linear)) (simp ring (omega (arith, linear, same)))
 
 above : (n : ℕ) → 0 < n → pos 0 <ℤ pos n
 above n l = omega (arith, ints)
