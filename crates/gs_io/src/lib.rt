@@ -29,15 +29,20 @@ fn count_fault(faults: &mut u64) -> Failed
     Failed
 }
 
-/// The reason why a read of all bytes stopped.
+/// What is wrong with a source.
 #[derive(Clone, Copy)]
-pub enum ReadStop {
+pub enum InputFault {
     /// A read failed.
-    Fault,
+    Failed,
     /// There are more bytes than the limit.
     TooLong,
-    /// Memory for the bytes ran out.
+}
+
+/// Why no input is read: memory ran out, or the source has a fault.
+#[derive(Clone, Copy)]
+pub enum InputError {
     Memory,
+    Fault(InputFault),
 }
 
 /// The reason why a write of all bytes stopped.

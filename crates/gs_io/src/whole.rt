@@ -3,7 +3,7 @@
 ghost use Rattle.std.specs.Prelude.{◌<◌, ◌^◌};
 ghost use Rattle.gs_io.specs.Moves.{ReadsAll, WritesAll};
 
-use crate::{ReadStop, Sink, Source, WriteStop};
+use crate::{InputError, InputFault, Sink, Source, WriteStop};
 use std::alloc::Global;
 
 // The most bytes that one read asks for.
@@ -13,9 +13,9 @@ const PIECE: usize = 8192;
 ///
 /// # Errors
 ///
-/// `Fault` if a read fails, `TooLong` if more than `limit` bytes are left, `Memory` if memory runs out. The bytes
+/// `Failed` if a read fails, `TooLong` if more than `limit` bytes are left, `Memory` if memory runs out. The bytes
 /// read so far are dropped. At `TooLong` these are exactly one more than the limit.
-pub fn read_all<S: Source>(alloc: Global, source: &mut S, limit: u64) -> Result<Vec<u8>, ReadStop>
+pub fn read_all<S: Source>(alloc: Global, source: &mut S, limit: u64) -> Result<Vec<u8>, InputError>
     requires { limit < 2 ^ 32 }
     ensures { ReadsAll (λ v. v.items) limit (S.left source.old) (S.left source.new) (S.faults source.old) (S.faults source.new) result }
 {
@@ -29,13 +29,13 @@ pub fn read_all<S: Source>(alloc: Global, source: &mut S, limit: u64) -> Result<
             Ok(0) => return Ok(bytes),
             Ok(count) => {
                 if bytes.extend_from_slice(&into[..count]).is_err() {
-                    return Err(ReadStop::Memory);
+                    return Err(InputError::Memory);
                 }
             }
-            Err(_) => return Err(ReadStop::Fault),
+            Err(_) => return Err(InputError::Fault(InputFault::Failed)),
         }
     }
-    Err(ReadStop::TooLong)
+    Err(InputError::Fault(InputFault::TooLong))
 }
 
 /// Writes all bytes to the sink.

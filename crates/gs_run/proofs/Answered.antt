@@ -2,9 +2,9 @@
 use Rattle.std.proofs.Common.{◌≡◌, ◌⊎◌, inl, inr, ℕ, ◌+◌, ◌<◌, ◌≤◌, ◌++◌, true, false, Bool, List, length, take, Some, None, Option, Ok, Vec, refl, sym, ap, ◌∙◌, subst, arith}
 use Rattle.std.proofs.{Common.{[]}, KnownBytes.{Consumes-nil}, lemmas.Bool.{true≢false}, lemmas.List.{append-nil, length-append}}
 use Rattle.std.specs.{Prelude.{Err, Result, codes}, Io.KnownBytes.{Appends, Consumes, IsAtEnd}, declared.alloc.Global.{Global}}
-use Rattle.gs_io.specs.{declared.ReadStop.{ReadStop}}
-use Rattle.gs_io.specs.declared.ReadStop.TheVariants as read
-use Rattle.gs_io.specs.{Causes.{Rose}, Moves.{WritesAll}, declared.WriteStop.{WriteStop}}
+use Rattle.gs_io.specs.{Causes.{Rose}, Moves.{WritesAll}, declared.InputError.{InputError}, declared.WriteStop.{WriteStop}}
+use Rattle.gs_io.specs.declared.InputError.TheVariants as read
+use Rattle.gs_io.specs.declared.InputFault.TheVariants as source
 use Rattle.gs_io.specs.declared.WriteStop.TheVariants as write
 use Rattle.gs_reply.specs.Refusals.{Refusal, Bad_game, Unlike_pair, Overflows, Many_pivots, Too_large, Bad_strategy, Wrong_number, Bad_query, Other_game}
 use Rattle.gs_reply.specs.{Refusals.{Bad_certificate, line_of}, Replies.{Reply, Prints, Refuses}}
@@ -183,27 +183,27 @@ no_room_for_words words old new s is unread quiet told =
     )
 
 -- where reading the input stops, the task reads it
-stopped : (b : Bool) (old new : Option (List ℕ)) (before now : ℕ) (e : ReadStop) → ReadsInput b old new before now (Err e)
+stopped : (b : Bool) (old new : Option (List ℕ)) (before now : ℕ) (e : InputError) → ReadsInput b old new before now (Err e)
     → (b ≡ true) × ReadsInput true old new before now (Err e)
 stopped true old new before now e h = (refl, h)
 stopped false old new before now e h = absurd h
 
-module _ (words : List (List ℕ)) (task : Task) (old new : Ends) (asked : request_of words ≡ Some task) (r : Result (Vec ℕ Global) ReadStop)
+module _ (words : List (List ℕ)) (task : Task) (old new : Ends) (asked : request_of words ≡ Some task) (r : Result (Vec ℕ Global) InputError)
     (input : ReadsInput (reads task) old.left new.left old.read_faults new.read_faults r) (quiet : Quiet old new) where
-  reads_it : (e : ReadStop) → r ≡ Err e → (reads task ≡ true) × ReadsInput true old.left new.left old.read_faults new.read_faults (Err e)
+  reads_it : (e : InputError) → r ≡ Err e → (reads task ≡ true) × ReadsInput true old.left new.left old.read_faults new.read_faults (Err e)
   reads_it e is = stopped (reads task) old.left new.left old.read_faults new.read_faults e
       (subst (ReadsInput (reads task) old.left new.left old.read_faults new.read_faults) is input)
 
   -- a read failed
-  pub read_fault : (s : Status) → s ≡ status.ReadFault → r ≡ Err read.Fault → TellsLine old new (codes "read fault\n") → RunsTo words old new s
+  pub read_fault : (s : Status) → s ≡ status.ReadFault → r ≡ Err (read.Fault source.Failed) → TellsLine old new (codes "read fault\n") → RunsTo words old new s
   read_fault s is e told =
-      let h = reads_it read.Fault e in
+      let h = reads_it (read.Fault source.Failed) e in
       subst (RunsTo words old new) (sym is) (task, asked, (h.0, (h.1.0, h.1.1), quiet, told))
 
   -- the source holds more than the limit
-  pub too_long : (s : Status) → s ≡ status.TooLong → r ≡ Err read.TooLong → TellsLine old new long_line → RunsTo words old new s
+  pub too_long : (s : Status) → s ≡ status.TooLong → r ≡ Err (read.Fault source.TooLong) → TellsLine old new long_line → RunsTo words old new s
   too_long s is e told =
-      let h = reads_it read.TooLong e in
+      let h = reads_it (read.Fault source.TooLong) e in
       subst (RunsTo words old new) (sym is) (task, asked, (h.0, h.1.0, h.1.1, quiet, told))
 
   -- there was no room for what was read

@@ -1,7 +1,7 @@
 -- What a run does to the source, to stdout and to stderr, for each status.
 use Rattle.std.specs.Prelude.{◌≡◌, ◌⊎◌, ℕ, ◌+◌, ◌<◌, ◌≤◌, List, [], length, take, codes, Bool, true, false, Some, None, Result, Ok, Err}
 use Rattle.std.specs.{declared.option.Option.{Option}, declared.alloc.Global.{Global}, Prelude.{Vec}, Io.KnownBytes.{Consumes, Appends, IsAtEnd}}
-use Rattle.gs_io.specs.{Causes.{Rose}, Moves.{ReadsAll, TookPrefix}, declared.ReadStop.{ReadStop}}
+use Rattle.gs_io.specs.{Causes.{Rose}, Moves.{ReadsAll, TookPrefix}, declared.InputError.{InputError}}
 use Rattle.gs_reply.specs.{Refusals.{Refusal, line_of}, Replies.{Reply, Prints, Refuses}}
 use Rattle.gs_words.specs.{Requests.{request_of}, Tasks.{Task}}
 use Rattle.gs_run.specs.{Asking.{Asks, reads}, Told.{TellsTo}, Statuses.{status_of}, declared.status.Status.{Status}}
@@ -46,7 +46,7 @@ Inputs true old new bytes = ReadsWhole old new bytes
 Inputs false old new bytes = (bytes ≡ []) × Unread old new
 
 -- what reading the input of a task does to the source, for each result
-abbrev pub ReadsInput : Bool → Option (List ℕ) → Option (List ℕ) → ℕ → ℕ → Result (Vec ℕ Global) ReadStop → Type 0
+abbrev pub ReadsInput : Bool → Option (List ℕ) → Option (List ℕ) → ℕ → ℕ → Result (Vec ℕ Global) InputError → Type 0
 ReadsInput true old new before now result = ReadsAll (λ v. v.items) most_bytes old new before now result
 ReadsInput false old new before now (Ok v) = (v.items ≡ []) × (new ≡ old) × (now ≡ before)
 ReadsInput false old new before now (Err e) = ⊥

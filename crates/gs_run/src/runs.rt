@@ -9,7 +9,7 @@ ghost use Rattle.gs_run.specs.declared.status.Status.TheVariants as status;
 
 use crate::asking::{answer, reads_input};
 use crate::status::Status;
-use gs_io::{ReadStop, Sink, Source, read_all, write_all};
+use gs_io::{InputError, InputFault, Sink, Source, read_all, write_all};
 use gs_reply::{Refusal, Stop, refusal_line};
 use gs_words::{Request, WordsStop, read_words};
 use std::alloc::Global;
@@ -57,7 +57,7 @@ pub(crate) fn out_of_memory<E: Sink>(err: &mut E) -> Status
 }
 
 // Returns the input of a request: all bytes of the source, or no bytes for a request that reads none.
-fn input<S: Source>(alloc: Global, source: &mut S, request: Request) -> Result<Vec<u8>, ReadStop>
+fn input<S: Source>(alloc: Global, source: &mut S, request: Request) -> Result<Vec<u8>, InputError>
     ensures { ReadsInput (reads (task_of request.entry)) (S.left source.old) (S.left source.new) (S.faults source.old) (S.faults source.new) result }
 {
     if reads_input(request) {
@@ -124,9 +124,13 @@ fn run_words<S: Source, O: Sink, E: Sink>(
     };
     let bytes = match input(alloc, source, request) {
         Ok(bytes) => bytes,
-        Err(ReadStop::Fault) => return refuse(err, Status::ReadFault, "read fault\n"),
-        Err(ReadStop::TooLong) => return refuse(err, Status::TooLong, LONG_LINE),
-        Err(ReadStop::Memory) => return out_of_memory(err),
+        Err(InputError::Memory) => return out_of_memory(err),
+        Err(InputError::Fault(InputFault::Failed)) => {
+            return refuse(err, Status::ReadFault, "read fault\n");
+        }
+        Err(InputError::Fault(InputFault::TooLong)) => {
+            return refuse(err, Status::TooLong, LONG_LINE);
+        }
     };
     reply(alloc, request, bytes, out, err)
 }

@@ -3,8 +3,8 @@
 ghost use Rattle.std.specs.Prelude.{◌<◌, ◌≤◌, ◌^◌};
 
 use gs_io::{
-    MemSink, MemSource, ReadStop, Source, StdSink, StdSource, SureSource, WriteStop, read_all,
-    write_all,
+    InputError, InputFault, MemSink, MemSource, Source, StdSink, StdSource, SureSource, WriteStop,
+    read_all, write_all,
 };
 use std::alloc::{AllocError, Global};
 use std::io::{self, ErrorKind, Read, Write};
@@ -15,7 +15,7 @@ fn read_twice<S: Source>(
     alloc: Global,
     source: &mut S,
     limit: u64,
-) -> (Result<Vec<u8>, ReadStop>, Result<Vec<u8>, ReadStop>)
+) -> (Result<Vec<u8>, InputError>, Result<Vec<u8>, InputError>)
     requires { limit < 2 ^ 32 }
 {
     let first = read_all(alloc, source, limit);
@@ -23,10 +23,10 @@ fn read_twice<S: Source>(
 }
 
 // Returns whether a result is the expected one.
-fn is_read(answer: &Result<Vec<u8>, ReadStop>, wanted: &Result<&[u8], ReadStop>) -> bool {
+fn is_read(answer: &Result<Vec<u8>, InputError>, wanted: &Result<&[u8], InputFault>) -> bool {
     match (answer, wanted) {
         (Ok(bytes), Ok(text)) => bytes.as_slice() == *text,
-        (Err(stop), Err(other)) => *stop == *other,
+        (Err(InputError::Fault(fault)), Err(other)) => *fault == *other,
         _ => false,
     }
 }
@@ -37,7 +37,7 @@ type ReadRow = (
     u32,
     u32,
     u64,
-    Result<&'static [u8], ReadStop>,
+    Result<&'static [u8], InputFault>,
     &'static [u8],
 );
 
@@ -45,15 +45,15 @@ const READS: &[ReadRow] = &[
     (b"hello", 2, 0, 9, Ok(b"hello"), b""),
     (b"hello", 9, 0, 5, Ok(b"hello"), b""),
     (b"", 1, 0, 0, Ok(b""), b""),
-    (b"hello", 2, 0, 4, Err(ReadStop::TooLong), b""),
-    (b"hello", 9, 0, 2, Err(ReadStop::TooLong), b"lo"),
-    (b"hello", 1, 0, 0, Err(ReadStop::TooLong), b"ello"),
-    (b"hello", 2, 1, 9, Err(ReadStop::Fault), b"hello"),
-    (b"hello", 2, 2, 9, Err(ReadStop::Fault), b"llo"),
-    (b"hello", 2, 4, 9, Err(ReadStop::Fault), b""),
-    (b"hello", 2, 9, 1, Err(ReadStop::TooLong), b"llo"),
+    (b"hello", 2, 0, 4, Err(InputFault::TooLong), b""),
+    (b"hello", 9, 0, 2, Err(InputFault::TooLong), b"lo"),
+    (b"hello", 1, 0, 0, Err(InputFault::TooLong), b"ello"),
+    (b"hello", 2, 1, 9, Err(InputFault::Failed), b"hello"),
+    (b"hello", 2, 2, 9, Err(InputFault::Failed), b"llo"),
+    (b"hello", 2, 4, 9, Err(InputFault::Failed), b""),
+    (b"hello", 2, 9, 1, Err(InputFault::TooLong), b"llo"),
     (b"hello", 2, 6, 9, Ok(b"hello"), b""),
-    (b"", 2, 1, 0, Err(ReadStop::Fault), b""),
+    (b"", 2, 1, 0, Err(InputFault::Failed), b""),
 ];
 
 // Returns whether both results of a source are those of its row.
@@ -196,7 +196,7 @@ impl Write for Script<'_> {
 fn reads_turns(alloc: Global, turns: &[Turn]) -> bool {
     let mut source = StdSource::new(Script { turns });
     let answers = read_twice(alloc, &mut source, 9);
-    is_read(&answers.0, &Err(ReadStop::Fault)) && is_read(&answers.1, &Ok(b"aa"))
+    is_read(&answers.0, &Err(InputFault::Failed)) && is_read(&answers.1, &Ok(b"aa"))
 }
 
 // Returns the results of two writes.
