@@ -7,7 +7,7 @@ ghost use Rattle.gs_model.specs.Outcome.{IsBonus};
 
 use gs_bet::{TreeError, TreeFault, parse_tree};
 use gs_card::{Deck, DeckError, DeckFault, Ranking};
-use gs_game::{Game, Round, ValidGame};
+use gs_game::{Game, GameError, Round, ValidGame};
 use std::alloc::{AllocError, Global};
 
 /// Kuhn's game of three cards.
@@ -36,29 +36,50 @@ pub enum SampleFault {
     Range,
     /// The rules refuse the game.
     Game,
-    Memory,
 }
 
-impl From<AllocError> for SampleFault {
-    fn from(_: AllocError) -> SampleFault {
-        SampleFault::Memory
+/// Why no game is returned: memory ran out, or the line gives none.
+#[derive(Debug, Drop)]
+pub enum SampleError {
+    Memory,
+    Fault(SampleFault),
+}
+
+impl From<AllocError> for SampleError {
+    fn from(_: AllocError) -> SampleError {
+        SampleError::Memory
     }
 }
 
-impl From<DeckError> for SampleFault {
-    fn from(error: DeckError) -> SampleFault {
+impl From<SampleFault> for SampleError {
+    fn from(fault: SampleFault) -> SampleError {
+        SampleError::Fault(fault)
+    }
+}
+
+impl From<DeckError> for SampleError {
+    fn from(error: DeckError) -> SampleError {
         match error {
-            DeckError::Memory => SampleFault::Memory,
-            DeckError::Fault(fault) => SampleFault::Deck(fault),
+            DeckError::Memory => SampleError::Memory,
+            DeckError::Fault(fault) => SampleError::Fault(SampleFault::Deck(fault)),
         }
     }
 }
 
-impl From<TreeError> for SampleFault {
-    fn from(error: TreeError) -> SampleFault {
+impl From<TreeError> for SampleError {
+    fn from(error: TreeError) -> SampleError {
         match error {
-            TreeError::Memory => SampleFault::Memory,
-            TreeError::Fault(fault) => SampleFault::Tree(fault),
+            TreeError::Memory => SampleError::Memory,
+            TreeError::Fault(fault) => SampleError::Fault(SampleFault::Tree(fault)),
+        }
+    }
+}
+
+impl From<GameError> for SampleError {
+    fn from(error: GameError) -> SampleError {
+        match error {
+            GameError::Memory => SampleError::Memory,
+            GameError::Fault(_) => SampleError::Fault(SampleFault::Game),
         }
     }
 }
@@ -79,13 +100,13 @@ fn ranking_in(word: &str) -> Result<Ranking, SampleFault> {
 }
 
 /// Returns the bonus of each category of a ranking from two words: the first for the lowest category, the second for all above it.
-fn bonuses(alloc: Global, ranking: Ranking, words: &str) -> Result<Vec<u8>, SampleFault>
+fn bonuses(alloc: Global, ranking: Ranking, words: &str) -> Result<Vec<u8>, SampleError>
     ensures { IfOk result (λ v. IsBonus (ranking_of ranking) v.items) }
 {
     let (first, second) = words.split_once(' ').ok_or(SampleFault::Line)?;
     let (lowest, above) = (number_in(first)?, number_in(second)?);
     if lowest < 1 || 9 < lowest || above < 1 || 9 < above {
-        return Err(SampleFault::Range);
+        return Err(SampleError::Fault(SampleFault::Range));
     }
     let mut all = vec![in alloc; above; ranking.categories() as usize]?;
     all[0] = lowest;
@@ -93,7 +114,7 @@ fn bonuses(alloc: Global, ranking: Ranking, words: &str) -> Result<Vec<u8>, Samp
 }
 
 /// Returns the round of three words: the number of private cards of each player, the number of public cards, and the betting tree.
-fn round_of(alloc: Global, words: &str) -> Result<Round, SampleFault>
+fn round_of(alloc: Global, words: &str) -> Result<Round, SampleError>
     ensures { IfOk result HasFewCards }
 {
     let (cards, tree) = words.rsplit_once(' ').ok_or(SampleFault::Line)?;
@@ -101,7 +122,7 @@ fn round_of(alloc: Global, words: &str) -> Result<Round, SampleFault>
     let (private, public) = (number_in(first)?, number_in(second)?);
     let tree = parse_tree(alloc, tree_of(tree))?;
     if private > 2 || public > 3 {
-        return Err(SampleFault::Range);
+        return Err(SampleError::Fault(SampleFault::Range));
     }
     Ok(Round {
         private,
@@ -121,7 +142,7 @@ fn push_round(rounds: &mut Vec<Round>, round: Round) -> Result<(), AllocError>
 }
 
 /// Returns the rounds of these parts of a line.
-fn rounds_of(alloc: Global, parts: &[&str]) -> Result<Vec<Round>, SampleFault>
+fn rounds_of(alloc: Global, parts: &[&str]) -> Result<Vec<Round>, SampleError>
     ensures { IfOk result (λ v. All HasFewCards v.items) }
 {
     let mut rounds = Vec::new(alloc);
@@ -137,10 +158,10 @@ fn rounds_of(alloc: Global, parts: &[&str]) -> Result<Vec<Round>, SampleFault>
 /// The parts of a line stand with a comma and a space between two: the ranks, the suits, the ranking, and each round. After the suits may stand the
 /// copies of each card, if they are not all 1. After the ranking may stand the bonus of the lowest category, the bonus of those above it and the ante, if
 /// they are not all 1.
-pub fn game_of(alloc: Global, line: &str) -> Result<ValidGame, SampleFault> {
+pub fn game_of(alloc: Global, line: &str) -> Result<ValidGame, SampleError> {
     let parts: Vec<&str> = line.split(", ").collect(alloc)?;
     if parts.len() < 3 {
-        return Err(SampleFault::Line);
+        return Err(SampleError::Fault(SampleFault::Line));
     }
     let (suits, copies) = parts[1].split_once(' ').unwrap_or((parts[1], ""));
     let deck = Deck::new(alloc, parts[0], suits, copies)?;
@@ -149,7 +170,7 @@ pub fn game_of(alloc: Global, line: &str) -> Result<ValidGame, SampleFault> {
     let ranking = ranking_in(ranking)?;
     let ante = ante.parse::<u16>().map_err(|_| SampleFault::Line)?;
     if ante < 1 || 4096 < ante {
-        return Err(SampleFault::Range);
+        return Err(SampleError::Fault(SampleFault::Range));
     }
     let game = Game {
         deck,
@@ -158,5 +179,5 @@ pub fn game_of(alloc: Global, line: &str) -> Result<ValidGame, SampleFault> {
         ante,
         rounds: rounds_of(alloc, &parts[3..])?,
     };
-    game.check(alloc).map_err(|_| SampleFault::Game)
+    Ok(game.check(alloc)?)
 }

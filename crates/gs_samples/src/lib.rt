@@ -10,6 +10,6 @@ mod numbers;
 mod rows;
 
 pub use classes::{classes_of, signal_text};
-pub use games::{KUHN, SampleFault, game_of};
+pub use games::{KUHN, SampleError, SampleFault, game_of};
 pub use numbers::numbers_in;
 pub use rows::{check_row, check_rows};

@@ -1,7 +1,7 @@
 //! Texts of betting trees, read and printed again.
 
 use gs_bet::{parse_tree, tree_text};
-use gs_samples::{SampleFault, check_row};
+use gs_samples::{SampleError, check_row};
 use std::alloc::Global;
 use std::test::Fail;
 
@@ -19,7 +19,7 @@ const TREES: &[&str] = &[
 
 /// Returns a tree's text, read and printed again.
 fn printed(alloc: Global, text: &str) -> Result<String, Fail> {
-    let tree = parse_tree(alloc, text).map_err(SampleFault::from)?;
+    let tree = parse_tree(alloc, text).map_err(SampleError::from)?;
     Ok(tree_text(alloc, &tree)?)
 }
 

@@ -3,7 +3,7 @@
 ghost use Rattle.std.specs.Prelude.{◌≤◌};
 
 use gs_card::{Deck, ways};
-use gs_samples::SampleFault;
+use gs_samples::SampleError;
 use std::alloc::{AllocError, Global};
 use std::process::Abort;
 use std::test::Fail;
@@ -46,7 +46,7 @@ fn texts_of(rt: &impl Abort, alloc: Global, deck: &Deck) -> Result<Vec<u8>, Allo
 
 #[test]
 fn cards_have_texts(rt: HostRuntime) -> Result<(), Fail> {
-    let deck = Deck::new(rt.alloc(), "JQK", "sh", "").map_err(SampleFault::from)?;
+    let deck = Deck::new(rt.alloc(), "JQK", "sh", "").map_err(SampleError::from)?;
     compare_numbers(&rt, &deck);
     let texts = texts_of(&rt, rt.alloc(), &deck)?;
     assert_eq!(rt; texts.as_slice(), b"JsJhQsQhKsKh".as_slice());
@@ -92,7 +92,7 @@ fn compare_groups(
 
 #[test]
 fn groups_stand_in_order(rt: HostRuntime) -> Result<(), Fail> {
-    let deck = Deck::new(rt.alloc(), "JQ", "sh", "3210").map_err(SampleFault::from)?;
+    let deck = Deck::new(rt.alloc(), "JQ", "sh", "3210").map_err(SampleError::from)?;
     compare_groups(&rt, rt.alloc(), &deck, 0, &[1])?;
     compare_groups(&rt, rt.alloc(), &deck, 2, PAIRS)?;
     compare_groups(&rt, rt.alloc(), &deck, 3, TRIPLES)?;

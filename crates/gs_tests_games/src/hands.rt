@@ -2,7 +2,7 @@
 
 use gs_card::{Deck, Ranking};
 use gs_rank::{Ranker, category, outcome, strength};
-use gs_samples::SampleFault;
+use gs_samples::SampleError;
 use std::process::Abort;
 use std::test::Fail;
 
@@ -48,7 +48,7 @@ fn compare(rt: &impl Abort, ranker: &Ranker<'_>) {
 
 #[test]
 fn hands_have_strengths(rt: HostRuntime) -> Result<(), Fail> {
-    let deck = Deck::new(rt.alloc(), "23456789TJQKA", "shdc", "").map_err(SampleFault::from)?;
+    let deck = Deck::new(rt.alloc(), "23456789TJQKA", "shdc", "").map_err(SampleError::from)?;
     let ranker = Ranker::of(rt.alloc(), &deck)?;
     compare(&rt, &ranker);
     Ok(())
