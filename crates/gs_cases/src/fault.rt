@@ -21,7 +21,13 @@ pub enum RowFault {
     Repeat,
     /// The run that makes a text does not end with the status 0.
     Making,
+}
+
+/// Why a line of a file of rows is not read: memory ran out, or it is not a valid row.
+#[derive(Clone, Copy, Drop)]
+pub enum RowError {
     Memory,
+    Fault(RowFault),
 }
 
 impl fmt::Display for RowFault {
@@ -44,14 +50,19 @@ impl fmt::Display for RowFault {
                 "what repeats is not written `COUNT x BYTE`, with the byte in hexadecimal"
             }
             RowFault::Making => "the run that makes a text does not end with the status 0",
-            RowFault::Memory => "out of memory",
         };
         f.write_str(text)
     }
 }
 
-impl<E: Into<AllocError> + Drop> From<E> for RowFault {
-    fn from(_error: E) -> RowFault {
-        RowFault::Memory
+impl From<AllocError> for RowError {
+    fn from(_error: AllocError) -> RowError {
+        RowError::Memory
+    }
+}
+
+impl From<RowFault> for RowError {
+    fn from(fault: RowFault) -> RowError {
+        RowError::Fault(fault)
     }
 }

@@ -1,6 +1,6 @@
 //! How a run differs from its row.
 
-use crate::fault::RowFault;
+use crate::fault::{RowError, RowFault};
 use crate::row::Row;
 use crate::texts::{Texts, text_of};
 use gs_run::Outcome;
@@ -36,7 +36,7 @@ fn written(alloc: Global, bytes: &[u8]) -> Result<String, AllocError> {
 }
 
 /// Returns whether bytes are what a field describes: a text; `@` and the name of an input; or, as `800 bytes ending TEXT`, their number and their end.
-fn is_field(alloc: Global, texts: &Texts, field: &str, bytes: &[u8]) -> Result<bool, RowFault> {
+fn is_field(alloc: Global, texts: &Texts, field: &str, bytes: &[u8]) -> Result<bool, RowError> {
     if let Some(name) = field.strip_prefix("@") {
         return Ok(texts.of(name)? == bytes);
     }
@@ -55,7 +55,7 @@ fn push_output(
     name: &str,
     field: &str,
     bytes: &[u8],
-) -> Result<(), RowFault> {
+) -> Result<(), RowError> {
     if !is_field(alloc, texts, field, bytes)? {
         let found = written(alloc, bytes)?;
         write!(text, "\n  {name} {found}")?;
@@ -69,7 +69,7 @@ pub fn differences(
     texts: &Texts,
     row: &Row<'_>,
     end: &Outcome,
-) -> Result<Found, RowFault> {
+) -> Result<Found, RowError> {
     let mut text = String::new(alloc);
     let status = end.status.code();
     if status != row.status {

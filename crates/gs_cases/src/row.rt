@@ -2,7 +2,7 @@
 
 ghost use Rattle.std.specs.Prelude.{◌≤◌};
 
-use crate::fault::RowFault;
+use crate::fault::{RowError, RowFault};
 use std::alloc::Global;
 
 /// How the source and both outputs of a run behave.
@@ -132,7 +132,7 @@ fn named(rest: &str) -> Result<(&str, &str), RowFault> {
 }
 
 /// Returns what a line holds.
-pub fn line_of(alloc: Global, line: &str) -> Result<Line<'_>, RowFault> {
+pub fn line_of(alloc: Global, line: &str) -> Result<Line<'_>, RowError> {
     if line.trim().is_empty() || line.starts_with('#') {
         return Ok(Line::Remark);
     }

@@ -1,6 +1,6 @@
 //! Runs in memory, and how they differ from their rows.
 
-use crate::fault::RowFault;
+use crate::fault::{RowError, RowFault};
 use crate::report::{Found, differences};
 use crate::row::{Ends, Line, Row, line_of};
 use crate::texts::{Texts, text_of};
@@ -44,7 +44,7 @@ fn ended(alloc: Global, words: &str, input: Vec<u8>, ends: Ends) -> Result<Outco
 }
 
 /// Returns how the run of a row differs from it.
-fn compare_run(alloc: Global, texts: &Texts, row: &Row<'_>) -> Result<Found, RowFault> {
+fn compare_run(alloc: Global, texts: &Texts, row: &Row<'_>) -> Result<Found, RowError> {
     let input = texts.read(alloc, row.input)?;
     let end = ended(alloc, row.words, input, row.ends)?;
     differences(alloc, texts, row, &end)
@@ -57,7 +57,7 @@ fn name_made(
     name: &str,
     words: &str,
     input: &str,
-) -> Result<(), RowFault> {
+) -> Result<(), RowError> {
     let bytes = texts.read(alloc, input)?;
     let words = words_in(alloc, words)?;
     match run_bytes(alloc, &words, &bytes)? {
@@ -66,12 +66,12 @@ fn name_made(
             printed,
             ..
         } => texts.name(alloc, name, printed),
-        _ => Err(RowFault::Making),
+        _ => Err(RowError::Fault(RowFault::Making)),
     }
 }
 
 /// Does what a line says: adds a named text, or compares a run.
-fn done(alloc: Global, texts: &mut Texts, line: &str) -> Result<Found, RowFault> {
+fn done(alloc: Global, texts: &mut Texts, line: &str) -> Result<Found, RowError> {
     let naming = match line_of(alloc, line)? {
         Line::Remark => Ok(()),
         Line::Text { name, text } => texts.name(alloc, name, text_of(alloc, text)?.into_bytes()),
@@ -86,7 +86,7 @@ fn done(alloc: Global, texts: &mut Texts, line: &str) -> Result<Found, RowFault>
 pub fn compare_line(alloc: Global, texts: &mut Texts, line: &str) -> Result<Found, AllocError> {
     match done(alloc, texts, line) {
         Ok(found) => Ok(found),
-        Err(RowFault::Memory) => Err(AllocError),
-        Err(fault) => Ok(Found::Differs(format!(in alloc; "\n  no row: {fault}")?)),
+        Err(RowError::Memory) => Err(AllocError),
+        Err(RowError::Fault(fault)) => Ok(Found::Differs(format!(in alloc; "\n  no row: {fault}")?)),
     }
 }

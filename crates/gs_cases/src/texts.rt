@@ -1,6 +1,6 @@
 //! Texts that runs read and print: their form in rows, and their names.
 
-use crate::fault::RowFault;
+use crate::fault::{RowError, RowFault};
 use std::alloc::{AllocError, Global};
 use std::collections::BTreeMap;
 use std::str;
@@ -18,7 +18,7 @@ pub fn text_of(alloc: Global, written: &str) -> Result<String, AllocError> {
 }
 
 /// Adds the bytes of a part like `200 x 5b`: the number of times, and the byte in hexadecimal.
-fn push_repeated(bytes: &mut Vec<u8>, count: &str, byte: &str) -> Result<(), RowFault> {
+fn push_repeated(bytes: &mut Vec<u8>, count: &str, byte: &str) -> Result<(), RowError> {
     let count = count.trim().parse::<u32>().or(Err(RowFault::Repeat))?;
     let byte = u8::from_str_radix(byte.trim(), 16).or(Err(RowFault::Repeat))?;
     for _ in 0..count {
@@ -28,7 +28,7 @@ fn push_repeated(bytes: &mut Vec<u8>, count: &str, byte: &str) -> Result<(), Row
 }
 
 /// Returns a text in which the first occurrence of a part is replaced.
-fn changed(alloc: Global, file: &str, change: &str) -> Result<String, RowFault> {
+fn changed(alloc: Global, file: &str, change: &str) -> Result<String, RowError> {
     let (old, new) = change.split_once("->").ok_or(RowFault::NoPlace)?;
     let old = text_of(alloc, old)?;
     let new = text_of(alloc, new)?;
@@ -37,7 +37,7 @@ fn changed(alloc: Global, file: &str, change: &str) -> Result<String, RowFault> 
 }
 
 /// Returns a text with several changes made one after the other; ` ; ` stands between two.
-fn changed_by(alloc: Global, file: &[u8], changes: &str) -> Result<String, RowFault> {
+fn changed_by(alloc: Global, file: &[u8], changes: &str) -> Result<String, RowError> {
     let text = str::from_utf8(file).or(Err(RowFault::NoPlace))?;
     let mut text = String::from_str(alloc, text)?;
     for change in changes.split(" ; ") {
@@ -55,9 +55,9 @@ impl Texts {
     }
 
     /// Adds a text under a name that is not empty and not yet taken.
-    pub fn name(&mut self, alloc: Global, name: &str, bytes: Vec<u8>) -> Result<(), RowFault> {
+    pub fn name(&mut self, alloc: Global, name: &str, bytes: Vec<u8>) -> Result<(), RowError> {
         if name.is_empty() || self.named.get(name).is_some() {
-            return Err(RowFault::Naming);
+            return Err(RowError::Fault(RowFault::Naming));
         }
         self.named.insert(String::from_str(alloc, name)?, bytes)?;
         Ok(())
@@ -72,7 +72,7 @@ impl Texts {
     }
 
     /// Adds the prefix that a part like `100 bytes of kuhn` describes.
-    fn push_front(&self, bytes: &mut Vec<u8>, count: &str, name: &str) -> Result<(), RowFault> {
+    fn push_front(&self, bytes: &mut Vec<u8>, count: &str, name: &str) -> Result<(), RowError> {
         let count = count.parse::<usize>().or(Err(RowFault::Short))?;
         let front = self.of(name)?.get(..count).ok_or(RowFault::Short)?;
         bytes.extend_from_slice(front)?;
@@ -80,7 +80,7 @@ impl Texts {
     }
 
     /// Adds one part of an input.
-    fn push_part(&self, alloc: Global, bytes: &mut Vec<u8>, part: &str) -> Result<(), RowFault> {
+    fn push_part(&self, alloc: Global, bytes: &mut Vec<u8>, part: &str) -> Result<(), RowError> {
         if let Some(written) = part.strip_prefix("= ") {
             Ok(bytes.extend_from_slice(text_of(alloc, written)?.as_bytes())?)
         } else if let Some((name, change)) = part.split_once(": ") {
@@ -96,7 +96,7 @@ impl Texts {
     }
 
     /// Returns the input that the parts of a row describe, and an empty one without parts.
-    pub fn read(&self, alloc: Global, parts: &str) -> Result<Vec<u8>, RowFault> {
+    pub fn read(&self, alloc: Global, parts: &str) -> Result<Vec<u8>, RowError> {
         let mut bytes = Vec::new(alloc);
         if parts.trim().is_empty() {
             return Ok(bytes);
