@@ -11,6 +11,20 @@ pub(crate) struct Leaf {
     pub outcome: i8,
 }
 
+/// A child of a signal: the weight of the edge to it, and its number.
+#[derive(Clone, Copy, PartialEq, Eq, Hash)]
+pub(crate) struct Child {
+    pub edge: u64,
+    pub number: u32,
+}
+
+/// The key that decides a signal's class: the class of its parent, and its number.
+#[derive(Clone, Copy, PartialEq, Eq, Hash)]
+pub(crate) struct ClassKey {
+    pub above: u32,
+    pub number: u32,
+}
+
 impl Model for Leaf {
     ghost Value = { ℕ × ℤ };
 
@@ -19,26 +33,12 @@ impl Model for Leaf {
     ghost inverse = { λ p. record { ways = p.0; outcome = p.1 } };
 }
 
-/// A child of a signal: the weight of the edge to it, and its number.
-#[derive(Clone, Copy, PartialEq, Eq, Hash)]
-pub(crate) struct Child {
-    pub edge: u64,
-    pub number: u32,
-}
-
 impl Model for Child {
     ghost Value = { ℕ × ℕ };
 
     ghost view = { λ c. (c.edge, c.number) };
 
     ghost inverse = { λ p. record { edge = p.0; number = p.1 } };
-}
-
-/// The key that decides a signal's class: the class of its parent, and its number.
-#[derive(Clone, Copy, PartialEq, Eq, Hash)]
-pub(crate) struct ClassKey {
-    pub above: u32,
-    pub number: u32,
 }
 
 impl Model for ClassKey {

@@ -36,16 +36,6 @@ pub(crate) fn upgrade_answer<B: AsSlice<u8> + Drop>(
     answer(alloc, &Wanted::Upgrade, bytes)
 }
 
-/// Returns the strategy's text in version 2 and its certificate, if the strategy is confirmed; or the refusal.
-pub(crate) fn certify_answer<B: AsSlice<u8> + Drop>(
-    alloc: Global,
-    bytes: B,
-) -> Result<Vec<u8>, Stop>
-    ensures { Answers (Certifies (B.items bytes)) result }
-{
-    answer(alloc, &Wanted::Certificate, bytes)
-}
-
 /// Returns the mixture of a player at the point and the raw signal that the two texts name, and the player's gap; or the refusal of the file or of the
 /// texts.
 pub(crate) fn query_answer<B: AsSlice<u8> + Drop>(
@@ -65,6 +55,16 @@ pub(crate) fn query_answer<B: AsSlice<u8> + Drop>(
         signal,
     };
     answer(alloc, &Wanted::Mixture(query), bytes)
+}
+
+/// Returns the strategy's text in version 2 and its certificate, if the strategy is confirmed; or the refusal.
+pub(crate) fn certify_answer<B: AsSlice<u8> + Drop>(
+    alloc: Global,
+    bytes: B,
+) -> Result<Vec<u8>, Stop>
+    ensures { Answers (Certifies (B.items bytes)) result }
+{
+    answer(alloc, &Wanted::Certificate, bytes)
 }
 
 /// Returns the value of a strategy's plans and the bounds of its certificate, if the certificate is valid; or the refusal of the strategy or of the
