@@ -87,6 +87,8 @@ pub fn compare_line(alloc: Global, texts: &mut Texts, line: &str) -> Result<Foun
     match done(alloc, texts, line) {
         Ok(found) => Ok(found),
         Err(RowError::Memory) => Err(AllocError),
-        Err(RowError::Fault(fault)) => Ok(Found::Differs(format!(in alloc; "\n  no row: {fault}")?)),
+        Err(RowError::Fault(fault)) => Ok(Found::Differs(format!(in alloc;
+            "\n  no row: {fault}"
+        )?)),
     }
 }

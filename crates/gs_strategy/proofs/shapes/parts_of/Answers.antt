@@ -42,25 +42,58 @@ pub returns-in_err-stated : goal.returns-in_err-stated
 unfolding parts_at
 returns-in_err-stated c =
     exit whole_view (parts_at (view c.args.value.now)) _ _ c.from_residual-in_err-stated.ensures.1
-    (rw (c.in_ok-classes.ensures, c.in_ok-game.ensures, c.in_ok-gap1.ensures, c.in_ok-gap2.ensures, c.in_ok-player1.ensures, c.in_ok-player2.ensures,
-    c.in_err-stated.ensures) refl)
+    (rw (
+      c.in_ok-classes.ensures,
+      c.in_ok-game.ensures,
+      c.in_ok-gap1.ensures,
+      c.in_ok-gap2.ensures,
+      c.in_ok-player1.ensures,
+      c.in_ok-player2.ensures,
+      c.in_err-stated.ensures,
+    ) refl)
 
 pub returns-in_err-kept : goal.returns-in_err-kept
 unfolding parts_at
 returns-in_err-kept c =
     exit whole_view (parts_at (view c.args.value.now)) _ _ c.from_residual-in_err-kept.ensures.1
-    (rw (c.in_ok-classes.ensures, c.in_ok-game.ensures, c.in_ok-gap1.ensures, c.in_ok-gap2.ensures, c.in_ok-player1.ensures, c.in_ok-player2.ensures,
-    c.in_ok-stated.ensures, c.in_err-kept.ensures) refl)
+    (rw (
+      c.in_ok-classes.ensures,
+      c.in_ok-game.ensures,
+      c.in_ok-gap1.ensures,
+      c.in_ok-gap2.ensures,
+      c.in_ok-player1.ensures,
+      c.in_ok-player2.ensures,
+      c.in_ok-stated.ensures,
+      c.in_err-kept.ensures,
+    ) refl)
 
 pub returns-in_err-check_no_other : goal.returns-in_err-check_no_other
 unfolding parts_at
 returns-in_err-check_no_other c =
     exit whole_view (parts_at (view c.args.value.now)) _ _ c.from_residual-in_err-check_no_other.ensures.1
-    (rw (c.in_ok-classes.ensures, c.in_ok-game.ensures, c.in_ok-gap1.ensures, c.in_ok-gap2.ensures, c.in_ok-player1.ensures, c.in_ok-player2.ensures,
-    c.in_ok-stated.ensures, c.in_ok-kept.ensures, c.in_err-check_no_other.ensures) refl)
+    (rw (
+      c.in_ok-classes.ensures,
+      c.in_ok-game.ensures,
+      c.in_ok-gap1.ensures,
+      c.in_ok-gap2.ensures,
+      c.in_ok-player1.ensures,
+      c.in_ok-player2.ensures,
+      c.in_ok-stated.ensures,
+      c.in_ok-kept.ensures,
+      c.in_err-check_no_other.ensures,
+    ) refl)
 
 pub returns : goal.returns
 unfolding parts_at
 returns c =
-    rw (c.in_ok-classes.ensures, c.in_ok-game.ensures, c.in_ok-gap1.ensures, c.in_ok-gap2.ensures, c.in_ok-player1.ensures, c.in_ok-player2.ensures,
-    c.in_ok-stated.ensures, c.in_ok-kept.ensures, c.in_ok-check_no_other.ensures) refl
+    rw (
+      c.in_ok-classes.ensures,
+      c.in_ok-game.ensures,
+      c.in_ok-gap1.ensures,
+      c.in_ok-gap2.ensures,
+      c.in_ok-player1.ensures,
+      c.in_ok-player2.ensures,
+      c.in_ok-stated.ensures,
+      c.in_ok-kept.ensures,
+      c.in_ok-check_no_other.ensures,
+    ) refl
