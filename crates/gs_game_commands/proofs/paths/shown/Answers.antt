@@ -17,10 +17,11 @@ returns-in-Ok-path c = record {
 
 pub unended-requires : goal.unended-requires
 unended-requires c =
-    let form = c.args.form.now in let e = c.in-Err-path-Fault in
-    path_stops (abstract_frame form) (lists_of form) (form_is form) c.in-Ok.made.0 c.in-Ok.made.1.items c.in-Ok.ensures.path c.in-Ok.ensures.small e.fault
+    let form = c.args.form.now in let e = c.in-Err-Fault in
+    rw e.field-0-is
+    (path_stops (abstract_frame form) (lists_of form) (form_is form) c.in-Ok.made.0 c.in-Ok.made.1.items c.in-Ok.ensures.path c.in-Ok.ensures.small e.fault
     (subst (λ (o : Listing). IsPathFault c.in-Ok.made.0 o most_pivots e.fault) c.deref.ensures.value
-    (subst (λ x. IsPathError c.in-Ok.made.0 c.deref.result.now most_pivots x) e.field-0-is e.ensures))
+    (subst (λ x. IsPathError c.in-Ok.made.0 c.deref.result.now most_pivots x) e.field-0-is e.ensures)))
 
 pub path-requires : goal.path-requires
 path-requires c = record {
