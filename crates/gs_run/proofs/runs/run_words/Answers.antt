@@ -28,7 +28,8 @@ returns-in-Err-Fault-Failed g c =
     (g.O.Sink.faults c.args.out.now) (g.E.Sink.given last.new.err) (g.E.Sink.faults last.new.err) in
     let asked : request_of words ≡ Some task = search rules in
     let at = c.in-Err-Fault-Failed in
-    let stop = at.is ∙ ap (λ e. Err e) (at.field-0-is ∙ ap (λ e. read.Fault e) at.field-0-0-is) in
+    let fault = rw at.field-0-is at at.field-0-0-is in
+    let stop = at.is ∙ ap (λ e. Err e) (at.field-0-is ∙ ap (λ e. read.Fault e) fault) in
     read_fault words task old new asked c.input.result c.input.ensures (refl, refl) last.result last.ensures.status stop last.ensures.told
 
 pub returns-in-Err-Fault-TooLong : goal.returns-in-Err-Fault-TooLong
@@ -42,7 +43,8 @@ returns-in-Err-Fault-TooLong g c =
     (g.O.Sink.faults c.args.out.now) (g.E.Sink.given last.new.err) (g.E.Sink.faults last.new.err) in
     let asked : request_of words ≡ Some task = search rules in
     let at = c.in-Err-Fault-TooLong in
-    let stop = at.is ∙ ap (λ e. Err e) (at.field-0-is ∙ ap (λ e. read.Fault e) at.field-0-0-is) in
+    let fault = rw at.field-0-is at at.field-0-0-is in
+    let stop = at.is ∙ ap (λ e. Err e) (at.field-0-is ∙ ap (λ e. read.Fault e) fault) in
     too_long words task old new asked c.input.result c.input.ensures (refl, refl) last.result last.ensures.status stop last.ensures.told
 
 pub returns-in-Err-Memory-input : goal.returns-in-Err-Memory-input
