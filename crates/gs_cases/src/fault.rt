@@ -55,8 +55,8 @@ impl fmt::Display for RowFault {
     }
 }
 
-impl From<AllocError> for RowError {
-    fn from(_error: AllocError) -> RowError {
+impl<E: Into<AllocError> + Drop> From<E> for RowError {
+    fn from(_error: E) -> RowError {
         RowError::Memory
     }
 }
