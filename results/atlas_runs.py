@@ -40,7 +40,7 @@ def note(asked, begun, counts, is_whole):
     if not asked.confirm:
         record |= {"limit": asked.seconds, "solvers": [solvers.floating_name(), solvers.exact_name()]}
         record |= {"hours": asked.hours} if asked.hours else {}
-    record |= {"program": checksum(Program(asked.program)), "built": asked.built, "kit": kit(), "machine": machine()}
+    record |= {"program": checksum(Program(asked.program)), "identity": Program(asked.program).identity, "kit": kit(), "machine": machine()}
     with open(os.path.join(asked.cache, "runs.jsonl"), "a", encoding="ascii") as file:
         file.write(json.dumps(record) + "\n")
 
@@ -72,7 +72,7 @@ def what_text(run):
 
 def distinct(runs, key):
     """Returns the different texts of a key in order of first occurrence."""
-    return list(dict.fromkeys(run[key] for run in runs if run[key]))
+    return list(dict.fromkeys(run[key] for run in runs if run.get(key)))
 
 
 def lines(cache):
@@ -84,9 +84,9 @@ def lines(cache):
         rows.append("| %s | %s | %s | %d | `%s` | %s |" % (*times, run["processes"], run["program"][:16], what_text(run)))
     made = [run for run in runs if run["run"] == "worked"]
     machines, kits = (distinct(made, key) for key in ("machine", "kit"))
-    built = list(dict.fromkeys("`%s` is of %s" % (run["program"][:16], run["built"]) for run in runs if run["built"]))
+    identities = distinct(runs, "identity")
     facts = ["Machine: %s." % "; ".join(machines)] if machines else []
     facts += ["Solvers: %s." % " and ".join(dict.fromkeys(name for run in made for name in run["solvers"]))] if made else []
     facts += ["Kit: %s." % "; ".join("`%s`" % one for one in kits)] if kits else []
-    facts += ["Program: %s." % "; ".join(built)] if built else []
+    facts += ["Program: %s." % "; ".join(identities)] if identities else []
     return rows + ["", " ".join(facts)]

@@ -3,15 +3,12 @@
 A run costs about half a millisecond beside the program's own time: the three ends are files in memory, and `posix_spawn` starts the program.
 """
 
-import hashlib
 import os
 import re
 import signal
 from importlib.machinery import SourceFileLoader
 from importlib.util import module_from_spec, spec_from_loader
 from typing import NamedTuple
-
-from gameshrink.program import CHECKOUT
 
 # the statuses that a command may end with, beside 0, and 2 for its words
 KNOWN = {
@@ -53,19 +50,6 @@ class Ended(NamedTuple):
     err: bytes
     seconds: float
     memory: int
-
-
-def told_of(program):
-    """Returns what names a program in the documents: its checksum, and the version and commit if it is the shipped one (dist/record)."""
-    with open(program, "rb") as file:
-        checksum = hashlib.sha256(file.read()).hexdigest()
-    record = {}
-    path = CHECKOUT / "dist" / "record"
-    if path.exists():
-        record = dict(line.split(maxsplit=1) for line in path.read_text(encoding="utf-8").splitlines() if " " in line)
-    if record.get("program", "").split()[:1] != [checksum]:
-        return f"SHA-256 `{checksum[:16]}`"
-    return f"version {record['version']}, commit `{record['commit'][:8]}`, SHA-256 `{checksum[:16]}`"
 
 
 def module_at(path):

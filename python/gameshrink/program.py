@@ -2,6 +2,7 @@
 
 from __future__ import annotations
 
+import hashlib
 import os
 import shutil
 import subprocess
@@ -101,6 +102,16 @@ class Program:
             return self.path
         self.ended("")  # the launcher makes the program first, where it has to
         return str(folder / "crates" / "shrink_cli" / "out" / "shrink_cli")
+
+    @property
+    def identity(self) -> str:
+        """What names the program in a document: its checksum, and the version and commit where it is the one that the checkout ships."""
+        checksum = hashlib.sha256(Path(self.binary).read_bytes()).hexdigest()
+        path = CHECKOUT / "dist" / "record"
+        lines = path.read_text(encoding="utf-8").splitlines() if path.exists() else []
+        record = {name: text for name, _, text in (line.partition(" ") for line in lines)}
+        shipped = "version %s, commit `%s`, " % (record["version"], record["commit"][:8]) if record.get("program") == checksum else ""
+        return "%sSHA-256 `%s`" % (shipped, checksum[:16])
 
     def ended(
         self,
