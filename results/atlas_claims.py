@@ -146,11 +146,11 @@ def isomorphism():
     alike = [deck for deck, is_lossy in games.items() if not is_lossy and deck in secured]
     lossy = [deck for deck, is_lossy in games.items() if is_lossy]
     assert all(-sum(secured[deck].values()) < Fraction(1, 10**9) for deck in alike), "lossless classes lose"
-    yield "Isomorphism costs nothing where its classes are lossless: both gaps on raw cards are below 10^-9 in all %d such games." % len(alike), grouped(alike)
+    yield "Isomorphism costs nothing where its classes are lossless: both gaps on raw cards are below 10^-9 in the %d such games of isomorphism.csv." % len(alike), grouped(alike)
     prices = {deck: [costs[deck].row.most("price", seat) for seat in "12"] for deck in lossy if deck in costs}
     free = [deck for deck in prices if max(prices[deck]) < abstraction_pages.NOTHING]
     cost = [deck for deck in prices if deck not in free]
-    yield "In the other %d games the classes are lossy. In %d of these they cost neither seat anything all the same." % (len(lossy), len(free)), "%s; [ABSTRACTION.md](ABSTRACTION.md) has plans with gaps of 0" % grouped(free)
+    yield "In %d games the classes are lossy. In %d of these they cost neither seat anything all the same." % (len(lossy), len(free)), "%s; [ABSTRACTION.md](ABSTRACTION.md) has plans with gaps of 0" % grouped(free)
     least, most = min(cost, key=lambda deck: min(prices[deck])), max(cost, key=lambda deck: max(prices[deck]))
     text = "In the other %d that are priced a seat pays from %s to %s chips a deal, rounded outwards."
     yield text % (len(cost), outwards(min(prices[least]), 4)[0], outwards(max(prices[most]), 4)[1]), "%s has the least, %s the most" % (named(least), named(most))

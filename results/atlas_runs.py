@@ -9,14 +9,7 @@ import time
 
 from atlas_games import checksum
 from gameshrink import Program, solvers
-
-
-def machine():
-    """Returns the machine's processors, memory and system in one line."""
-    with open("/proc/cpuinfo", encoding="utf-8") as file:
-        model = next((line.split(":", 1)[1].strip() for line in file if line.startswith("model name")), "unknown processor")
-    memory = os.sysconf("SC_PAGE_SIZE") * os.sysconf("SC_PHYS_PAGES") / 2**30
-    return "%d processors %s, %d GiB, Linux %s" % (os.cpu_count(), model, memory, os.uname().release)
+from gameshrink.program import machine
 
 
 def kit():

@@ -250,7 +250,7 @@ def head_lines(rows, kuhn):
         "`python/gameshrink-tools recheck` computes value and gaps a second time, without the program.",
         "",
         "**Columns.** Classes are the coarsest lossless ones, round by round. Sequences include the empty one; one number stands for both players. Bounds are rounded outwards and gaps up. "
-        "\"agreed\" is the value with as many digits, 12 at most, as both bounds have when they are rounded to the nearest. Exact values of more than 40 characters stand in the CSV alone. "
+        "\"agreed\" is the value with as many digits, 12 at most, as both bounds have when they are rounded to the nearest. Exact values of more than 40 characters stand in the CSV alone; of one of more than 1,500 the CSV has the length, under `note`. "
         "Seconds are processor seconds of Clp and of QSopt_ex on the machine that [Runs](#runs) names.",
         "",
         "**CSV.** [games.csv](atlas/games.csv) has every game with its numbers as fractions, what `solve` finds, and the checksum of its strategy; its bounds are decimals rounded outwards. "

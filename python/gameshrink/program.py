@@ -16,6 +16,18 @@ from .texts import fraction_text
 CHECKOUT = Path(__file__).resolve().parents[2]  # of the project, where the package was not installed
 
 
+def machine() -> str:
+    """Returns the processors, memory and system of this machine in one line, for a document with figures of time.
+
+    >>> " GiB, Linux " in machine()
+    True
+    """
+    lines = Path("/proc/cpuinfo").read_text(encoding="utf-8").splitlines()
+    model = next((line.split(":", 1)[1].strip() for line in lines if line.startswith("model name")), "unknown processor")
+    memory = os.sysconf("SC_PAGE_SIZE") * os.sysconf("SC_PHYS_PAGES") / 2**30
+    return "%d processors %s, %d GiB, Linux %s" % (os.cpu_count() or 1, model, memory, os.uname().release)
+
+
 class Refused(Exception):
     """A refusal by the program: its status and its line, as docs/FORMATS.md lists them.
 
